@@ -1,0 +1,17 @@
+use mathlib.Core.Path.{_∙_, ap}
+use Rattle.basicthresholder.specs.Updates.{updated}
+use borrow.Author.Needs.{needs}
+use Rattle.basicthresholder.proofs.BasicThresholder.update_both.Statement.{statement}
+use Rattle.basicthresholder.proofs.BasicThresholder.update_both.Tie as tie
+
+both-counted-requires : tie.Need-both-counted-requires
+both-counted-requires c κs = search needs
+
+updated-requires : tie.Need-updated-requires
+updated-requires c κs = search needs
+
+returns : tie.Need-returns
+returns c = c .updated .ensures ∙ ap (updated (c .before .before .args .self)) (c .before .both-counted .ensures)
+
+pub update-both-spec : {M : Type 1} → statement M
+update-both-spec = tie.close (tie.spec both-counted-requires updated-requires returns)

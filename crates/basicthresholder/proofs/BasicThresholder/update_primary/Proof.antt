@@ -1,0 +1,17 @@
+use mathlib.Core.Path.{_∙_, ap}
+use Rattle.basicthresholder.specs.Updates.{updated}
+use borrow.Author.Needs.{needs}
+use Rattle.basicthresholder.proofs.BasicThresholder.update_primary.Statement.{statement}
+use Rattle.basicthresholder.proofs.BasicThresholder.update_primary.Tie as tie
+
+primary-counted-requires : tie.Need-primary-counted-requires
+primary-counted-requires c κs = search needs
+
+updated-requires : tie.Need-updated-requires
+updated-requires c κs = search needs
+
+returns : tie.Need-returns
+returns c = c .updated .ensures ∙ ap (updated (c .before .before .args .self)) (c .before .primary-counted .ensures)
+
+pub update-primary-spec : {M : Type 1} → statement M
+update-primary-spec = tie.close (tie.spec primary-counted-requires updated-requires returns)

@@ -1,0 +1,17 @@
+use mathlib.Core.Path.{_∙_, ap}
+use Rattle.basicthresholder.specs.Updates.{updated}
+use borrow.Author.Needs.{needs}
+use Rattle.basicthresholder.proofs.BasicThresholder.update_threshold.Statement.{statement}
+use Rattle.basicthresholder.proofs.BasicThresholder.update_threshold.Tie as tie
+
+threshold-counted-requires : tie.Need-threshold-counted-requires
+threshold-counted-requires c κs = search needs
+
+updated-requires : tie.Need-updated-requires
+updated-requires c κs = search needs
+
+returns : tie.Need-returns
+returns c = c .updated .ensures ∙ ap (updated (c .before .before .args .self)) (c .before .threshold-counted .ensures)
+
+pub update-threshold-spec : {M : Type 1} → statement M
+update-threshold-spec = tie.close (tie.spec threshold-counted-requires updated-requires returns)

@@ -1,0 +1,620 @@
+// basicthresholder.rs: turns the statistics of past scores into a threshold, and a score into a grade. `&mut self` becomes the
+// state in and the state out; each statistic's root is computed at most once in a call.
+use deviation::Deviation;
+use ieee::narrow;
+use types::Answer;
+use types::Refusal;
+use types::TransformMethod;
+use util::maxf32;
+use util::minf32;
+ghost use mathlib.Core.Path.{_≡_};
+ghost use mathlib.Core.Bool.{false};
+ghost use Rattle.ieee.specs.Round as Round;
+ghost use Rattle.deviation.specs.Statistics.{mean, deviation};
+ghost use Rattle.basicthresholder.specs.Grades as Grades;
+ghost use Rattle.basicthresholder.specs.Updates as Updates;
+
+const DEFAULT_ELASTICITY: f32 = 0.01;
+
+const DEFAULT_SCORE_DIFFERENCING: f32 = 0.5;
+
+const MINIMUM_SCORES: i32 = 10;
+
+const DEFAULT_ABSOLUTE_THRESHOLD: f32 = 0.8;
+
+const DEFAULT_ABSOLUTE_SCORE_FRACTION: f32 = 0.5;
+
+const DEFAULT_LOWER_THRESHOLD: f32 = 1.0;
+
+const DEFAULT_INITIAL_THRESHOLD: f32 = 1.5;
+
+const DEFAULT_Z_FACTOR: f32 = 3.0;
+
+const MINIMUM_Z_FACTOR: f32 = 2.0;
+
+const DEFAULT_FACTOR_ADJUSTMENT_THRESHOLD: f32 = 0.9;
+
+const ROOT_OF_TWO: f64 = 1.4142135623730951;
+
+pub struct BasicThresholder {
+    pub elasticity: f32,
+    pub count: i32,
+    pub score_differencing: f32,
+    pub last_score: f32,
+    pub primary_deviation: Deviation,
+    pub secondary_deviation: Deviation,
+    pub threshold_deviation: Deviation,
+    pub auto_threshold: bool,
+    pub absolute_threshold: f32,
+    pub absolute_score_fraction: f32,
+    pub lower_threshold: f32,
+    pub factor_adjustment_threshold: f32,
+    pub initial_threshold: f32,
+    pub z_factor: f32,
+}
+
+pub enum Made {
+    Ready(BasicThresholder),
+    Refused(Refusal),
+}
+
+// The Rust's pair (threshold, grade).
+pub struct Graded {
+    pub threshold: f32,
+    pub grade: f32,
+}
+
+pub struct Updated {
+    pub answer: Answer,
+    pub thresholder: BasicThresholder,
+}
+
+fn counts_ready(count: i32, differencing: f32, primary_count: i32) -> bool
+    ensures { λ r. ⌜ r ≡ Grades.countsReady count differencing «primary_count» ⌝ }
+{
+    if count < MINIMUM_SCORES {
+        return false;
+    }
+    if differencing != 0.0 {
+        return MINIMUM_SCORES <= primary_count;
+    }
+    true
+}
+
+fn intermediate_fraction(count: i32) -> f32
+    ensures { λ r. ⌜ r ≡ Grades.intermediateFraction count ⌝ }
+{
+    if count < MINIMUM_SCORES {
+        return 0.0;
+    }
+    if 2 * MINIMUM_SCORES < count {
+        return 1.0;
+    }
+    std::num::nearest_i32_to_f32(count - MINIMUM_SCORES) * 1.0 / 10.0
+}
+
+fn at_least_minimum(factor: f32) -> f32
+    ensures { λ r. ⌜ r ≡ Grades.atLeastMinimum factor ⌝ }
+{
+    if factor < MINIMUM_Z_FACTOR {
+        return MINIMUM_Z_FACTOR;
+    }
+    factor
+}
+
+fn adjusted_factor(base: f32, factor: f32, limit: f32, none: bool) -> f32
+    ensures { λ r. ⌜ r ≡ Grades.adjustedFactor base factor limit none ⌝ }
+{
+    if base < limit {
+        if none {
+            return at_least_minimum(factor);
+        }
+        return at_least_minimum(base * factor / limit);
+    }
+    at_least_minimum(factor)
+}
+
+fn smaller(a: f64, b: f64) -> f64
+    ensures { λ r. ⌜ r ≡ Grades.smaller a b ⌝ }
+{
+    if a < b { a } else { b }
+}
+
+fn mixed(weight: f32, a: f64, b: f64) -> f32
+    ensures { λ r. ⌜ r ≡ Grades.mixed weight a b ⌝ }
+{
+    weight * narrow(a) + (1.0 - weight) * narrow(b)
+}
+
+fn eased_absolute(t: f32, fraction: f32, limit: f32, absolute: f32) -> f32
+    ensures { λ r. ⌜ r ≡ Grades.easedAbsolute t fraction limit absolute ⌝ }
+{
+    if fraction >= 1.0 {
+        if t < limit {
+            return t * absolute / limit;
+        }
+        return absolute;
+    }
+    absolute
+}
+
+fn threshold_from(
+    ready: bool,
+    fraction: f32,
+    t: f32,
+    scaled: f32,
+    initial: f32,
+    absolute: f32,
+) -> f32
+    ensures { λ r. ⌜ r ≡ Grades.thresholdFrom ready fraction t scaled initial absolute ⌝ }
+{
+    if ready {
+        return maxf32(
+            fraction * (t + scaled) + (1.0 - fraction) * initial,
+            absolute,
+        );
+    }
+    maxf32(initial, absolute)
+}
+
+fn surprise_index(
+    ready: bool,
+    score: f32,
+    base: f32,
+    factor: f32,
+    spread: f32,
+    absolute: f32,
+) -> f32
+    ensures { λ r. ⌜ r ≡ Grades.surpriseIndex ready score base factor spread absolute ⌝ }
+{
+    if ready {
+        if spread > 0.0 {
+            return maxf32(minf32((score - base) / spread, factor) / factor, 0.0);
+        }
+        return maxf32(2.0 * factor / factor, 0.0);
+    }
+    minf32(1.0, maxf32((score - absolute) / absolute, 0.0))
+}
+
+fn graded_or(score: f32, threshold: f32, grade: f32) -> Graded
+    ensures { λ r. ⌜ r ≡ Grades.gradedOr score threshold grade ⌝ }
+{
+    if grade > 0.0 {
+        return Graded { threshold, grade };
+    }
+    Graded {
+        threshold: score,
+        grade: 0.0,
+    }
+}
+
+fn sixteenths(surprise: f32) -> f32
+    ensures { λ r. ⌜ r ≡ Grades.sixteenths surprise ⌝ }
+{
+    minf32(ieee::floor(surprise * 20.0) / 16.0, 1.0)
+}
+
+fn grade_against(score: f32, threshold: f32, surprise: f32) -> Graded
+    ensures { λ r. ⌜ r ≡ Grades.gradeAgainst score threshold surprise ⌝ }
+{
+    if score < threshold {
+        return Graded {
+            threshold,
+            grade: 0.0,
+        };
+    }
+    if threshold == 0.0 {
+        return Graded {
+            threshold,
+            grade: 0.0,
+        };
+    }
+    graded_or(score, threshold, sixteenths(surprise))
+}
+
+fn threshold_by(mean: f32, z: f32, spread: f32) -> f32
+    ensures { λ r. ⌜ r ≡ Grades.thresholdBy mean z spread ⌝ }
+{
+    mean + z * spread
+}
+
+fn grade_over(t: f32, spread: f32) -> f32
+    ensures { λ r. ⌜ r ≡ Grades.gradeOver t spread ⌝ }
+{
+    if t > 0.0 {
+        if spread > 0.0 {
+            return minf32(t / spread, 1.0);
+        }
+        return 0.1;
+    }
+    0.0
+}
+
+fn counted_gap(third: Deviation, gap: f32) -> Deviation
+    ensures { λ r. ⌜ r ≡ Updates.countedGap third gap ⌝ }
+{
+    if gap > 0.0 {
+        return third.counted(std::num::f32_to_f64_with_nan(gap));
+    }
+    third
+}
+
+fn counted_over(third: Deviation, primary: Deviation, score: f32) -> Deviation
+    ensures { λ r. ⌜ r ≡ Updates.countedOver third primary score ⌝ }
+{
+    counted_gap(third, score - narrow(primary.mean()))
+}
+
+fn is_horizon(horizon: f32) -> bool
+    ensures { λ r. ⌜ r ≡ Updates.isHorizon horizon ⌝ }
+{
+    if horizon >= 0.0 {
+        return horizon <= 1.0;
+    }
+    false
+}
+
+// Refusal 7 for a horizon outside [0, 1].
+pub fn horizon_answer(horizon: f32) -> Answer
+    ensures { λ r. ⌜ r ≡ Updates.horizonAnswer horizon ⌝ }
+{
+    if is_horizon(horizon) {
+        return Answer::Done;
+    }
+    Answer::Refused(Refusal::Horizon)
+}
+
+impl BasicThresholder {
+    pub fn new_adjustible(discount: f64, adjust: bool) -> Made
+        ensures { λ r. ⌜ r ≡ Updates.newAdjustible discount adjust ⌝ }
+    {
+        if discount >= 0.0 {
+            if discount < 1.0 {
+                return Made::Ready(BasicThresholder::fresh(discount, adjust));
+            }
+        }
+        Made::Refused(Refusal::Discount)
+    }
+
+    pub fn new(discount: f64) -> Made
+        ensures { λ r. ⌜ r ≡ Updates.newAdjustible discount false ⌝ }
+    {
+        BasicThresholder::new_adjustible(discount, false)
+    }
+
+    // A new state; `new_adjustible` tests the discount.
+    pub fn fresh(discount: f64, adjust: bool) -> BasicThresholder
+        ensures { λ r. ⌜ r ≡ Updates.freshThresholder discount adjust ⌝ }
+    {
+        let statistic = Deviation::create(discount, 0.0, 0.0, 0.0, 0);
+        let third = Deviation::create(discount / 2.0, 0.0, 0.0, 0.0, 0);
+        BasicThresholder {
+            elasticity: DEFAULT_ELASTICITY,
+            count: 0,
+            score_differencing: DEFAULT_SCORE_DIFFERENCING,
+            last_score: 0.0,
+            primary_deviation: statistic,
+            secondary_deviation: statistic,
+            threshold_deviation: third,
+            auto_threshold: adjust,
+            absolute_threshold: DEFAULT_ABSOLUTE_THRESHOLD,
+            absolute_score_fraction: DEFAULT_ABSOLUTE_SCORE_FRACTION,
+            lower_threshold: DEFAULT_LOWER_THRESHOLD,
+            factor_adjustment_threshold: DEFAULT_FACTOR_ADJUSTMENT_THRESHOLD,
+            initial_threshold: DEFAULT_INITIAL_THRESHOLD,
+            z_factor: DEFAULT_Z_FACTOR,
+        }
+    }
+
+    pub fn is_deviation_ready(self) -> bool
+        ensures { λ r. ⌜ r ≡ Grades.isDeviationReady self ⌝ }
+    {
+        let primary = self.primary_deviation;
+        counts_ready(self.count, self.score_differencing, primary.count)
+    }
+
+    // `first` is the primary deviation, which the caller has.
+    fn smallest_deviation(self, first: f64) -> f32
+        requires { ⌜ first ≡ deviation (self .«primary_deviation») ⌝ }
+        ensures { λ r. ⌜ r ≡ Grades.smallestDeviation self ⌝ }
+    {
+        let t = ROOT_OF_TWO * self.threshold_deviation.deviation();
+        let second = self.secondary_deviation.deviation();
+        mixed(
+            self.score_differencing,
+            smaller(second, smaller(t, first)),
+            second,
+        )
+    }
+
+    // `t` is the primary mean as f32 and `first` the primary deviation, which the caller has.
+    fn long_term_deviation(self, t: f32, first: f64, differenced: bool, shingle_size: usize) -> f32
+        requires { ⌜ t ≡ Round.narrow (mean (self .«primary_deviation»)) ⌝ ∗ ⌜ first ≡ deviation (self .«primary_deviation») ⌝ }
+        ensures { λ r. ⌜ r ≡ Grades.longTermDeviation self differenced «shingle_size» ⌝ }
+    {
+        if shingle_size == 1 {
+            if differenced {
+                return self.smallest_deviation(first);
+            }
+            return minf32(narrow(ROOT_OF_TWO * self.threshold_deviation.mean()), t);
+        }
+        self.smallest_deviation(first)
+    }
+
+    fn absolute(self, t: f32, fraction: f32) -> f32
+        requires { ⌜ fraction ≡ Grades.intermediateFraction (self .count) ⌝ }
+        ensures { λ r. ⌜ r ≡ Grades.absoluteOf self t ⌝ }
+    {
+        if self.auto_threshold {
+            return eased_absolute(
+                t,
+                fraction,
+                self.factor_adjustment_threshold,
+                self.absolute_threshold,
+            );
+        }
+        self.absolute_threshold
+    }
+
+    pub fn threshold_and_grade(
+        self,
+        score: f32,
+        method: TransformMethod,
+        shingle_size: usize,
+    ) -> Graded
+        ensures { λ r. ⌜ r ≡ Grades.thresholdAndGrade self score method «shingle_size» ⌝ }
+    {
+        self.threshold_and_grade_with_factor(score, self.z_factor, method, shingle_size)
+    }
+
+    pub fn threshold_and_grade_with_factor(
+        self,
+        score: f32,
+        factor: f32,
+        method: TransformMethod,
+        shingle_size: usize,
+    ) -> Graded
+        ensures { λ r. ⌜ r ≡ Grades.thresholdAndGradeWithFactor self score factor method «shingle_size» ⌝ }
+    {
+        let ready = self.is_deviation_ready();
+        let fraction = intermediate_fraction(self.count);
+        let t = narrow(self.primary_deviation.mean());
+        let first = self.primary_deviation.deviation();
+        let limit = self.factor_adjustment_threshold;
+        let new_factor = adjusted_factor(t, factor, limit, method.is_none());
+        let long_term = self.long_term_deviation(t, first, method.is_differenced(), shingle_size);
+        let scaled = (new_factor - 1.0) * long_term + narrow(first);
+        let absolute = self.absolute(t, fraction);
+        let initial = self.initial_threshold;
+        let threshold = threshold_from(ready, fraction, t, scaled, initial, absolute);
+        let spread = scaled / new_factor;
+        let surprise = surprise_index(
+            ready,
+            score,
+            threshold,
+            new_factor,
+            spread,
+            self.absolute_threshold,
+        );
+        grade_against(score, threshold, surprise)
+    }
+
+    pub fn threshold(self) -> f32
+        ensures { λ r. ⌜ r ≡ Grades.threshold self ⌝ }
+    {
+        threshold_by(
+            narrow(self.primary_deviation.mean()),
+            self.z_factor,
+            narrow(self.primary_deviation.deviation()),
+        )
+    }
+
+    pub fn primary_grade(self, score: f32) -> f32
+        ensures { λ r. ⌜ r ≡ Grades.primaryGrade self score ⌝ }
+    {
+        let graded = self.primary_threshold_and_grade(score);
+        graded.grade
+    }
+
+    pub fn primary_threshold_and_grade(self, score: f32) -> Graded
+        ensures { λ r. ⌜ r ≡ Grades.primaryThresholdAndGrade self score ⌝ }
+    {
+        let mean = narrow(self.primary_deviation.mean());
+        let spread = narrow(self.primary_deviation.deviation());
+        let threshold = threshold_by(mean, self.z_factor, spread);
+        if self.is_deviation_ready() {
+            return Graded {
+                threshold,
+                grade: grade_over(score - threshold, spread),
+            };
+        }
+        Graded {
+            threshold,
+            grade: 0.0,
+        }
+    }
+
+    // What `update_threshold`, `update_primary`, `update_both` and `update` leave, for callers that tested the counts.
+    pub fn threshold_counted(self, score: f32) -> BasicThresholder
+        ensures { λ r. ⌜ r ≡ Updates.thresholdCounted self score ⌝ }
+    {
+        let third = counted_over(self.threshold_deviation, self.primary_deviation, score);
+        let mut out = self;
+        out.threshold_deviation = third;
+        out
+    }
+
+    pub fn primary_counted(self, score: f64) -> BasicThresholder
+        ensures { λ r. ⌜ r ≡ Updates.primaryCounted self score ⌝ }
+    {
+        let last_score = narrow(score);
+        let primary = self.primary_deviation.counted(score);
+        let third = counted_over(self.threshold_deviation, primary, last_score);
+        let count = deviation::one_more(self.count);
+        let mut out = self;
+        out.last_score = last_score;
+        out.primary_deviation = primary;
+        out.threshold_deviation = third;
+        out.count = count;
+        out
+    }
+
+    pub fn both_counted(self, primary: f32, secondary: f32) -> BasicThresholder
+        ensures { λ r. ⌜ r ≡ Updates.bothCounted self primary secondary ⌝ }
+    {
+        let first = self.primary_deviation
+            .counted(std::num::f32_to_f64_with_nan(primary));
+        let second = self.secondary_deviation
+            .counted(std::num::f32_to_f64_with_nan(secondary));
+        let third = counted_over(self.threshold_deviation, first, primary);
+        let count = deviation::one_more(self.count);
+        let mut out = self;
+        out.last_score = primary;
+        out.primary_deviation = first;
+        out.secondary_deviation = second;
+        out.threshold_deviation = third;
+        out.count = count;
+        out
+    }
+
+    pub fn capped_counted(self, primary: f32, secondary: f32, last_score: f32) -> BasicThresholder
+        ensures { λ r. ⌜ r ≡ Updates.cappedCounted self primary secondary «last_score» ⌝ }
+    {
+        self.both_counted(minf32(2.0, primary), secondary - last_score)
+    }
+
+    // Every count of the record takes an update.
+    pub fn counts_ok(self) -> bool
+        ensures { λ r. ⌜ r ≡ Updates.countsOk self ⌝ }
+    {
+        let primary = self.primary_deviation;
+        let secondary = self.secondary_deviation;
+        let third = self.threshold_deviation;
+        if deviation::countable(self.count) {
+            if deviation::countable(primary.count) {
+                if deviation::countable(secondary.count) {
+                    return deviation::countable(third.count);
+                }
+                return false;
+            }
+            return false;
+        }
+        false
+    }
+
+    fn updated(self, after: BasicThresholder) -> Updated
+        ensures { λ r. ⌜ r ≡ Updates.updated self after ⌝ }
+    {
+        if self.counts_ok() {
+            return Updated {
+                answer: Answer::Done,
+                thresholder: after,
+            };
+        }
+        Updated {
+            answer: Answer::Refused(Refusal::Count),
+            thresholder: self,
+        }
+    }
+
+    pub fn update_threshold(self, score: f32) -> Updated
+        ensures { λ r. ⌜ r ≡ Updates.updated self (Updates.thresholdCounted self score) ⌝ }
+    {
+        self.updated(self.threshold_counted(score))
+    }
+
+    pub fn update_primary(self, score: f64) -> Updated
+        ensures { λ r. ⌜ r ≡ Updates.updated self (Updates.primaryCounted self score) ⌝ }
+    {
+        self.updated(self.primary_counted(score))
+    }
+
+    pub fn update_both(self, primary: f32, secondary: f32) -> Updated
+        ensures { λ r. ⌜ r ≡ Updates.updated self (Updates.bothCounted self primary secondary) ⌝ }
+    {
+        self.updated(self.both_counted(primary, secondary))
+    }
+
+    pub fn update(self, primary: f32, secondary: f32, last_score: f32) -> Updated
+        ensures { λ r. ⌜ r ≡ Updates.updated self (Updates.cappedCounted self primary secondary «last_score») ⌝ }
+    {
+        self.updated(self.capped_counted(primary, secondary, last_score))
+    }
+
+    pub fn z_factor(self) -> f32
+        ensures { λ r. ⌜ r ≡ self .«z_factor» ⌝ }
+    {
+        self.z_factor
+    }
+
+    pub fn set_z_factor(self, factor: f32) -> BasicThresholder
+        ensures { λ r. ⌜ r ≡ Updates.withZFactor self factor ⌝ }
+    {
+        let mut out = self;
+        out.z_factor = factor;
+        out
+    }
+
+    pub fn set_lower_threshold(self, lower: f32) -> BasicThresholder
+        ensures { λ r. ⌜ r ≡ Updates.withLowerThreshold self lower ⌝ }
+    {
+        let mut out = self;
+        out.lower_threshold = lower;
+        out
+    }
+
+    pub fn set_absolute_threshold(self, value: f32) -> BasicThresholder
+        ensures { λ r. ⌜ r ≡ Updates.withAbsoluteThreshold self value ⌝ }
+    {
+        let mut out = self;
+        out.absolute_threshold = value;
+        out
+    }
+
+    pub fn set_initial_threshold(self, initial: f32) -> BasicThresholder
+        ensures { λ r. ⌜ r ≡ Updates.withInitialThreshold self initial ⌝ }
+    {
+        let mut out = self;
+        out.initial_threshold = initial;
+        out
+    }
+
+    // The state with the horizon, or itself where the horizon is refused.
+    pub fn horizon_set(self, horizon: f32) -> BasicThresholder
+        ensures { λ r. ⌜ r ≡ Updates.horizonSet self horizon ⌝ }
+    {
+        if is_horizon(horizon) {
+            let mut out = self;
+            out.score_differencing = horizon;
+            return out;
+        }
+        self
+    }
+
+    pub fn set_score_differencing(self, horizon: f32) -> Updated
+        ensures { λ r. ⌜ r ≡ Updates.setScoreDifferencing self horizon ⌝ }
+    {
+        Updated {
+            answer: horizon_answer(horizon),
+            thresholder: self.horizon_set(horizon),
+        }
+    }
+
+    pub fn last_score(self) -> f32
+        ensures { λ r. ⌜ r ≡ self .«last_score» ⌝ }
+    {
+        self.last_score
+    }
+
+    pub fn primary_mean(self) -> f64
+        ensures { λ r. ⌜ r ≡ mean (self .«primary_deviation») ⌝ }
+    {
+        self.primary_deviation.mean()
+    }
+
+    pub fn primary_deviation(self) -> f64
+        ensures { λ r. ⌜ r ≡ deviation (self .«primary_deviation») ⌝ }
+    {
+        self.primary_deviation.deviation()
+    }
+}
