@@ -1,0 +1,56 @@
+use mathlib.Core.Path.{_∙_, sym}
+use Rattle.descriptor.specs.Checks.{answerOf}
+use borrow.Author.Needs.{needs}
+use Rattle.descriptor.proofs.answer.Statement.{statement}
+use Rattle.descriptor.proofs.answer.Tie as tie
+
+range-ok-requires : tie.Need-range-ok-requires
+range-ok-requires c κs = search needs
+
+lengths-ok-requires : tie.Need-lengths-ok-requires
+lengths-ok-requires c κs = search needs
+
+finite-ok-requires : tie.Need-finite-ok-requires
+finite-ok-requires c κs = search needs
+
+seen-ok-requires : tie.Need-seen-ok-requires
+seen-ok-requires c κs = search needs
+
+returns : tie.Need-returns
+unfolding answerOf
+returns c = simp (sym (c .before .before .before .before .before .before .before .before .range-ok .ensures) ∙ c .before .before .before .before .before .before .before .if1 .taken, sym (c .before .before .before .before .before .before .lengths-ok .ensures) ∙ c .before .before .before .before .before .if2 .taken, sym (c .before .before .before .before .finite-ok .ensures) ∙ c .before .before .before .if3 .taken, sym (c .before .before .seen-ok .ensures) ∙ c .before .if4 .taken, c .if5 .taken)
+
+returns-2 : tie.Need-returns-2
+unfolding answerOf
+returns-2 c = simp (sym (c .before .before .before .before .before .before .before .before .range-ok .ensures) ∙ c .before .before .before .before .before .before .before .if1 .taken, sym (c .before .before .before .before .before .before .lengths-ok .ensures) ∙ c .before .before .before .before .before .if2 .taken, sym (c .before .before .before .before .finite-ok .ensures) ∙ c .before .before .before .if3 .taken, sym (c .before .before .seen-ok .ensures) ∙ c .before .if4 .taken, c .if5 .left)
+
+returns-3 : tie.Need-returns-3
+unfolding answerOf
+returns-3 c = simp (sym (c .before .before .before .before .before .before .before .range-ok .ensures) ∙ c .before .before .before .before .before .before .if1 .taken, sym (c .before .before .before .before .before .lengths-ok .ensures) ∙ c .before .before .before .before .if2 .taken, sym (c .before .before .before .finite-ok .ensures) ∙ c .before .before .if3 .taken, sym (c .before .seen-ok .ensures) ∙ c .if4 .left)
+
+returns-4 : tie.Need-returns-4
+unfolding answerOf
+returns-4 c = simp (sym (c .before .before .before .before .before .range-ok .ensures) ∙ c .before .before .before .before .if1 .taken, sym (c .before .before .before .lengths-ok .ensures) ∙ c .before .before .if2 .taken, sym (c .before .finite-ok .ensures) ∙ c .if3 .left)
+
+returns-5 : tie.Need-returns-5
+unfolding answerOf
+returns-5 c = simp (sym (c .before .before .before .range-ok .ensures) ∙ c .before .before .if1 .taken, sym (c .before .lengths-ok .ensures) ∙ c .if2 .left)
+
+returns-6 : tie.Need-returns-6
+unfolding answerOf
+returns-6 c = simp (sym (c .before .range-ok .ensures) ∙ c .if1 .left)
+
+pub answer-spec : {M : Type 1} → statement M
+answer-spec =
+    tie.close
+    (tie.spec
+    range-ok-requires
+    lengths-ok-requires
+    finite-ok-requires
+    seen-ok-requires
+    returns
+    returns-2
+    returns-3
+    returns-4
+    returns-5
+    returns-6)

@@ -1,0 +1,112 @@
+-- Document 01's entry checks of a reading: one test for each refusal, and the answer, which asks them in the order of their numbers.
+use Prim.Native.Nat.{ℕ, _*_, _%_, _/_}
+use mathlib.Core.Bool.{Bool, true, false, cond, _&&_, not}
+use mathlib.Core.List.{List, [], _∷_}
+use lib.Dec.{leb, ltb, eqb}
+use lib.ListN.{length}
+use lib.Ieee.{Float, nan, inf, fin}
+use Rattle.types.specs.declared.Refusal.the-variants.{Range, Length, NotFinite, ValuesSeen, Count}
+use Rattle.types.specs.declared.Answer.{Answer}
+use Rattle.types.specs.declared.Answer.the-variants.{Done, Refused}
+use Rattle.descriptor.specs.Lent.{Lent}
+use Rattle.descriptor.specs.declared.Reading.{Reading}
+use Rattle.descriptor.specs.declared.LastDescriptor.{LastDescriptor}
+
+-- Neither NaN nor an infinity.
+unfoldable pub isFinite : Float → Bool
+isFinite nan = false
+isFinite (inf s) = false
+isFinite (fin s m e) = true
+
+unfoldable pub every : {A : Type 0} → (A → Bool) → List A → Bool
+every f [] = true
+every f (x ∷ xs) = f x && every f xs
+
+abbrev pub allFinite : List Float → Bool
+allFinite xs = every isFinite xs
+
+-- Shingle size 1 to 64, base dimension 1 to 16.
+unfoldable pub sizesOk : ℕ → ℕ → Bool
+sizesOk shingle base = leb 1 shingle && (leb shingle 64 && (leb 1 base && leb base 16))
+
+-- D = shingle × base.
+unfoldable pub dimension : ℕ → ℕ → ℕ
+dimension shingle base = cond (sizesOk shingle base) (shingle * base) 0
+
+-- Refusal 2 otherwise: both sizes in range, and the base is the state's.
+unfoldable pub rangeOk : ℕ → ℕ → ℕ → Bool
+rangeOk shingle base stateBase = sizesOk shingle base && eqb base stateBase
+
+-- The lengths of the buffers that are D long: the point, the two attributions, the median, and the three that are written.
+unfoldable pub pointsOk : ℕ → ℕ → ℕ → ℕ → ℕ → ℕ → ℕ → ℕ → ℕ → ℕ → Bool
+pointsOk d point high low median idealHigh idealLow expected outHigh outLow =
+    eqb point d
+    && (eqb high d
+    && (eqb low d
+    && (eqb median d
+    && (eqb idealHigh d && (eqb idealLow d && (eqb expected d && (eqb outHigh d && eqb outLow d)))))))
+
+-- The lengths of the buffers that are as long as the base: scale, shift and difference deviations.
+unfoldable pub rowsOk : ℕ → ℕ → ℕ → ℕ → Bool
+rowsOk base scale shift deviations = eqb scale base && (eqb shift base && eqb deviations base)
+
+-- 0 to 256 whole points.
+unfoldable pub neighboursOk : ℕ → ℕ → Bool
+neighboursOk d n = cond (eqb d 0) false (eqb (n % d) 0 && leb (n / d) 256)
+
+-- The last anomaly's two points, behind its yes/no.
+unfoldable pub lastPointsOk : Bool → ℕ → ℕ → ℕ → Bool
+lastPointsOk hasAnomaly d expected anomalous = cond hasAnomaly (eqb expected d && eqb anomalous d) true
+
+-- Refusal 3 otherwise. The last three numbers are the lengths of the buffers that are written.
+unfoldable pub lengthsOk : Reading → LastDescriptor → Lent → ℕ → ℕ → ℕ → Bool
+lengthsOk r l b expected outHigh outLow =
+    let d = dimension (r .«shingle_size») (r .«base_dimension») in
+    pointsOk d (length (b .point)) (length (b .high)) (length (b .low)) (length (b .median)) (length (b .«ideal_high»)) (length (b .«ideal_low»)) expected outHigh outLow
+    && (rowsOk (r .«base_dimension») (length (b .scale)) (length (b .shift)) (length (b .«difference_deviations»))
+    && (neighboursOk d (length (b .neighbours))
+    && lastPointsOk (l .«has_anomaly») d (length (b .«last_expected»)) (length (b .«last_anomalous»))))
+
+-- The numbers of the reading and of the last descriptor.
+unfoldable pub numbersFinite : Reading → LastDescriptor → Bool
+numbersFinite r l = isFinite (r .score) && (isFinite (r .«corrected_score») && (isFinite (l .score) && isFinite (l .threshold)))
+
+-- The last anomaly's score and points, behind its yes/no.
+unfoldable pub lastFinite : LastDescriptor → List Float → List Float → Bool
+lastFinite l expected anomalous =
+    cond (l .«has_anomaly») (isFinite (l .anomaly .score) && (allFinite expected && allFinite anomalous)) true
+
+-- Refusal 4 otherwise: every lent float is finite.
+unfoldable pub finiteOk : Reading → LastDescriptor → Lent → Bool
+finiteOk r l b =
+    numbersFinite r l
+    && (lastFinite l (b .«last_expected») (b .«last_anomalous»)
+    && (allFinite (b .point)
+    && (allFinite (b .scale)
+    && (allFinite (b .shift)
+    && (allFinite (b .«difference_deviations»)
+    && (allFinite (b .high)
+    && (allFinite (b .low)
+    && (allFinite (b .median)
+    && (allFinite (b .«ideal_high») && (allFinite (b .«ideal_low») && allFinite (b .neighbours)))))))))))
+
+-- Later than the last anomaly, behind its yes/no.
+unfoldable pub isLater : ℕ → Bool → ℕ → Bool
+isLater seen hasAnomaly lastSeen = cond hasAnomaly (ltb lastSeen seen) true
+
+-- Refusal 5 otherwise: values_seen 1 to 16,777,216, and later than the last anomaly's.
+unfoldable pub seenOk : ℕ → Bool → ℕ → Bool
+seenOk seen hasAnomaly lastSeen = leb 1 seen && (leb seen 16777216 && isLater seen hasAnomaly lastSeen)
+
+-- The answer to a reading: the smallest number of the table that applies. countsOk is refusal 6's test, of the state.
+unfoldable pub answerOf : Reading → LastDescriptor → Lent → ℕ → ℕ → ℕ → ℕ → Bool → Answer
+answerOf r l b stateBase expected outHigh outLow countsOk =
+    cond (rangeOk (r .«shingle_size») (r .«base_dimension») stateBase)
+    (cond (lengthsOk r l b expected outHigh outLow)
+    (cond (finiteOk r l b)
+    (cond (seenOk (r .«values_seen») (l .«has_anomaly») (l .anomaly .«values_seen»))
+    (cond countsOk Done (Refused Count))
+    (Refused ValuesSeen))
+    (Refused NotFinite))
+    (Refused Length))
+    (Refused Range)

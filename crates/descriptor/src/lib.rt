@@ -1,0 +1,327 @@
+// descriptor.rs as far as a reading lends it, and document 01's entry checks of a reading.
+use types::Answer;
+use types::Refusal;
+use types::ScoringStrategy;
+use types::TransformMethod;
+ghost use mathlib.Core.Path.{_≡_};
+ghost use lib.ListN.{length};
+ghost use Rattle.descriptor.specs.Checks as Checks;
+ghost use Rattle.descriptor.specs.Lent.{lent};
+
+// The numbers of a reading. Its buffers are lent beside it.
+pub struct Reading {
+    pub shingle_size: usize,
+    pub base_dimension: usize,
+    pub scoring_strategy: ScoringStrategy,
+    pub transform_method: TransformMethod,
+    pub time_augmented: bool,
+    pub values_seen: usize,
+    pub score: f32,
+    pub corrected_score: f32,
+}
+
+// The last anomaly: read only behind `has_anomaly`. Of its attribution the yes/no alone counts.
+pub struct LastAnomaly {
+    pub relative_index: i32,
+    pub values_seen: usize,
+    pub has_attribution: bool,
+    pub score: f32,
+}
+
+// What the chain reads of the descriptor before this reading.
+pub struct LastDescriptor {
+    pub scoring_strategy: ScoringStrategy,
+    pub score: f32,
+    pub threshold: f32,
+    pub has_anomaly: bool,
+    pub anomaly: LastAnomaly,
+}
+
+// Neither NaN nor an infinity: the difference with itself is a number.
+pub fn is_finite_f32(x: f32) -> bool
+    ensures { λ r. ⌜ r ≡ Checks.isFinite x ⌝ }
+{
+    let gap = x - x;
+    gap == gap
+}
+
+// No early exit: a turn without a branch lets the compiler take several elements at once.
+pub fn all_finite_f32(xs: &[f32]) -> bool
+    ensures { λ r. ⌜ r ≡ Checks.allFinite (now (xs .entry)) ⌝ }
+{
+    let mut ok = true;
+    let mut i = 0usize;
+    while i < xs.len() {
+        let x = xs[i];
+        let gap = x - x;
+        ok = ok & (gap == gap);
+        i += 1;
+    }
+    ok
+}
+
+pub fn all_finite_f64(xs: &[f64]) -> bool
+    ensures { λ r. ⌜ r ≡ Checks.allFinite (now (xs .entry)) ⌝ }
+{
+    let mut ok = true;
+    let mut i = 0usize;
+    while i < xs.len() {
+        let x = xs[i];
+        let gap = x - x;
+        ok = ok & (gap == gap);
+        i += 1;
+    }
+    ok
+}
+
+pub fn sizes_ok(shingle_size: usize, base_dimension: usize) -> bool
+    ensures { λ r. ⌜ r ≡ Checks.sizesOk «shingle_size» «base_dimension» ⌝ }
+{
+    (1 <= shingle_size) & ((shingle_size <= 64) & ((1 <= base_dimension) & (base_dimension <= 16)))
+}
+
+// D, or 0 where the sizes are out of range.
+pub fn dimension(shingle_size: usize, base_dimension: usize) -> usize
+    ensures { λ r. ⌜ r ≡ Checks.dimension «shingle_size» «base_dimension» ⌝ }
+{
+    if sizes_ok(shingle_size, base_dimension) {
+        return shingle_size * base_dimension;
+    }
+    0
+}
+
+pub fn range_ok(shingle_size: usize, base_dimension: usize, state_base: usize) -> bool
+    ensures { λ r. ⌜ r ≡ Checks.rangeOk «shingle_size» «base_dimension» «state_base» ⌝ }
+{
+    sizes_ok(shingle_size, base_dimension) & (base_dimension == state_base)
+}
+
+fn points_ok(
+    d: usize,
+    point: usize,
+    high: usize,
+    low: usize,
+    median: usize,
+    ideal_high: usize,
+    ideal_low: usize,
+    expected: usize,
+    out_high: usize,
+    out_low: usize,
+) -> bool
+    ensures { λ r. ⌜ r ≡ Checks.pointsOk d point high low median «ideal_high» «ideal_low» expected «out_high» «out_low» ⌝ }
+{
+    (point == d)
+        & ((high == d)
+            & ((low == d)
+                & ((median == d)
+                    & ((ideal_high == d)
+                        & ((ideal_low == d)
+                            & ((expected == d) & ((out_high == d) & (out_low == d))))))))
+}
+
+fn rows_ok(base: usize, scale: usize, shift: usize, deviations: usize) -> bool
+    ensures { λ r. ⌜ r ≡ Checks.rowsOk base scale shift deviations ⌝ }
+{
+    (scale == base) & ((shift == base) & (deviations == base))
+}
+
+pub fn neighbours_ok(d: usize, n: usize) -> bool
+    ensures { λ r. ⌜ r ≡ Checks.neighboursOk d n ⌝ }
+{
+    if d == 0 {
+        return false;
+    }
+    (n % d == 0) & (n / d <= 256)
+}
+
+fn last_points_ok(has_anomaly: bool, d: usize, expected: usize, anomalous: usize) -> bool
+    ensures { λ r. ⌜ r ≡ Checks.lastPointsOk «has_anomaly» d expected anomalous ⌝ }
+{
+    if has_anomaly {
+        return (expected == d) & (anomalous == d);
+    }
+    true
+}
+
+fn numbers_finite(r: Reading, l: LastDescriptor) -> bool
+    ensures { λ b. ⌜ b ≡ Checks.numbersFinite r l ⌝ }
+{
+    is_finite_f32(r.score)
+        & (is_finite_f32(r.corrected_score) & (is_finite_f32(l.score) & is_finite_f32(l.threshold)))
+}
+
+fn last_finite(l: LastDescriptor, expected: &[f32], anomalous: &[f32]) -> bool
+    ensures { λ b. ⌜ b ≡ Checks.lastFinite l (now (expected .entry)) (now (anomalous .entry)) ⌝ }
+{
+    let anomaly = l.anomaly;
+    if l.has_anomaly {
+        return is_finite_f32(anomaly.score)
+            & (all_finite_f32(expected) & all_finite_f32(anomalous));
+    }
+    true
+}
+
+fn is_later(values_seen: usize, has_anomaly: bool, last_seen: usize) -> bool
+    ensures { λ r. ⌜ r ≡ Checks.isLater «values_seen» «has_anomaly» «last_seen» ⌝ }
+{
+    if has_anomaly {
+        return last_seen < values_seen;
+    }
+    true
+}
+
+pub fn seen_ok(values_seen: usize, has_anomaly: bool, last_seen: usize) -> bool
+    ensures { λ r. ⌜ r ≡ Checks.seenOk «values_seen» «has_anomaly» «last_seen» ⌝ }
+{
+    (1 <= values_seen) & ((values_seen <= 16777216) & is_later(values_seen, has_anomaly, last_seen))
+}
+
+// Refusal 3's test. The last three numbers are the lengths of the buffers that a raised reading writes.
+fn lengths_ok(
+    r: Reading,
+    l: LastDescriptor,
+    point: &[f32],
+    scale: &[f32],
+    shift: &[f32],
+    difference_deviations: &[f32],
+    last_expected: &[f32],
+    last_anomalous: &[f32],
+    high: &[f64],
+    low: &[f64],
+    median: &[f32],
+    ideal_high: &[f64],
+    ideal_low: &[f64],
+    neighbours: &[f32],
+    expected: usize,
+    out_high: usize,
+    out_low: usize,
+) -> bool
+    ensures { λ b. ⌜ b ≡ Checks.lengthsOk r l (lent (now (point .entry)) (now (scale .entry)) (now (shift .entry)) (now («difference_deviations» .entry)) (now («last_expected» .entry)) (now («last_anomalous» .entry)) (now (high .entry)) (now (low .entry)) (now (median .entry)) (now («ideal_high» .entry)) (now («ideal_low» .entry)) (now (neighbours .entry))) expected «out_high» «out_low» ⌝ }
+{
+    let base = r.base_dimension;
+    let d = dimension(r.shingle_size, base);
+    points_ok(
+        d,
+        point.len(),
+        high.len(),
+        low.len(),
+        median.len(),
+        ideal_high.len(),
+        ideal_low.len(),
+        expected,
+        out_high,
+        out_low,
+    )
+        & (rows_ok(base, scale.len(), shift.len(), difference_deviations.len())
+            & (neighbours_ok(d, neighbours.len())
+                & last_points_ok(l.has_anomaly, d, last_expected.len(), last_anomalous.len())))
+}
+
+// Refusal 4's test.
+fn finite_ok(
+    r: Reading,
+    l: LastDescriptor,
+    point: &[f32],
+    scale: &[f32],
+    shift: &[f32],
+    difference_deviations: &[f32],
+    last_expected: &[f32],
+    last_anomalous: &[f32],
+    high: &[f64],
+    low: &[f64],
+    median: &[f32],
+    ideal_high: &[f64],
+    ideal_low: &[f64],
+    neighbours: &[f32],
+) -> bool
+    ensures { λ b. ⌜ b ≡ Checks.finiteOk r l (lent (now (point .entry)) (now (scale .entry)) (now (shift .entry)) (now («difference_deviations» .entry)) (now («last_expected» .entry)) (now («last_anomalous» .entry)) (now (high .entry)) (now (low .entry)) (now (median .entry)) (now («ideal_high» .entry)) (now («ideal_low» .entry)) (now (neighbours .entry))) ⌝ }
+{
+    numbers_finite(r, l)
+        & (last_finite(l, last_expected, last_anomalous)
+            & (all_finite_f32(point)
+                & (all_finite_f32(scale)
+                    & (all_finite_f32(shift)
+                        & (all_finite_f32(difference_deviations)
+                            & (all_finite_f64(high)
+                                & (all_finite_f64(low)
+                                    & (all_finite_f32(median)
+                                        & (all_finite_f64(ideal_high)
+                                            & (all_finite_f64(ideal_low)
+                                                & all_finite_f32(neighbours)))))))))))
+}
+
+// The answer to a reading: the smallest refusal of document 01's table that applies. `counts_ok` is refusal 6's test, which the state's owner makes.
+pub fn answer(
+    r: Reading,
+    l: LastDescriptor,
+    point: &[f32],
+    scale: &[f32],
+    shift: &[f32],
+    difference_deviations: &[f32],
+    last_expected: &[f32],
+    last_anomalous: &[f32],
+    high: &[f64],
+    low: &[f64],
+    median: &[f32],
+    ideal_high: &[f64],
+    ideal_low: &[f64],
+    neighbours: &[f32],
+    state_base: usize,
+    expected: usize,
+    out_high: usize,
+    out_low: usize,
+    counts_ok: bool,
+) -> Answer
+    ensures { λ a. ⌜ a ≡ Checks.answerOf r l (lent (now (point .entry)) (now (scale .entry)) (now (shift .entry)) (now («difference_deviations» .entry)) (now («last_expected» .entry)) (now («last_anomalous» .entry)) (now (high .entry)) (now (low .entry)) (now (median .entry)) (now («ideal_high» .entry)) (now («ideal_low» .entry)) (now (neighbours .entry))) «state_base» expected «out_high» «out_low» «counts_ok» ⌝ }
+{
+    let anomaly = l.anomaly;
+    if range_ok(r.shingle_size, r.base_dimension, state_base) {
+        if lengths_ok(
+            r,
+            l,
+            point,
+            scale,
+            shift,
+            difference_deviations,
+            last_expected,
+            last_anomalous,
+            high,
+            low,
+            median,
+            ideal_high,
+            ideal_low,
+            neighbours,
+            expected,
+            out_high,
+            out_low,
+        ) {
+            if finite_ok(
+                r,
+                l,
+                point,
+                scale,
+                shift,
+                difference_deviations,
+                last_expected,
+                last_anomalous,
+                high,
+                low,
+                median,
+                ideal_high,
+                ideal_low,
+                neighbours,
+            ) {
+                if seen_ok(r.values_seen, l.has_anomaly, anomaly.values_seen) {
+                    if counts_ok {
+                        return Answer::Done;
+                    }
+                    return Answer::Refused(Refusal::Count);
+                }
+                return Answer::Refused(Refusal::ValuesSeen);
+            }
+            return Answer::Refused(Refusal::NotFinite);
+        }
+        return Answer::Refused(Refusal::Length);
+    }
+    Answer::Refused(Refusal::Range)
+}
