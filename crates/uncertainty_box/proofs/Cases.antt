@@ -1,0 +1,65 @@
+-- Closed cases that hold the definitions to Rust, the drill sheet's rows among them: bit patterns in and out. Assumes nothing.
+use mathlib.Core.Path.{_≡_, refl}
+use mathlib.Core.Bool.{Bool, true, false}
+use mathlib.Core.List.{List, [], _∷_, map}
+use Prim.Native.Nat.{ℕ}
+use lib.Ieee as Ieee
+use lib.Ieee.{Float, binary32, ofBits, toBits}
+use Rattle.util.specs.Util.{absf32, maxf32, minf32}
+use Rattle.uncertainty_box.specs.Scan.{some, count, listed}
+use Rattle.uncertainty_box.specs.Box.{outside, outsideAt, withinUnertaintyBox, pathStep, pathMean, pathLoop, pathDeviation, edgeOf, edgeAt, uncertaintyBox, supported, wholePoints, explainedByConditionalField}
+use Rattle.uncertainty_box.specs.Pass.{overLine, overAt, noiseStep, noiseLoop, noisePass, passable, centeredTransformPass}
+
+abbrev floats : List ℕ → List Float
+floats bs = map (ofBits binary32) bs
+
+-- 1, 3, 6 from 0, base 1: 2.5, and differenced 2.
+abbrev deviation : Bool → ℕ
+deviation differenced = toBits binary32 (pathDeviation (floats (0x3F80_0000 ∷ 0x4040_0000 ∷ 0x40C0_0000 ∷ [])) 0 0 1 differenced)
+
+deviations : map deviation (false ∷ true ∷ []) ≡ 0x4020_0000 ∷ 0x4000_0000 ∷ []
+unfolding pathDeviation pathLoop pathMean pathStep absf32 ofBits toBits Ieee.add Ieee.sub Ieee.div Ieee.ofInt Ieee.lt
+deviations = refl
+
+-- A box of 0.5 around 1, scale 1: points at 0.5 and 1.5 are on its edges and within it, the next number beyond either edge is not, NaN is.
+abbrev inside : ℕ → Bool
+inside b = withinUnertaintyBox (floats (0x3F00_0000 ∷ [])) 0 (floats (0x3F80_0000 ∷ [])) (floats (b ∷ [])) (floats (0x3F80_0000 ∷ []))
+
+insides : map inside (0x3F00_0000 ∷ 0x3FC0_0000 ∷ 0x3EFF_FFFF ∷ 0x3FC0_0001 ∷ 0x7FC0_0000 ∷ []) ≡ true ∷ true ∷ false ∷ false ∷ true ∷ []
+unfolding withinUnertaintyBox some outsideAt outside ofBits Ieee.mul Ieee.add Ieee.sub Ieee.lt
+insides = refl
+
+-- Weight and total: none of none, 1 of 10 and 26 of 256 are enough; none of one, 1 of 11 and 25 of 256 are not.
+supports :
+    supported 0 0 ∷ supported 1 10 ∷ supported 26 256 ∷ supported 0 1 ∷ supported 1 11 ∷ supported 25 256 ∷ []
+    ≡ true ∷ true ∷ true ∷ false ∷ false ∷ false ∷ []
+unfolding supported ofBits Ieee.mul Ieee.ofInt Ieee.le
+supports = refl
+
+-- No neighbours at all, of any dimension from 1 on.
+unpeopled : (box point : List Float) (start : ℕ) (scale : List Float) → explainedByConditionalField box point start scale [] 3 ≡ true
+unfolding explainedByConditionalField wholePoints count supported ofBits Ieee.mul Ieee.ofInt Ieee.le
+unpeopled box point start scale = refl
+
+-- Two rows of two, 1, 5 and 3, 1: the path gaps are 2 and 4. With scale 1, shift 0 and deviations 3 and 1 the edges are 3 and 4.
+edges :
+    map (toBits binary32)
+    (uncertaintyBox
+    (floats (0x3F80_0000 ∷ 0x40A0_0000 ∷ 0x4040_0000 ∷ 0x3F80_0000 ∷ []))
+    0
+    (floats (0x3F80_0000 ∷ 0x3F80_0000 ∷ []))
+    (floats (0 ∷ 0 ∷ []))
+    (floats (0x4040_0000 ∷ 0x3F80_0000 ∷ []))
+    false
+    (floats (0 ∷ 0 ∷ [])))
+    ≡ 0x4040_0000 ∷ 0x4080_0000 ∷ []
+unfolding uncertaintyBox listed edgeAt edgeOf pathDeviation pathLoop pathMean pathStep absf32 maxf32 ofBits toBits Ieee.add Ieee.sub Ieee.mul Ieee.div Ieee.ofInt Ieee.lt
+edges = refl
+
+-- A lone coordinate at 0.001 is on its precision line and gives 0; the next number gives 1, also with a deviation of NaN.
+abbrev pass : ℕ → ℕ → ℕ
+pass deviation b = toBits binary32 (centeredTransformPass 1 (floats (0x3F80_0000 ∷ [])) (floats (0 ∷ [])) (floats (deviation ∷ [])) (floats (b ∷ [])))
+
+passes : pass 0 0x3A83_126F ∷ pass 0 0x3A83_1270 ∷ pass 0x7FC0_0000 0xBA83_1270 ∷ [] ≡ 0 ∷ 0x3F80_0000 ∷ 0x3F80_0000 ∷ []
+unfolding centeredTransformPass passable noisePass noiseLoop noiseStep some overAt overLine absf32 maxf32 minf32 ofBits toBits Ieee.neg Ieee.add Ieee.mul Ieee.div Ieee.lt
+passes = refl

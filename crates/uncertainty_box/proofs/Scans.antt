@@ -1,0 +1,88 @@
+-- A loop's step for each of `some`, `count` and `listed`, for any function of the place. Assumes nothing.
+use mathlib.Core.Path.{_≡_, refl, sym, ap, ap₂, _∙_}
+use mathlib.Core.Bool.{Bool, true, false, cond, _||_, or-true}
+use mathlib.Core.List.{List, [], _∷_, _++_}
+use mathlib.Core.Logic.{⊎-elim}
+use Prim.Native.Nat.{ℕ, zero, suc, _+_, _<_, _≤_}
+use native.Mathlib.Nat.{not-suc-le-zero, le-of-suc-le-suc, eq-or-lt-of-le}
+use native.Mathlib.Numerals.{add-one}
+use native.Mathlib.Omega.{arith}
+use lib.ListN.{length, getD, set, take, length-append, List·getD-append}
+use lib.Seq.{take-suc-set, take-all, getD-at}
+use lib.Ieee.{Float}
+use Rattle.uncertainty_box.specs.Scan.{some, count, listed}
+
+module _ (f : ℕ → Bool) where
+  -- A place where f holds settles it, whatever the other places are.
+  pub some-at : (n y : ℕ) → y < n → f y ≡ true → some n f ≡ true
+  unfolding some
+  some-at zero y h e = absurd (not-suc-le-zero h)
+  some-at (suc n) y h e = ⊎-elim
+      (λ q. ap (λ (b : Bool). some n f || b) (sym (ap f q) ∙ e) ∙ or-true (some n f))
+      (λ l. ap (λ (b : Bool). b || f n) (some-at n y l e))
+      (eq-or-lt-of-le (le-of-suc-le-suc h))
+
+  -- One place more where it does not hold.
+  pub some-not : (y : ℕ) → some y f ≡ false → f y ≡ false → some (y + 1) f ≡ false
+  unfolding some
+  some-not y e h = rw (add-one, e, h)
+
+  pub count-next : (k w r : ℕ) (b : Bool) → w ≡ count k f → b ≡ f k → r ≡ cond b (w + 1) w → r ≡ count (k + 1) f
+  unfolding count
+  count-next k w r b ew eb er = er ∙ ap₂ (λ (t : Bool) (n : ℕ). cond t (n + 1) n) eb ew ∙ ap (λ (n : ℕ). count n f) (sym (add-one k))
+
+  pub count-le : (n : ℕ) → count n f ≤ n
+  unfolding count
+  count-le zero = omega arith
+  count-le (suc n) = bumped (f n) (count n f) n (count-le n)
+    where
+      bumped : (b : Bool) (w n : ℕ) → w ≤ n → cond b (w + 1) w ≤ suc n
+      bumped true w n h = omega arith
+      bumped false w n h = omega arith
+
+-- The scan that stops at the first place where f holds.
+unfoldable pub early : ℕ → (ℕ → Bool) → Bool
+early zero f = false
+early (suc n) f = cond (f 0) true (early n (λ i. f (suc i)))
+
+some-front : (n : ℕ) (f : ℕ → Bool) → some (suc n) f ≡ cond (f 0) true (some n (λ i. f (suc i)))
+unfolding some
+some-front zero f = bare (f 0)
+  where
+    bare : (b : Bool) → b ≡ cond b true false
+    bare true = refl
+    bare false = refl
+some-front (suc n) f = ap (λ (b : Bool). b || f (suc n)) (some-front n f) ∙ moved (f 0) (some n (λ i. f (suc i))) (f (suc n))
+  where
+    moved : (a b c : Bool) → (cond a true b || c) ≡ cond a true (b || c)
+    moved true b c = refl
+    moved false b c = refl
+
+-- It says what the full scan says.
+pub some-early : (n : ℕ) (f : ℕ → Bool) → some n f ≡ early n f
+unfolding some early
+some-early zero f = refl
+some-early (suc n) f = some-front n f ∙ ap (cond (f 0) true) (some-early n (λ i. f (suc i)))
+
+module _ (f : ℕ → Float) where
+  pub listed-length : (n : ℕ) → length (listed n f) ≡ n
+  unfolding listed
+  listed-length zero = refl
+  listed-length (suc n) = length-append (listed n f) (f n ∷ []) ∙ rw (listed-length n, add-one)
+
+  -- The element at each place.
+  pub listed-at : (n y : ℕ) (d : Float) → y < n → getD (listed n f) y d ≡ f y
+  unfolding listed
+  listed-at zero y d h = absurd (not-suc-le-zero h)
+  listed-at (suc n) y d h = ⊎-elim
+      (λ q. ap (λ (i : ℕ). getD (listed n f ++ (f n ∷ [])) i d) q ∙ getD-at (listed n f) (f n) [] d n (listed-length n) ∙ sym (ap f q))
+      (λ l. List·getD-append (listed n f) (f n ∷ []) d y (omega (arith, listed-length n)) ∙ listed-at n y d l)
+      (eq-or-lt-of-le (le-of-suc-le-suc h))
+
+  -- A store at the next place.
+  pub listed-next : (out : List Float) (y : ℕ) (v : Float) → take y out ≡ listed y f → y < length out → v ≡ f y → take (y + 1) (set out y v) ≡ listed (y + 1) f
+  unfolding listed
+  listed-next out y v e h q = rw add-one (take-suc-set out y v h ∙ ap₂ (λ (l : List Float) (x : Float). l ++ (x ∷ [])) e q)
+
+  pub listed-all : (out : List Float) (y : ℕ) → take y out ≡ listed y f → length out ≡ y → out ≡ listed y f
+  listed-all out y e h = sym (take-all y out (omega arith)) ∙ e

@@ -1,0 +1,4 @@
+pub mod Const
+pub mod Scan
+pub mod Box
+pub mod Pass

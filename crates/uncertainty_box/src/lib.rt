@@ -1,0 +1,276 @@
+// predictorcorrector.rs: the uncertainty box around a point, and what lies within it.
+ghost use mathlib.Core.Path.{_≡_};
+ghost use mathlib.Core.Bool.{cond};
+ghost use Prim.Native.Nat.{ℕ, _+_, _-_, _≤_, _<_, _%_};
+ghost use Rattle.uncertainty_box.specs.Box as Box;
+ghost use Rattle.uncertainty_box.specs.Pass as Pass;
+
+// How many of len places are left from start on.
+fn left(len: usize, start: usize) -> usize
+    ensures { λ r. ⌜ r ≡ len - start ⌝ }
+{
+    if start < len { len - start } else { 0 }
+}
+
+// Whether the scaled coordinate of p is strictly beyond an edge around that of q.
+fn outside(edge: f32, scale: f32, p: f32, q: f32) -> bool
+    ensures { λ r. ⌜ r ≡ Box.outside edge scale p q ⌝ }
+{
+    let a = scale * p;
+    let b = scale * q;
+    if a < b - edge {
+        return true;
+    }
+    a > b + edge
+}
+
+// Whether the other point's box has the point within it. The first coordinate outside settles it.
+pub fn within_unertainty_box(
+    uncertainty_box: &[f32],
+    start_position: usize,
+    scale: &[f32],
+    point: &[f32],
+    other_point: &[f32],
+) -> bool
+    ensures { λ r. ⌜ r ≡ Box.withinUnertaintyBox
+        (now («uncertainty_box» .entry)) «start_position» (now (scale .entry))
+        (now (point .entry)) (now («other_point» .entry)) ⌝ }
+{
+    if scale.len() < uncertainty_box.len() {
+        return false;
+    }
+    if left(point.len(), start_position) < uncertainty_box.len() {
+        return false;
+    }
+    if left(other_point.len(), start_position) < uncertainty_box.len() {
+        return false;
+    }
+    let mut y = 0usize;
+    while y < uncertainty_box.len() {
+        let at = start_position + y;
+        if outside(uncertainty_box[y], scale[y], point[at], other_point[at]) {
+            return false;
+        }
+        y += 1;
+    }
+    true
+}
+
+// What one row adds to the variation.
+fn path_step(differenced: bool, here: f32, next: f32) -> f32
+    ensures { λ r. ⌜ r ≡ Box.pathStep differenced here next ⌝ }
+{
+    if differenced {
+        return util::absf32(here);
+    }
+    util::absf32(here - next)
+}
+
+fn path_mean(variation: f32, observation: u32) -> f32
+    ensures { λ r. ⌜ r ≡ Box.pathMean variation observation ⌝ }
+{
+    if observation == 0 {
+        return 0.0;
+    }
+    variation / std::num::nearest_u32_to_f32(observation)
+}
+
+// The mean variation of one coordinate from a row on.
+pub fn calculate_path_deviation(
+    point: &[f32],
+    start_position: usize,
+    index: usize,
+    base_dimension: usize,
+    differenced: bool,
+) -> f32
+    ensures { λ r. ⌜ r ≡ Box.pathDeviation
+        (now (point .entry)) «start_position» index «base_dimension» differenced ⌝ }
+{
+    if base_dimension == 0 {
+        return 0.0;
+    }
+    if point.len() > 65536 {
+        return 0.0;
+    }
+    if left(left(point.len(), start_position), index) == 0 {
+        return 0.0;
+    }
+    let mut here = start_position + index;
+    let mut variation = 0.0f32;
+    let mut observation = 0u32;
+    while base_dimension < point.len() - here {
+        let next = here + base_dimension;
+        variation = variation + path_step(differenced, point[here], point[next]);
+        here = next;
+        observation += 1;
+    }
+    path_mean(variation, observation)
+}
+
+// An edge of the box.
+fn edge(scale: f32, path_gap: f32, shift: f32, deviation: f32) -> f32
+    ensures { λ r. ⌜ r ≡ Box.edgeOf scale «path_gap» shift deviation ⌝ }
+{
+    let shift_amount = 1e-3 * scale * util::absf32(shift);
+    let noise_gap = 1.0 * deviation;
+    util::maxf32(scale * path_gap, noise_gap) + shift_amount
+}
+
+// The box around a point, an edge for each element of out.
+pub fn construct_uncertainty_box(
+    point: &[f32],
+    start_position: usize,
+    scale: &[f32],
+    shift: &[f32],
+    difference_deviations: &[f32],
+    differenced: bool,
+    out: &mut [f32],
+)
+    ensures { λ _. ⌜ now (out .exit) ≡ Box.uncertaintyBox
+        (now (point .entry)) «start_position» (now (scale .entry)) (now (shift .entry))
+        (now («difference_deviations» .entry)) differenced (now (out .entry)) ⌝ }
+{
+    let base_dimension = out.len();
+    if scale.len() < base_dimension {
+        return;
+    }
+    if shift.len() < base_dimension {
+        return;
+    }
+    if difference_deviations.len() < base_dimension {
+        return;
+    }
+    let mut y = 0usize;
+    while y < base_dimension {
+        let path_gap = calculate_path_deviation(
+            point,
+            start_position,
+            y,
+            base_dimension,
+            differenced,
+        );
+        out[y] = edge(scale[y], path_gap, shift[y], difference_deviations[y]);
+        y += 1;
+    }
+}
+
+// One more where the answer is yes.
+fn bump(weight: u32, yes: bool) -> u32
+    requires { ⌜ weight ≤ 65536 ⌝ }
+    ensures { λ r. ⌜ r ≡ cond yes (weight + 1) weight ⌝ }
+{
+    if yes {
+        return weight + 1;
+    }
+    weight
+}
+
+// weight >= 0.1 * total
+fn supported(weight: u32, total: u32) -> bool
+    ensures { λ r. ⌜ r ≡ Box.supported weight total ⌝ }
+{
+    std::num::nearest_u32_to_f32(weight) >= 0.1 * std::num::nearest_u32_to_f32(total)
+}
+
+// Whether enough of the neighbours have the point within their box.
+pub fn explained_by_conditional_field(
+    uncertainty_box: &[f32],
+    point: &[f32],
+    start_position: usize,
+    scale: &[f32],
+    neighbours: &[f32],
+    dimension: usize,
+) -> bool
+    ensures { λ r. ⌜ r ≡ Box.explainedByConditionalField
+        (now («uncertainty_box» .entry)) (now (point .entry)) «start_position»
+        (now (scale .entry)) (now (neighbours .entry)) dimension ⌝ }
+{
+    if dimension == 0 {
+        return false;
+    }
+    let total = neighbours.len() / dimension;
+    if total > 65536 {
+        return false;
+    }
+    if total * dimension != neighbours.len() {
+        return false;
+    }
+    let mut weight = 0u32;
+    let mut at = 0usize;
+    let mut k = 0usize;
+    while k < total {
+        let end = at + dimension;
+        let other = &neighbours[at..end];
+        let within = within_unertainty_box(uncertainty_box, start_position, scale, point, other);
+        weight = bump(weight, within);
+        at = end;
+        k += 1;
+    }
+    supported(weight, total as u32)
+}
+
+// Whether a coordinate is over its precision line.
+fn over_line(coordinate: f32, scale: f32, shift: f32) -> bool
+    ensures { λ r. ⌜ r ≡ Pass.overLine coordinate scale shift ⌝ }
+{
+    util::absf32(coordinate) * scale > 1e-3 * (1.0 + util::absf32(shift))
+}
+
+fn passable(base: usize, scales: usize, shifts: usize, deviations: usize, points: usize) -> bool
+    ensures { λ r. ⌜ r ≡ Pass.passable base scales shifts deviations points ⌝ }
+{
+    if base == 0 {
+        return false;
+    }
+    if scales < base {
+        return false;
+    }
+    if shifts < base {
+        return false;
+    }
+    if deviations < base {
+        return false;
+    }
+    base <= points
+}
+
+// The place in the row of the coordinate that follows one at place y.
+fn next_in_row(y: usize, base: usize) -> usize
+    requires { ⌜ y < base ⌝ }
+    ensures { λ r. ⌜ (r < base) × (r ≡ (y + 1) % base) ⌝ }
+{
+    if y + 1 < base { y + 1 } else { 0 }
+}
+
+// 1 where a coordinate is over its precision line, else 0. The first one over it settles it, and the deviations change nothing.
+pub fn centered_transform_pass(
+    base_dimension: usize,
+    scale: &[f32],
+    shift: &[f32],
+    difference_deviations: &[f32],
+    point: &[f32],
+) -> f32
+    ensures { λ r. ⌜ r ≡ Pass.centeredTransformPass
+        «base_dimension» (now (scale .entry)) (now (shift .entry))
+        (now («difference_deviations» .entry)) (now (point .entry)) ⌝ }
+{
+    if !passable(
+        base_dimension,
+        scale.len(),
+        shift.len(),
+        difference_deviations.len(),
+        point.len(),
+    ) {
+        return 0.0;
+    }
+    let mut i = 0usize;
+    let mut y = 0usize;
+    while i < point.len() {
+        if over_line(point[i], scale[y], shift[y]) {
+            return 1.0;
+        }
+        i += 1;
+        y = next_in_row(y, base_dimension);
+    }
+    0.0
+}

@@ -1,0 +1,37 @@
+include!("../../../../target/oracle/sources/crates/rcflib/src/trcf/predictorcorrector.rs");
+
+use crate::trcf::basicthresholder::Numbers;
+
+/// The state of the whole chain; its most attributors are always 5 and are left out.
+#[derive(Clone, Debug)]
+pub struct State {
+    pub basic_thresholder: Numbers,
+    pub auto_adjust: bool,
+    pub run_length: usize,
+    pub deviations_actual: Vec<Deviation>,
+    pub deviations_expected: Vec<Deviation>,
+}
+
+impl PredictorCorrector {
+    pub fn state(&self) -> State {
+        assert_eq!(self.max_attributors, DEFAULT_NUMBER_OF_MAX_ATTRIBUTORS);
+        State {
+            basic_thresholder: self.basic_thresholder.numbers(),
+            auto_adjust: self.auto_adjust,
+            run_length: self.run_length,
+            deviations_actual: self.deviations_actual.clone(),
+            deviations_expected: self.deviations_expected.clone(),
+        }
+    }
+
+    pub fn of_state(s: State) -> Self {
+        PredictorCorrector {
+            basic_thresholder: BasicThresholder::of_numbers(s.basic_thresholder),
+            auto_adjust: s.auto_adjust,
+            run_length: s.run_length,
+            deviations_actual: s.deviations_actual,
+            deviations_expected: s.deviations_expected,
+            max_attributors: DEFAULT_NUMBER_OF_MAX_ATTRIBUTORS,
+        }
+    }
+}

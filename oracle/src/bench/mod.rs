@@ -1,0 +1,11 @@
+//! Times ours against the Rust, in one run and on the same inputs.
+
+mod numbers;
+mod timing;
+
+use crate::random::Random;
+
+pub fn run(random: &mut Random) {
+    timing::heading();
+    numbers::run(random);
+}

@@ -1,0 +1,54 @@
+//! How a call is timed: the best of many rounds, ours and the Rust's taking turns.
+
+use std::hint::black_box;
+use std::time::Instant;
+
+const ROUNDS: usize = 500;
+
+/// The time of one call in ns, from a pass over all inputs.
+fn pass(calls: usize, work: impl FnOnce()) -> f64 {
+    let start = Instant::now();
+    work();
+    start.elapsed().as_nanos() as f64 / calls as f64
+}
+
+/// Calls that do not wait for each other.
+pub fn apart<A: Copy, B>(inputs: &[A], f: impl Fn(A) -> B) -> f64 {
+    pass(inputs.len(), || {
+        for &x in inputs {
+            black_box(f(black_box(x)));
+        }
+    })
+}
+
+/// Calls that each wait for the one before: `join` makes the next argument of an input and the
+/// last answer.
+pub fn chained<A: Copy, B: Copy>(
+    inputs: &[A],
+    first: B,
+    join: impl Fn(A, B) -> A,
+    f: impl Fn(A) -> B,
+) -> f64 {
+    pass(inputs.len(), || {
+        let mut last = first;
+        for &x in inputs {
+            last = f(join(black_box(x), last));
+        }
+        black_box(last);
+    })
+}
+
+pub fn heading() {
+    println!("best of {ROUNDS} rounds, ns a call");
+    println!("{:<28} {:>9} {:>9} {:>9}", "", "ours", "rust", "ratio");
+}
+
+/// Prints the best times of the two sides.
+pub fn against(what: &str, ours: impl Fn() -> f64, rust: impl Fn() -> f64) {
+    let (mut a, mut b) = (f64::INFINITY, f64::INFINITY);
+    for _ in 0..ROUNDS {
+        a = a.min(ours());
+        b = b.min(rust());
+    }
+    println!("{what:<28} {a:>9.2} {b:>9.2} {:>9.2}", a / b);
+}

@@ -1,0 +1,79 @@
+//! Compares our library with the Rust, bit for bit. See `run` for its use.
+
+mod bench;
+mod bytes;
+mod ours;
+mod parts;
+mod random;
+mod readings;
+mod refusals;
+mod same;
+mod statistics;
+mod tally;
+mod values;
+
+use std::process::ExitCode;
+
+use parts::PARTS;
+use random::Random;
+use tally::Tally;
+
+/// The seed where none is given.
+const SEED: u64 = 20_260_622;
+
+/// What the command line asks for.
+struct Wanted {
+    seed: u64,
+    parts: Vec<String>,
+}
+
+fn wanted() -> Result<Wanted, String> {
+    let mut wanted = Wanted {
+        seed: SEED,
+        parts: Vec::new(),
+    };
+    for word in std::env::args().skip(1) {
+        if let Some(number) = word.strip_prefix("seed=") {
+            wanted.seed = number.parse().map_err(|_| format!("no seed: {number}"))?;
+        } else if word == "bench" || PARTS.iter().any(|p| p.name == word) {
+            wanted.parts.push(word);
+        } else {
+            let names: Vec<&str> = PARTS.iter().map(|p| p.name).collect();
+            return Err(format!("no part {word}; parts: {} bench", names.join(" ")));
+        }
+    }
+    if wanted.parts.is_empty() {
+        wanted.parts = PARTS.iter().map(|p| p.name.to_string()).collect();
+    }
+    Ok(wanted)
+}
+
+/// Runs one part and says how many of its cases differ. Every part starts from the seed, so that it
+/// has the same cases alone and among others.
+fn run(name: &str, seed: u64) -> u64 {
+    if name == "bench" {
+        bench::run(&mut Random::new(seed));
+        return 0;
+    }
+    let part = PARTS.iter().find(|p| p.name == name).expect("a known part");
+    let mut tally = Tally::new(part.name);
+    (part.compare)(&mut tally, &mut Random::new(seed));
+    tally.report()
+}
+
+fn main() -> ExitCode {
+    let wanted = match wanted() {
+        Ok(wanted) => wanted,
+        Err(why) => {
+            eprintln!("oracle: {why}");
+            return ExitCode::from(2);
+        }
+    };
+    println!("seed {}", wanted.seed);
+    let differing: u64 = wanted.parts.iter().map(|p| run(p, wanted.seed)).sum();
+    if differing == 0 {
+        ExitCode::SUCCESS
+    } else {
+        ExitCode::FAILURE
+    }
+}

@@ -1,0 +1,31 @@
+//! The parts of the comparison. A new one is a file here and a line in the list.
+
+mod conversions;
+mod deviation;
+mod floor;
+mod narrow;
+mod root;
+mod standin;
+mod util;
+
+use crate::random::Random;
+use crate::tally::Tally;
+
+pub struct Part {
+    pub name: &'static str,
+    pub compare: fn(&mut Tally, &mut Random),
+}
+
+const fn part(name: &'static str, compare: fn(&mut Tally, &mut Random)) -> Part {
+    Part { name, compare }
+}
+
+pub const PARTS: &[Part] = &[
+    part("floor", floor::compare),
+    part("narrow", narrow::compare),
+    part("root", root::compare),
+    part("conversions", conversions::compare),
+    part("util", util::compare),
+    part("deviation", deviation::compare),
+    part("standin", standin::compare),
+];
