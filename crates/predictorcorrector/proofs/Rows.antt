@@ -1,13 +1,18 @@
 -- One step more of `stepped` and `changed`, as a loop takes it: a store at the next place. Lengths stay. Assumes nothing.
-use mathlib.Core.Path.{_≡_, refl, ap, _∙_, sym}
-use mathlib.Core.Bool.{Bool, true, _&&_}
+use mathlib.Core.Path.{_≡_, refl, ap, ap₂, _∙_, sym}
+use mathlib.Core.Bool.{Bool, true, false, cond, _&&_}
 use mathlib.Core.List.{List, [], _∷_}
-use Prim.Native.Nat.{ℕ, zero, suc, _<_, _+_}
+use Prim.Native.Nat.{ℕ, zero, suc, _<_, _≤_, _+_, _-_, zero-le}
 use native.Mathlib.Nat.{not-suc-le-zero, le-of-suc-le-suc}
 use native.Mathlib.Numerals.{add-one}
-use lib.ListN.{length, getD, set}
+use native.Mathlib.Omega.{arith}
+use lib.ListN.{length, getD, set, drop}
+use lib.Seq.{drop-cons}
 use lib.Ieee.{Float}
-use Rattle.predictorcorrector.specs.Lists.{stepped, changed}
+use Rattle.deviation.specs.Statistics.{countable}
+use Rattle.deviation.specs.declared.Deviation.{Deviation}
+use Rattle.predictorcorrector.specs.Lists.{stepped, changed, firstCountable}
+use Rattle.predictorcorrector.specs.State.{existing}
 
 module _ {A : Type 0} (f : A → Float → A) where
   pub stepped-length : (n : ℕ) (ds : List A) (xs : List Float) → length (stepped f n ds xs) ≡ length ds
@@ -54,3 +59,31 @@ module _ {A : Type 0} (f : A → A) where
       ∙ ap (λ (l : List A). set l i (f (getD l i d₀))) eo
       ∙ changed-next i ds d₀ h
       ∙ ap (λ (n : ℕ). changed f n ds) (sym (add-one i))
+
+one-less : (n i : ℕ) → i < n → n - i ≡ suc (n - (i + 1))
+one-less n i h = let e : n - i ≡ n - (i + 1) + 1 = omega arith in e ∙ add-one (n - (i + 1))
+
+-- What is left of the counts' test at place i.
+pub countable-next : (n i : ℕ) (ds : List Deviation) (d₀ : Deviation) → i < n → i < length ds
+    → firstCountable (n - i) (drop i ds) ≡ (countable (getD ds i d₀ .count) && firstCountable (n - (i + 1)) (drop (i + 1) ds))
+unfolding firstCountable
+countable-next n i ds d₀ h k = ap₂ firstCountable (one-less n i h) (drop-cons ds i d₀ k ∙ ap (λ (m : ℕ). getD ds i d₀ ∷ drop m ds) (sym (add-one i)))
+
+pub countable-end : (n i : ℕ) (ds : List Deviation) → n ≤ i → firstCountable (n - i) (drop i ds) ≡ true
+unfolding firstCountable
+countable-end n i ds h = let e : n - i ≡ 0 = omega arith in ap (λ (m : ℕ). firstCountable m (drop i ds)) e
+
+pub existing-most : (auto : Bool) (base : ℕ) → base ≤ 16 → existing auto base ≤ 16
+existing-most true base h = h
+existing-most false base h = zero-le
+
+-- What a `cond` picks by two tests.
+module _ {A : Type 0} {s t : Bool} (a b : A) where
+  pub picked-both : s ≡ true → t ≡ true → a ≡ cond (s && t) a b
+  picked-both h k = rw (h, k)
+
+  pub passed-second : s ≡ true → t ≡ false → b ≡ cond (s && t) a b
+  passed-second h k = rw (h, k)
+
+pub passed-first : {A : Type 0} {s : Bool} (t : Bool) (a b : A) → s ≡ false → b ≡ cond (s && t) a b
+passed-first t a b h = rw h

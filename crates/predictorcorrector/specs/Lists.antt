@@ -34,3 +34,7 @@ unfoldable pub firstCountable : ℕ → List Deviation → Bool
 firstCountable zero ds = true
 firstCountable (suc n) [] = true
 firstCountable (suc n) (d ∷ ds) = countable (d .count) && firstCountable n ds
+
+-- At most 16 of them.
+unfoldable pub listCountable : ℕ → List Deviation → Bool
+listCountable n ds = firstCountable (cond (leb n 16) n 16) ds

@@ -16,7 +16,7 @@ use Rattle.deviation.specs.declared.Deviation.{Deviation}
 use Rattle.basicthresholder.specs.Const.{zero32}
 use Rattle.basicthresholder.specs.Updates.{freshThresholder, countsOk, primaryCounted, cappedCounted, withZFactor, withAbsoluteThreshold, withInitialThreshold, horizonAnswer, horizonSet}
 use Rattle.basicthresholder.specs.declared.BasicThresholder.{BasicThresholder}
-use Rattle.predictorcorrector.specs.Lists.{changed, rowCounted, rowReset, firstCountable}
+use Rattle.predictorcorrector.specs.Lists.{changed, rowCounted, rowReset, listCountable}
 use Rattle.predictorcorrector.specs.declared.PredictorCorrector.{PredictorCorrector}
 use Rattle.predictorcorrector.specs.declared.Changed.{Changed}
 
@@ -51,15 +51,16 @@ unfoldable pub freshState : Float → Bool → ℕ → PredictorCorrector
 freshState d auto base =
     state (freshThresholder d false) auto 0 base (freshList d (existing auto base)) (freshList d (existing auto base))
 
--- Refusal 1, then refusal 2 for a base outside 1 to 16.
-unfoldable pub newAnswer : Float → ℕ → Answer
-newAnswer d base = cond (isDiscount d) (cond (leb 1 base && leb base 16) Done (Refused Range)) (Refused Discount)
-
 -- What stands beside a refused construction's answer: the new state of discount 0, base 1, without auto adjust. No call hands it on.
+unfoldable pub refusedNew : Answer → Changed
+refusedNew why = record { answer = why; state = freshState zero64 false 1 }
+
+-- Refusal 1, then refusal 2 for a base outside 1 to 16.
 unfoldable pub new : Float → Bool → ℕ → Changed
 new d auto base =
-    cond (isDiscount d && (leb 1 base && leb base 16)) (record { answer = Done; state = freshState d auto base })
-    (record { answer = newAnswer d base; state = freshState zero64 false 1 })
+    cond (isDiscount d)
+    (cond (leb 1 base && leb base 16) (record { answer = Done; state = freshState d auto base }) (refusedNew (Refused Range)))
+    (refusedNew (Refused Discount))
 
 -- ---- setters
 abbrev pub zFactorSet : PredictorCorrector → Float → PredictorCorrector
@@ -85,8 +86,8 @@ unfoldable pub stateCountsOk : PredictorCorrector → Bool
 stateCountsOk s =
     leb (s .«run_length») 16777215
     && (countsOk (s .«basic_thresholder»)
-    && (firstCountable (existing (s .«auto_adjust») (s .«base_dimension»)) (s .«deviations_actual»)
-    && firstCountable (existing (s .«auto_adjust») (s .«base_dimension»)) (s .«deviations_expected»)))
+    && (listCountable (existing (s .«auto_adjust») (s .«base_dimension»)) (s .«deviations_actual»)
+    && listCountable (existing (s .«auto_adjust») (s .«base_dimension»)) (s .«deviations_expected»)))
 
 -- ---- what a reading does
 -- One more, up to 16,777,216.

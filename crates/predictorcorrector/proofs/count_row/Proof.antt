@@ -54,7 +54,7 @@ loop-less : tie.Need-loop-less Inv-loop μ-loop
 loop-less c = search needs
 
 loop-again : tie.Need-loop-again Inv-loop μ-loop
-loop-again c = 
+loop-again c =
     let i = c .before .before .before .before .before .loop .i in
     let long : length (c .before .before .before .before .before .before .before .args .list) ≡ 16 = search needs in (
       omega arith,
