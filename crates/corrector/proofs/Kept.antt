@@ -1,0 +1,101 @@
+-- For callers: what the expected and the corrected point keep of the point, and that sizes which fit are taken. Assumes nothing.
+use mathlib.Core.Path.{_≡_, refl, _∙_}
+use mathlib.Core.Bool.{Bool, true, false, cond, not, _||_}
+use mathlib.Core.Logic.{_⊎_, inl, inr}
+use mathlib.Core.List.{List}
+use Prim.Native.Nat.{ℕ, zero, suc, _+_, _*_, _<_, _≤_, _-_}
+use native.Mathlib.Nat.{mul-le-mul-right, le-of-lt}
+use native.Mathlib.Omega.{arith}
+use lib.ListN.{length, getD, set, length-append, length-drop, length-set}
+use lib.Seq.{getD-set-other}
+use lib.Dec.{ltb, eqb}
+use lib.IntN.{ℤ}
+use borrow.Author.Tests.{eqb-true, eq-eqb, le-leb, lt-ltb, ltb-true}
+use lib.Ieee.{Float, nan}
+use Rattle.corrector.specs.Corrector.{forUpTo, reaches, attributors, attributionLimit, fewEnough, predicted, expectedPoint, expectedFits, triggerFits, pointRefusal, correctorFits, shifted, amendedRow, amended, isZero, applyBasicCorrector}
+use Rattle.corrector.specs.Steps.{Expecting, Triggering, Accepted, Correcting}
+
+-- What every step keeps, the loop keeps.
+pub for-keeps : {A B : Type 0} (f : A → B) (step : A → ℕ → A) (a : A) (n : ℕ) → ((s : A) (i : ℕ) → i < n → f (step s i) ≡ f s) → f (forUpTo step a n) ≡ f a
+unfolding forUpTo
+for-keeps f step a zero h = refl
+for-keeps f step a (suc n) h = h (forUpTo step a n) n (omega arith) ∙ for-keeps f step a n (λ s i l. h s i (omega arith))
+
+-- What a store keeps, one that may not be made keeps.
+cond-keeps : {A B : Type 0} (f : A → B) (t : Bool) (x y : A) → f x ≡ f y → f (cond t x y) ≡ f y
+cond-keeps f true x y e = e
+cond-keeps f false x y e = refl
+
+module _ (high low : List Float) (position base : ℕ) (point median : List Float) where
+  -- Whatever stores in the row at position keep is the point's in the expected point.
+  pub expected-keeps : {B : Type 0} (f : List Float → B) → ((l : List Float) (i : ℕ) (x : Float) → i < base → f (set l (position + i) x) ≡ f l) → f (expectedPoint high low position base point median) ≡ f point
+  unfolding expectedPoint predicted
+  expected-keeps f h = by-base (eqb base 1) refl
+    where
+      by-base : (t : Bool) → eqb base 1 ≡ t → f (cond t (cond (fewEnough 1 (length point)) (set point position (getD median position nan)) point) (cond (fewEnough (attributors high low (attributionLimit high low position base) position base) (length point)) (predicted high low (attributionLimit high low position base) position base point median) point)) ≡ f point
+      by-base true e =
+          let one = eqb-true base 1 e in
+          let here : position + 0 ≡ position = omega arith in
+          cond-keeps f (fewEnough 1 (length point)) _ _ (rw here at (h point 0 (getD median position nan) (omega arith)))
+      by-base false e =
+          cond-keeps f (fewEnough (attributors high low (attributionLimit high low position base) position base) (length point)) _ _
+          (for-keeps f _ point base (λ s i l. cond-keeps f (reaches high low (attributionLimit high low position base) (position + i)) _ _ (h s i _ l)))
+
+  pub expected-length : length (expectedPoint high low position base point median) ≡ length point
+  expected-length = expected-keeps length (λ l i x h. length-set l (position + i) x)
+
+  -- Outside the row at position the expected point is the point.
+  pub expected-outside : (j : ℕ) (d : Float) → (j < position) ⊎ (position + base ≤ j) → getD (expectedPoint high low position base point median) j d ≡ getD point j d
+  expected-outside j d h = expected-keeps (λ (l : List Float). getD l j d) (λ l i x b. getD-set-other l (position + i) j x d (apart i b h))
+    where
+      apart : (i : ℕ) → i < base → (j < position) ⊎ (position + base ≤ j) → j ≡ position + i → ⊥
+      apart i b (inl q) e = omega arith
+      apart i b (inr q) e = omega arith
+
+amended-length : (l expected anomalous : List Float) (gap base : ℕ) (u t : Bool) → length (amended l expected anomalous gap base u t) ≡ length l
+unfolding amended amendedRow
+amended-length l expected anomalous gap base true t = for-keeps length _ l base (λ s i h. length-set s _ _)
+amended-length l expected anomalous gap base false true = length-set l _ _
+amended-length l expected anomalous gap base false false = refl
+
+module _ (point expected anomalous : List Float) (gap shingle base : ℕ) (z : ℤ) (u t : Bool) where
+  -- The corrected point is as long as the point.
+  pub corrected-length : (h : Bool) → length point ≡ shingle * base → (h ≡ true → length expected ≡ length point) → length (applyBasicCorrector point gap shingle base h expected anomalous z u t) ≡ length point
+  unfolding applyBasicCorrector shifted
+  corrected-length h l e = by-gap (ltb shingle gap) h e
+    where
+      started : (b : Bool) → ltb gap shingle ≡ b → length expected ≡ length point → length (cond b (shifted point expected (gap * base)) point) ≡ length point
+      started true q w =
+          let m = mul-le-mul-right base (le-of-lt (ltb-true gap shingle q)) in
+          simp (length-append, length-drop) (omega arith)
+      started false q w = refl
+
+      by-gap : (b h : Bool) → (h ≡ true → length expected ≡ length point)
+          → length (cond (b || not h) point (cond (isZero z) (amended (cond (ltb gap shingle) (shifted point expected (gap * base)) point) expected anomalous gap base u t) (cond (ltb gap shingle) (shifted point expected (gap * base)) point))) ≡ length point
+      by-gap true h e = refl
+      by-gap false false e = refl
+      by-gap false true e =
+          cond-keeps length (isZero z) _ (cond (ltb gap shingle) (shifted point expected (gap * base)) point) (amended-length _ expected anomalous gap base u t)
+          ∙ started (ltb gap shingle) refl (e refl)
+
+-- Sizes with these facts fit.
+pub expects : (high low position base point median out : ℕ) → Expecting high low position base point median out → expectedFits high low position base point median out ≡ true
+unfolding expectedFits
+expects high low position base point median out f =
+    simp (eq-eqb _ _ (f .high-long), eq-eqb _ _ (f .low-long), eq-eqb _ _ (f .median-long), eq-eqb _ _ (f .out-long), lt-ltb _ _ (f .some), le-leb _ _ (f .few), le-leb _ _ (f .inside))
+
+pub triggers : (high low base idealHigh idealLow : ℕ) → Triggering high low base idealHigh idealLow → triggerFits high low base idealHigh idealLow ≡ true
+unfolding triggerFits
+triggers high low base idealHigh idealLow f =
+    simp (eq-eqb _ _ (f .low-long), eq-eqb _ _ (f .ideal-high-long), eq-eqb _ _ (f .ideal-low-long), le-leb _ _ (f .short), lt-ltb _ _ (f .some), le-leb _ _ (f .few))
+
+pub accepts : (shingle base len : ℕ) → Accepted shingle base len → pointRefusal shingle base len ≡ 0
+unfolding pointRefusal
+accepts shingle base len f =
+    simp (lt-ltb _ _ (f .some), le-leb _ _ (f .few), lt-ltb _ _ (f .wide), le-leb _ _ (f .narrow), eq-eqb _ _ (f .long))
+
+pub corrects : (point gap shingle base : ℕ) (h : Bool) (expected anomalous out : ℕ) → Correcting point gap shingle base h expected anomalous out → correctorFits point gap shingle base h expected anomalous out ≡ true
+unfolding correctorFits
+corrects point gap shingle base true expected anomalous out f =
+    simp (accepts _ _ _ (f .sizes), lt-ltb _ _ (f .later), eq-eqb _ _ (f .out-long), eq-eqb _ _ (f .expected-long refl), eq-eqb _ _ (f .anomalous-long refl))
+corrects point gap shingle base false expected anomalous out f = simp (accepts _ _ _ (f .sizes), lt-ltb _ _ (f .later), eq-eqb _ _ (f .out-long))

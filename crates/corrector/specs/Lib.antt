@@ -1,0 +1,3 @@
+pub mod Const
+pub mod Corrector
+pub mod Steps

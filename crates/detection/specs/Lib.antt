@@ -1,0 +1,3 @@
+pub mod Const
+pub mod Judging
+pub mod Judged

@@ -1,0 +1,39 @@
+use mathlib.Core.Path.{sym, _∙_}
+use native.Mathlib.Omega.{arith}
+use Rattle.divector.proofs.Laws.{done, kept, one-length}
+use borrow.Author.Needs.{needs}
+use Rattle.divector.proofs.add_to.Statement.{statement}
+use Rattle.divector.proofs.add_to.Tie as tie
+
+one-length-requires : tie.Need-one-length-requires
+one-length-requires c κs = search needs
+
+add-one-requires : tie.Need-add-one-requires
+add-one-requires c κs = let l = one-length _ _ _ _ (sym (c .before .before .one-length .ensures) ∙ c .before .if1 .taken) in omega arith
+
+add-one-requires-2 : tie.Need-add-one-requires-2
+add-one-requires-2 c κs = let l = one-length _ _ _ _ (sym (c .before .before .before .before .before .before .one-length .ensures) ∙ c .before .before .before .before .before .if1 .taken) in omega arith
+
+same-length : tie.Need-same-length
+same-length c = search needs
+
+same-length-2 : tie.Need-same-length-2
+same-length-2 c = search needs
+
+returns : tie.Need-returns
+returns c = done (sym (c .before .before .before .before .before .before .before .before .before .one-length .ensures) ∙ c .before .before .before .before .before .before .before .before .if1 .taken) (c .before .before .before .before .before .before .add-one .ensures) (c .before .before .add-one2 .ensures)
+
+returns-2 : tie.Need-returns-2
+returns-2 c = kept (sym (c .before .one-length .ensures) ∙ c .if1 .left)
+
+pub add-to-spec : {M : Type 1} → statement M
+add-to-spec =
+    tie.close
+    (tie.spec
+    one-length-requires
+    add-one-requires
+    add-one-requires-2
+    same-length
+    same-length-2
+    returns
+    returns-2)
