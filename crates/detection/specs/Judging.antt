@@ -96,6 +96,24 @@ driftWithin zero actual expected newest newestExpected noise = true
 driftWithin (suc y) actual expected newest newestExpected noise =
     nearMeans (getD actual y (fresh zero64)) (getD expected y (fresh zero64)) (getD newest y nan) (getD newestExpected y nan) (getD noise y nan)
 
+-- The state with a candidate's newest rows counted.
+unfoldable pub candidateWith : Bool → PredictorCorrector → List Float → List Float → PredictorCorrector
+candidateWith candidate s newest newestExpected = cond candidate (candidateCounted s newest newestExpected) s
+
+-- Data drift: a candidate with auto adjust whose run is longer than two, near the means of the run that it is counted in.
+unfoldable pub isDrift : Bool → PredictorCorrector → PredictorCorrector → ℕ → List Float → List Float → List Float → Bool
+isDrift candidate s counted base newest newestExpected noise =
+    candidate
+    && (s .«auto_adjust»
+    && (ltb 2 (s .«run_length»)
+    && driftWithin base (counted .«deviations_actual») (counted .«deviations_expected») newest newestExpected noise))
+
+-- `update_score`: every accepted reading but one of score 0 enters the statistics, once.
+unfoldable pub entered : PredictorCorrector → Reading → LastDescriptor → Float → PredictorCorrector
+entered s r l corrected =
+    withThresholder s
+    (scoreCounted (s .«basic_thresholder») (r .«scoring_strategy») (r .score) corrected (l .«scoring_strategy») (l .score))
+
 module _ (r : Reading) (l : LastDescriptor) (b : Lent) where
   unfoldable pub gap : ℕ
   gap = gapOf (r .«values_seen») (l .«has_anomaly») (l .anomaly .«values_seen»)
@@ -165,24 +183,18 @@ module _ (r : Reading) (l : LastDescriptor) (b : Lent) where
       cond (Ieee.eq (r .score) zero32) Skipped
       (cond (Ieee.eq (opened .grade) zero32) (Quiet (opened .threshold)) (gradedVerdict t auto (opened .threshold) (opened .grade)))
 
-  -- The state with the candidate's newest rows counted.
   unfoldable pub candidateState : PredictorCorrector → Float → PredictorCorrector
-  candidateState s threshold =
-      cond (isCandidate r l (s .«run_length») threshold) (candidateCounted s (newestOf (b .point)) (newestOf expected)) s
+  candidateState s threshold = candidateWith (isCandidate r l (s .«run_length») threshold) s (newestOf (b .point)) (newestOf expected)
 
-  -- A candidate with auto adjust whose run is longer than two, and near the run's means.
-  unfoldable pub isDrift : PredictorCorrector → Float → Bool
-  isDrift s threshold =
-      isCandidate r l (s .«run_length») threshold
-      && (s .«auto_adjust»
-      && (ltb 2 (s .«run_length»)
-      && driftWithin (r .«base_dimension») (candidateState s threshold .«deviations_actual») (candidateState s threshold .«deviations_expected») (newestOf (b .point)) (newestOf expected) (b .«difference_deviations»)))
+  unfoldable pub isDataDrift : PredictorCorrector → Float → Bool
+  isDataDrift s threshold =
+      isDrift (isCandidate r l (s .«run_length») threshold) s (candidateState s threshold) (r .«base_dimension») (newestOf (b .point)) (newestOf expected) (b .«difference_deviations»)
 
   -- What the watch says of an accepted reading.
   unfoldable pub settled : PredictorCorrector → Verdict → Verdict
   settled s (Quiet t) = Quiet t
   settled s (Corrected t m) = Corrected t m
-  settled s (Raised t g) = cond (isDrift s t) (Corrected t «DATA_DRIFT») (Raised t g)
+  settled s (Raised t g) = cond (isDataDrift s t) (Corrected t «DATA_DRIFT») (Raised t g)
   settled s Skipped = Skipped
 
   unfoldable pub verdict : PredictorCorrector → Verdict
@@ -198,17 +210,11 @@ module _ (r : Reading) (l : LastDescriptor) (b : Lent) where
   runAfterMode s threshold Modes.FORECAST = autoAdjusted s (b .point)
   runAfterMode s threshold Modes.«DATA_DRIFT» = candidateState s threshold
 
-  -- Every other accepted reading than one of score 0 enters the statistics once.
-  unfoldable pub entered : PredictorCorrector → Float → PredictorCorrector
-  entered s corrected =
-      withThresholder s
-      (scoreCounted (s .«basic_thresholder») (r .«scoring_strategy») (r .score) corrected (l .«scoring_strategy») (l .score))
-
   -- The state after a verdict.
   unfoldable pub after : PredictorCorrector → Verdict → PredictorCorrector
-  after s (Quiet t) = entered (runEnded s) (r .score)
-  after s (Corrected t m) = entered (runAfterMode s t m) (usedScore recent r)
-  after s (Raised t g) = entered (runGrown (candidateState s t)) (usedScore recent r)
+  after s (Quiet t) = entered (runEnded s) r l (r .score)
+  after s (Corrected t m) = entered (runAfterMode s t m) r l (usedScore recent r)
+  after s (Raised t g) = entered (runGrown (candidateState s t)) r l (usedScore recent r)
   after s Skipped = s
 
   -- Which block the anomaly is in, counted back from the newest, 0; 0 unless raised.

@@ -1,3 +1,4 @@
 pub mod Const
 pub mod Judging
 pub mod Judged
+pub mod Steps
