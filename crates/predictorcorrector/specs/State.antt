@@ -10,6 +10,7 @@ use Rattle.types.specs.declared.Answer.{Answer}
 use Rattle.types.specs.declared.Answer.the-variants.{Done, Refused}
 use Rattle.types.specs.declared.ScoringStrategy.{ScoringStrategy}
 use Rattle.types.specs.Codes.{isHeight}
+use Rattle.types.specs.Refusals.{answered}
 use Rattle.deviation.specs.Const.{zero64}
 use Rattle.deviation.specs.Statistics.{fresh, isDiscount}
 use Rattle.deviation.specs.declared.Deviation.{Deviation}
@@ -80,6 +81,10 @@ horizonSetTo s x = withThresholder s (horizonSet (s .«basic_thresholder») x)
 -- Refusal 7 outside [0, 1].
 unfoldable pub setHorizon : PredictorCorrector → Float → Changed
 setHorizon s x = record { answer = horizonAnswer x; state = horizonSetTo s x }
+
+-- The same refusal by its number, 0 where there is none.
+abbrev pub horizonNumber : Float → ℕ
+horizonNumber x = answered (horizonAnswer x)
 
 -- ---- refusal 6: run length, the thresholder's counts, and with auto adjust those of the entries that exist
 unfoldable pub stateCountsOk : PredictorCorrector → Bool

@@ -163,6 +163,13 @@ pub fn score_counted(
     t.primary_counted(std::num::f32_to_f64_with_nan(score))
 }
 
+// 0 for a horizon in [0, 1], else refusal 7.
+pub fn horizon_number(horizon: f32) -> u8
+    ensures { λ r. ⌜ r ≡ State.horizonNumber horizon ⌝ }
+{
+    basicthresholder::horizon_answer(horizon).number()
+}
+
 impl PredictorCorrector {
     fn fresh(discount: f64, auto_adjust: bool, base_dimension: u32) -> PredictorCorrector
         requires { ⌜ «base_dimension» ≤ 16 ⌝ }
@@ -252,6 +259,32 @@ impl PredictorCorrector {
             answer: basicthresholder::horizon_answer(horizon),
             state: self.horizon_set(horizon),
         }
+    }
+
+    pub fn set_z_factor(&mut self, factor: f32)
+        ensures { λ _. ⌜ now (self .exit) ≡ State.zFactorSet (now (self .entry)) factor ⌝ }
+    {
+        *self = (*self).with_z_factor(factor);
+    }
+
+    pub fn set_lower_threshold(&mut self, lower: f32)
+        ensures { λ _. ⌜ now (self .exit) ≡ State.lowerThresholdSet (now (self .entry)) lower ⌝ }
+    {
+        *self = (*self).with_lower_threshold(lower);
+    }
+
+    pub fn set_initial_threshold(&mut self, initial: f32)
+        ensures { λ _. ⌜ now (self .exit) ≡ State.initialThresholdSet (now (self .entry)) initial ⌝ }
+    {
+        *self = (*self).with_initial_threshold(initial);
+    }
+
+    // A refused horizon leaves the state as it was.
+    pub fn set_horizon(&mut self, horizon: f32) -> u8
+        ensures { λ r. ⌜ (r ≡ State.horizonNumber horizon) × (now (self .exit) ≡ State.horizonSetTo (now (self .entry)) horizon) ⌝ }
+    {
+        *self = (*self).horizon_set(horizon);
+        horizon_number(horizon)
     }
 
     pub fn with_thresholder(self, t: BasicThresholder) -> PredictorCorrector
