@@ -1,1 +1,2 @@
+mod Stages
 mod Work

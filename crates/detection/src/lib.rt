@@ -14,11 +14,14 @@ use types::ScoringStrategy;
 use util::absf32;
 use util::maxf32;
 ghost use mathlib.Core.Path.{_≡_};
-ghost use mathlib.Core.Bool.{true, _&&_};
+ghost use mathlib.Core.Bool.{not, _&&_};
+ghost use lib.Dec.{ltb};
+ghost use lib.Ieee as Ieee;
 ghost use Prim.Native.Nat.{_≤_, _+_, _*_};
 ghost use lib.IntN.{pos, _+ℤ_, _-ℤ_};
 ghost use lib.ListN.{length, take, replicate};
 ghost use Rattle.types.specs.Codes.{isDifferenced};
+ghost use Rattle.divector.specs.DiVector as DiVector;
 ghost use Rattle.uncertainty_box.specs.Box as Box;
 ghost use Rattle.uncertainty_box.specs.Pass as Pass;
 ghost use Rattle.corrector.specs.Corrector as Corrector;
@@ -27,6 +30,7 @@ ghost use Rattle.descriptor.specs.Lent.{lent};
 ghost use Rattle.detection.specs.Const.{zero32};
 ghost use Rattle.detection.specs.Judging as Judging;
 ghost use Rattle.detection.specs.Judged as Judged;
+ghost use Rattle.detection.specs.Steps as Steps;
 
 // What the watch says of an accepted reading.
 pub enum Verdict {
@@ -334,4 +338,307 @@ fn within_expected(
     let mut work = zeros();
     corrector::expected_point(high, low, start, base, point, median, &mut work[..d]);
     uncertainty_box::within_unertainty_box(uncertainty_box, start, scale, point, &work[..d])
+}
+
+// The corrected point's grade is 0, the last anomaly being recent.
+fn corrected_quiet(t: BasicThresholder, r: Reading, recent: bool) -> bool
+    ensures { λ b. ⌜ b ≡ (recent && Ieee.eq (Judging.opening t r (r .«corrected_score») .grade) zero32) ⌝ }
+{
+    if recent {
+        let opened = opening(t, r, r.corrected_score);
+        return opened.grade == 0.0;
+    }
+    false
+}
+
+// Where the block that contributes most starts.
+fn start_of(high: &[f64], low: &[f64], base: usize, gap: usize) -> usize
+    requires { ⌜ Judging.blockOf (DiVector.maxGapContribution (now high) (now low) base gap) ≤ 1024 ⌝ ∗ ⌜ base ≤ 16 ⌝ }
+    ensures { λ r. ⌜ r ≡ Judging.blockOf (DiVector.maxGapContribution (now (high .entry)) (now (low .entry)) base gap) * base ⌝ }
+{
+    block_of(divector::max_gap_contribution(high, low, base, gap)) * base
+}
+
+fn auto_explained(
+    auto_adjust: bool,
+    uncertainty_box: &[f32],
+    point: &[f32],
+    start: usize,
+    scale: &[f32],
+    neighbours: &[f32],
+) -> bool
+    ensures { λ r. ⌜ r ≡ («auto_adjust» && Box.explainedByConditionalField (now («uncertainty_box» .entry)) (now (point .entry)) start (now (scale .entry)) (now (neighbours .entry)) (length (now (point .entry)))) ⌝ }
+{
+    if auto_adjust {
+        return uncertainty_box::explained_by_conditional_field(
+            uncertainty_box,
+            point,
+            start,
+            scale,
+            neighbours,
+            point.len(),
+        );
+    }
+    false
+}
+
+// The last anomaly is in the shingle, and the reading does not trigger anew.
+fn in_shingle(
+    r: Reading,
+    l: LastDescriptor,
+    gap: usize,
+    high: &[f64],
+    low: &[f64],
+    ideal_high: &[f64],
+    ideal_low: &[f64],
+    threshold: f32,
+) -> bool
+    ensures { λ b. ⌜ b ≡ (ltb gap (r .«shingle_size») && not (Corrector.trigger (now (high .entry)) (now (low .entry)) gap (r .«base_dimension») (now («ideal_high» .entry)) (now («ideal_low» .entry)) (l .«has_anomaly») (l .anomaly .«has_attribution») (l .anomaly .score) threshold)) ⌝ }
+{
+    let anomaly = l.anomaly;
+    if gap < r.shingle_size {
+        return !corrector::trigger(
+            high,
+            low,
+            gap,
+            r.base_dimension,
+            ideal_high,
+            ideal_low,
+            l.has_anomaly,
+            anomaly.has_attribution,
+            anomaly.score,
+            threshold,
+        );
+    }
+    false
+}
+
+// The exits past the noise pass, up to the candidate branch.
+fn late_verdict(
+    auto_adjust: bool,
+    r: Reading,
+    l: LastDescriptor,
+    gap: usize,
+    threshold: f32,
+    working: f32,
+    point: &[f32],
+    scale: &[f32],
+    shift: &[f32],
+    difference_deviations: &[f32],
+    last_expected: &[f32],
+    last_anomalous: &[f32],
+    high: &[f64],
+    low: &[f64],
+    median: &[f32],
+    ideal_high: &[f64],
+    ideal_low: &[f64],
+    neighbours: &[f32],
+) -> Verdict
+    requires { ⌜ Steps.Fitting r l (lent (now point) (now scale) (now shift) (now «difference_deviations») (now «last_expected») (now «last_anomalous») (now high) (now low) (now median) (now «ideal_high») (now «ideal_low») (now neighbours)) ⌝ ∗ ⌜ gap ≡ Judging.gap r l (lent (now point) (now scale) (now shift) (now «difference_deviations») (now «last_expected») (now «last_anomalous») (now high) (now low) (now median) (now «ideal_high») (now «ideal_low») (now neighbours)) ⌝ }
+    ensures { λ v. ⌜ v ≡ Judging.lateVerdict r l (lent (now (point .entry)) (now (scale .entry)) (now (shift .entry)) (now («difference_deviations» .entry)) (now («last_expected» .entry)) (now («last_anomalous» .entry)) (now (high .entry)) (now (low .entry)) (now (median .entry)) (now («ideal_high» .entry)) (now («ideal_low» .entry)) (now (neighbours .entry))) «auto_adjust» threshold working ⌝ }
+{
+    let base = r.base_dimension;
+    let method = r.transform_method;
+    let start = start_of(high, low, base, gap);
+    let differenced = method.is_differenced();
+    let edges = box_of(
+        point,
+        start,
+        base,
+        scale,
+        shift,
+        difference_deviations,
+        differenced,
+    );
+    if auto_explained(
+        auto_adjust,
+        &edges[..base],
+        point,
+        start,
+        scale,
+        neighbours,
+    ) {
+        return Verdict::Corrected(threshold, CorrectionMode::CONDITIONAL_FORECAST);
+    }
+    if in_shingle(r, l, gap, high, low, ideal_high, ideal_low, threshold) {
+        return Verdict::Corrected(threshold, CorrectionMode::ANOMALY_IN_SHINGLE);
+    }
+    if within_expected(
+        &edges[..base],
+        start,
+        base,
+        scale,
+        point,
+        high,
+        low,
+        median,
+    ) {
+        return Verdict::Corrected(threshold, CorrectionMode::FORECAST);
+    }
+    Verdict::Raised(threshold, working)
+}
+
+// The exits past an opening grade above 0.
+fn graded_verdict(
+    t: BasicThresholder,
+    auto_adjust: bool,
+    r: Reading,
+    l: LastDescriptor,
+    threshold: f32,
+    grade: f32,
+    point: &[f32],
+    scale: &[f32],
+    shift: &[f32],
+    difference_deviations: &[f32],
+    last_expected: &[f32],
+    last_anomalous: &[f32],
+    high: &[f64],
+    low: &[f64],
+    median: &[f32],
+    ideal_high: &[f64],
+    ideal_low: &[f64],
+    neighbours: &[f32],
+) -> Verdict
+    requires { ⌜ Steps.Fitting r l (lent (now point) (now scale) (now shift) (now «difference_deviations») (now «last_expected») (now «last_anomalous») (now high) (now low) (now median) (now «ideal_high») (now «ideal_low») (now neighbours)) ⌝ }
+    ensures { λ v. ⌜ v ≡ Judging.gradedVerdict r l (lent (now (point .entry)) (now (scale .entry)) (now (shift .entry)) (now («difference_deviations» .entry)) (now («last_expected» .entry)) (now («last_anomalous» .entry)) (now (high .entry)) (now (low .entry)) (now (median .entry)) (now («ideal_high» .entry)) (now («ideal_low» .entry)) (now (neighbours .entry))) t «auto_adjust» threshold grade ⌝ }
+{
+    let anomaly = l.anomaly;
+    let gap = gap_of(r.values_seen, l.has_anomaly, anomaly.values_seen);
+    if corrected_quiet(t, r, is_recent(l.has_anomaly, gap, r.shingle_size)) {
+        return Verdict::Corrected(threshold, CorrectionMode::ANOMALY_IN_SHINGLE);
+    }
+    let working = grade
+        * noise_pass(
+            r,
+            l,
+            gap,
+            point,
+            scale,
+            shift,
+            difference_deviations,
+            last_expected,
+            last_anomalous,
+        );
+    if working == 0.0 {
+        return Verdict::Corrected(threshold, CorrectionMode::NOISE);
+    }
+    late_verdict(
+        auto_adjust,
+        r,
+        l,
+        gap,
+        threshold,
+        working,
+        point,
+        scale,
+        shift,
+        difference_deviations,
+        last_expected,
+        last_anomalous,
+        high,
+        low,
+        median,
+        ideal_high,
+        ideal_low,
+        neighbours,
+    )
+}
+
+// Every exit but the candidate branch's.
+fn open_verdict(
+    t: BasicThresholder,
+    auto_adjust: bool,
+    r: Reading,
+    l: LastDescriptor,
+    point: &[f32],
+    scale: &[f32],
+    shift: &[f32],
+    difference_deviations: &[f32],
+    last_expected: &[f32],
+    last_anomalous: &[f32],
+    high: &[f64],
+    low: &[f64],
+    median: &[f32],
+    ideal_high: &[f64],
+    ideal_low: &[f64],
+    neighbours: &[f32],
+) -> Verdict
+    requires { ⌜ Steps.Fitting r l (lent (now point) (now scale) (now shift) (now «difference_deviations») (now «last_expected») (now «last_anomalous») (now high) (now low) (now median) (now «ideal_high») (now «ideal_low») (now neighbours)) ⌝ }
+    ensures { λ v. ⌜ v ≡ Judging.openVerdict r l (lent (now (point .entry)) (now (scale .entry)) (now (shift .entry)) (now («difference_deviations» .entry)) (now («last_expected» .entry)) (now («last_anomalous» .entry)) (now (high .entry)) (now (low .entry)) (now (median .entry)) (now («ideal_high» .entry)) (now («ideal_low» .entry)) (now (neighbours .entry))) t «auto_adjust» ⌝ }
+{
+    if r.score == 0.0 {
+        return Verdict::Skipped;
+    }
+    let opened = opening(t, r, r.score);
+    if opened.grade == 0.0 {
+        return Verdict::Quiet(opened.threshold);
+    }
+    graded_verdict(
+        t,
+        auto_adjust,
+        r,
+        l,
+        opened.threshold,
+        opened.grade,
+        point,
+        scale,
+        shift,
+        difference_deviations,
+        last_expected,
+        last_anomalous,
+        high,
+        low,
+        median,
+        ideal_high,
+        ideal_low,
+        neighbours,
+    )
+}
+
+// The drift test of the last coordinate, which alone decides.
+fn drift_within(
+    base: usize,
+    actual: [Deviation; 16],
+    expected: [Deviation; 16],
+    newest: &[f32],
+    newest_expected: &[f32],
+    noise: &[f32],
+) -> bool
+    requires { ⌜ 1 ≤ base ⌝ ∗ ⌜ base ≤ 16 ⌝ ∗ ⌜ base ≤ length (now newest) ⌝ ∗ ⌜ base ≤ length (now «newest_expected») ⌝ ∗ ⌜ base ≤ length (now noise) ⌝ }
+    ensures { λ r. ⌜ r ≡ Judging.driftWithin base actual expected (now (newest .entry)) (now («newest_expected» .entry)) (now (noise .entry)) ⌝ }
+{
+    let y = base - 1;
+    near_means(
+        actual[y],
+        expected[y],
+        newest[y],
+        newest_expected[y],
+        noise[y],
+    )
+}
+
+fn is_drift(
+    candidate: bool,
+    s: PredictorCorrector,
+    counted: PredictorCorrector,
+    base: usize,
+    newest: &[f32],
+    newest_expected: &[f32],
+    noise: &[f32],
+) -> bool
+    requires { ⌜ 1 ≤ base ⌝ ∗ ⌜ base ≤ 16 ⌝ ∗ ⌜ base ≤ length (now newest) ⌝ ∗ ⌜ base ≤ length (now «newest_expected») ⌝ ∗ ⌜ base ≤ length (now noise) ⌝ }
+    ensures { λ r. ⌜ r ≡ Judging.isDrift candidate s counted base (now (newest .entry)) (now («newest_expected» .entry)) (now (noise .entry)) ⌝ }
+{
+    if candidate {
+        if s.auto_adjust {
+            if 2 < s.run_length {
+                let actual = counted.deviations_actual;
+                let expected = counted.deviations_expected;
+                return drift_within(base, actual, expected, newest, newest_expected, noise);
+            }
+            return false;
+        }
+        return false;
+    }
+    false
 }
