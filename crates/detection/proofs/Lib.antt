@@ -1,2 +1,6 @@
+mod Candidates
+mod Entry
+mod Index
+mod Settle
 mod Stages
 mod Work

@@ -64,3 +64,15 @@ unfolding driftWithin
 drift-last base y ds es ns xs zs d₀ e₀ e h k =
     ap₂ (λ (d c : Deviation). nearMeans d c (getD ns y nan) (getD xs y nan) (getD zs y nan)) (getD-any ds y d₀ (fresh zero64) h) (getD-any es y e₀ (fresh zero64) k)
     ∙ ap (λ (n : ℕ). driftWithin n ds es ns xs zs) (sym (e ∙ add-one y))
+
+-- A part with a start of a list, to its end.
+pub tail-is : {A : Type 0} (xs : List A) (n : ℕ) → take (length xs - n) (drop n xs) ≡ drop n xs
+tail-is xs n = take-all (length xs - n) (drop n xs) (simp length-drop (omega arith))
+
+-- A part of the front that a call wrote, up to its end.
+pub tail-of-front : {A : Type 0} (w ys zs : List A) (n d : ℕ) → n ≤ d → length ys ≡ d → ys ≡ zs → take (d - n) (drop n (ys ++ drop d w)) ≡ drop n zs
+tail-of-front w ys zs n d h l e =
+    let k : n ≤ length ys = omega arith in
+    ap (take (d - n)) (drop-append-le n ys (drop d w) k)
+    ∙ take-at (drop n ys) (drop d w) (d - n) (simp length-drop (omega arith))
+    ∙ ap (drop n) e

@@ -114,6 +114,11 @@ entered s r l corrected =
     withThresholder s
     (scoreCounted (s .«basic_thresholder») (r .«scoring_strategy») (r .score) corrected (l .«scoring_strategy») (l .score))
 
+-- The corrected score of a reading, by its gap.
+unfoldable pub correctedScore : Reading → LastDescriptor → Float
+correctedScore r l =
+    usedScore (isRecent (l .«has_anomaly») (gapOf (r .«values_seen») (l .«has_anomaly») (l .anomaly .«values_seen»)) (r .«shingle_size»)) r
+
 module _ (r : Reading) (l : LastDescriptor) (b : Lent) where
   unfoldable pub gap : ℕ
   gap = gapOf (r .«values_seen») (l .«has_anomaly») (l .anomaly .«values_seen»)
@@ -190,11 +195,15 @@ module _ (r : Reading) (l : LastDescriptor) (b : Lent) where
   isDataDrift s threshold =
       isDrift (isCandidate r l (s .«run_length») threshold) s (candidateState s threshold) (r .«base_dimension») (newestOf (b .point)) (newestOf expected) (b .«difference_deviations»)
 
+  -- The last exit: data drift, or raised.
+  unfoldable pub raisedOr : PredictorCorrector → Float → Float → Verdict
+  raisedOr s t g = cond (isDataDrift s t) (Corrected t «DATA_DRIFT») (Raised t g)
+
   -- What the watch says of an accepted reading.
   unfoldable pub settled : PredictorCorrector → Verdict → Verdict
   settled s (Quiet t) = Quiet t
   settled s (Corrected t m) = Corrected t m
-  settled s (Raised t g) = cond (isDataDrift s t) (Corrected t «DATA_DRIFT») (Raised t g)
+  settled s (Raised t g) = raisedOr s t g
   settled s Skipped = Skipped
 
   unfoldable pub verdict : PredictorCorrector → Verdict
@@ -213,8 +222,8 @@ module _ (r : Reading) (l : LastDescriptor) (b : Lent) where
   -- The state after a verdict.
   unfoldable pub after : PredictorCorrector → Verdict → PredictorCorrector
   after s (Quiet t) = entered (runEnded s) r l (r .score)
-  after s (Corrected t m) = entered (runAfterMode s t m) r l (usedScore recent r)
-  after s (Raised t g) = entered (runGrown (candidateState s t)) r l (usedScore recent r)
+  after s (Corrected t m) = entered (runAfterMode s t m) r l (correctedScore r l)
+  after s (Raised t g) = entered (runGrown (candidateState s t)) r l (correctedScore r l)
   after s Skipped = s
 
   -- Which block the anomaly is in, counted back from the newest, 0; 0 unless raised.

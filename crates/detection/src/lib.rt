@@ -14,7 +14,7 @@ use types::ScoringStrategy;
 use util::absf32;
 use util::maxf32;
 ghost use mathlib.Core.Path.{_≡_};
-ghost use mathlib.Core.Bool.{not, _&&_};
+ghost use mathlib.Core.Bool.{true, not, _&&_};
 ghost use lib.Dec.{ltb};
 ghost use lib.Ieee as Ieee;
 ghost use Prim.Native.Nat.{_≤_, _+_, _*_};
@@ -95,6 +95,15 @@ fn used_score(recent: bool, r: Reading) -> f32
     r.score
 }
 
+// The score that counts as corrected.
+fn corrected_score(r: Reading, l: LastDescriptor) -> f32
+    ensures { λ x. ⌜ x ≡ Judging.correctedScore r l ⌝ }
+{
+    let anomaly = l.anomaly;
+    let gap = gap_of(r.values_seen, l.has_anomaly, anomaly.values_seen);
+    used_score(is_recent(l.has_anomaly, gap, r.shingle_size), r)
+}
+
 fn same_strategy(a: ScoringStrategy, b: ScoringStrategy) -> bool
     ensures { λ r. ⌜ r ≡ Judging.sameStrategy a b ⌝ }
 {
@@ -113,13 +122,7 @@ fn run_share(run_length: u32, shingle_size: u32) -> f32
     )
 }
 
-fn still_high(
-    score: f32,
-    threshold: f32,
-    last_score: f32,
-    last_threshold: f32,
-    share: f32,
-) -> bool
+fn still_high(score: f32, threshold: f32, last_score: f32, last_threshold: f32, share: f32) -> bool
     ensures { λ r. ⌜ r ≡ Judging.stillHigh score threshold «last_score» «last_threshold» share ⌝ }
 {
     if score > last_score {
@@ -157,8 +160,7 @@ fn near_means(
     let expected_spread = narrow(expected.deviation());
     (absf32(narrow(mean) - newest) < maxf32(2.0 * spread, 1.0 * noise))
         & (absf32(narrow(expected_mean) - newest_expected)
-            < 2.0 * maxf32(expected_spread, spread)
-                + 0.1 * absf32(narrow(mean - expected_mean)))
+            < 2.0 * maxf32(expected_spread, spread) + 0.1 * absf32(narrow(mean - expected_mean)))
 }
 
 fn block_of(block: Block) -> usize
@@ -450,29 +452,13 @@ fn late_verdict(
         difference_deviations,
         differenced,
     );
-    if auto_explained(
-        auto_adjust,
-        &edges[..base],
-        point,
-        start,
-        scale,
-        neighbours,
-    ) {
+    if auto_explained(auto_adjust, &edges[..base], point, start, scale, neighbours) {
         return Verdict::Corrected(threshold, CorrectionMode::CONDITIONAL_FORECAST);
     }
     if in_shingle(r, l, gap, high, low, ideal_high, ideal_low, threshold) {
         return Verdict::Corrected(threshold, CorrectionMode::ANOMALY_IN_SHINGLE);
     }
-    if within_expected(
-        &edges[..base],
-        start,
-        base,
-        scale,
-        point,
-        high,
-        low,
-        median,
-    ) {
+    if within_expected(&edges[..base], start, base, scale, point, high, low, median) {
         return Verdict::Corrected(threshold, CorrectionMode::FORECAST);
     }
     Verdict::Raised(threshold, working)
@@ -641,4 +627,364 @@ fn is_drift(
         return false;
     }
     false
+}
+
+// The state with a candidate's newest rows counted, and whether that makes the reading data drift.
+struct Counted {
+    drift: bool,
+    state: PredictorCorrector,
+}
+
+fn count_rows(
+    s: PredictorCorrector,
+    r: Reading,
+    l: LastDescriptor,
+    threshold: f32,
+    newest: &[f32],
+    newest_expected: &[f32],
+    noise: &[f32],
+) -> Counted
+    requires { ⌜ Steps.NewestRows r (length (now newest)) (length (now «newest_expected»)) (length (now noise)) ⌝ }
+    ensures { λ c. ⌜ c ≡ Steps.countedRows s r l threshold (now (newest .entry)) (now («newest_expected» .entry)) (now (noise .entry)) ⌝ }
+{
+    let candidate = is_candidate(r, l, s.run_length, threshold);
+    let state = candidate_with(candidate, s, newest, newest_expected);
+    let base = r.base_dimension;
+    let drift = is_drift(candidate, s, state, base, newest, newest_expected, noise);
+    Counted { drift, state }
+}
+
+fn counted_run(
+    s: PredictorCorrector,
+    r: Reading,
+    l: LastDescriptor,
+    start: usize,
+    threshold: f32,
+    point: &[f32],
+    difference_deviations: &[f32],
+    high: &[f64],
+    low: &[f64],
+    median: &[f32],
+) -> Counted
+    requires { ⌜ Steps.Rows r (length (now point)) (length (now «difference_deviations»)) ⌝ ∗ ⌜ CorrectorSteps.Expecting (length (now high)) (length (now low)) start (r .«base_dimension») (length (now point)) (length (now median)) (length (now point)) ⌝ }
+    ensures { λ c. ⌜ c ≡ Steps.countedRun s r l threshold (now (point .entry)) (now («difference_deviations» .entry)) (Corrector.expectedPoint (now (high .entry)) (now (low .entry)) start (r .«base_dimension») (now (point .entry)) (now (median .entry))) ⌝ }
+{
+    let d = point.len();
+    let base = r.base_dimension;
+    let newest = d - base;
+    let mut work = zeros();
+    corrector::expected_point(high, low, start, base, point, median, &mut work[..d]);
+    count_rows(
+        s,
+        r,
+        l,
+        threshold,
+        &point[newest..],
+        &work[newest..d],
+        difference_deviations,
+    )
+}
+
+// Without auto adjust no row is counted, and nothing is data drift.
+fn candidate_run(
+    s: PredictorCorrector,
+    r: Reading,
+    l: LastDescriptor,
+    start: usize,
+    threshold: f32,
+    point: &[f32],
+    difference_deviations: &[f32],
+    high: &[f64],
+    low: &[f64],
+    median: &[f32],
+) -> Counted
+    requires { ⌜ Steps.Rows r (length (now point)) (length (now «difference_deviations»)) ⌝ ∗ ⌜ CorrectorSteps.Expecting (length (now high)) (length (now low)) start (r .«base_dimension») (length (now point)) (length (now median)) (length (now point)) ⌝ }
+    ensures { λ c. ⌜ c ≡ Steps.countedRun s r l threshold (now (point .entry)) (now («difference_deviations» .entry)) (Corrector.expectedPoint (now (high .entry)) (now (low .entry)) start (r .«base_dimension») (now (point .entry)) (now (median .entry))) ⌝ }
+{
+    if s.auto_adjust {
+        return counted_run(
+            s,
+            r,
+            l,
+            start,
+            threshold,
+            point,
+            difference_deviations,
+            high,
+            low,
+            median,
+        );
+    }
+    Counted {
+        drift: false,
+        state: s,
+    }
+}
+
+fn block_start(block: usize, base: usize) -> usize
+    requires { ⌜ block ≤ 1024 ⌝ ∗ ⌜ base ≤ 16 ⌝ }
+    ensures { λ r. ⌜ r ≡ block * base ⌝ }
+{
+    block * base
+}
+
+// Counted back from the newest block, which is 0.
+fn relative_index(block: usize, shingle_size: usize) -> i32
+    requires { ⌜ block ≤ 1024 ⌝ ∗ ⌜ «shingle_size» ≤ 64 ⌝ }
+    ensures { λ r. ⌜ r ≡ pos block -ℤ pos «shingle_size» +ℤ pos 1 ⌝ }
+{
+    (block as i32) - (shingle_size as i32) + 1
+}
+
+// Past the last test: the buffers are written, and the reading is one more of the run.
+fn write_raised(
+    r: Reading,
+    start: usize,
+    point: &[f32],
+    high: &[f64],
+    low: &[f64],
+    median: &[f32],
+    expected: &mut [f32],
+    out_high: &mut [f64],
+    out_low: &mut [f64],
+)
+    requires { ⌜ CorrectorSteps.Expecting (length (now high)) (length (now low)) start (r .«base_dimension») (length (now point)) (length (now median)) (length (now expected)) ⌝ ∗ ⌜ DiVector.oneLength (length (now high)) (length (now low)) (length (now «out_high»)) (length (now «out_low»)) ≡ true ⌝ }
+    ensures { λ _. ⌜ Steps.Written r start (now (point .entry)) (now (high .entry)) (now (low .entry)) (now (median .entry)) (now (expected .exit)) (now («out_high» .exit)) (now («out_low» .exit)) ⌝ }
+{
+    corrector::expected_point(high, low, start, r.base_dimension, point, median, expected);
+    divector::normalize_into(
+        high,
+        low,
+        std::num::f32_to_f64_with_nan(r.score),
+        out_high,
+        out_low,
+    );
+}
+
+// A reading that the exits so far raise: data drift, or raised, which alone writes the buffers.
+fn raise(
+    s: PredictorCorrector,
+    r: Reading,
+    l: LastDescriptor,
+    threshold: f32,
+    grade: f32,
+    point: &[f32],
+    scale: &[f32],
+    shift: &[f32],
+    difference_deviations: &[f32],
+    last_expected: &[f32],
+    last_anomalous: &[f32],
+    high: &[f64],
+    low: &[f64],
+    median: &[f32],
+    ideal_high: &[f64],
+    ideal_low: &[f64],
+    neighbours: &[f32],
+    expected: &mut [f32],
+    out_high: &mut [f64],
+    out_low: &mut [f64],
+) -> Judgment
+    requires { ⌜ Steps.Fitting r l (lent (now point) (now scale) (now shift) (now «difference_deviations») (now «last_expected») (now «last_anomalous») (now high) (now low) (now median) (now «ideal_high») (now «ideal_low») (now neighbours)) ⌝ ∗ ⌜ Steps.Writing (lent (now point) (now scale) (now shift) (now «difference_deviations») (now «last_expected») (now «last_anomalous») (now high) (now low) (now median) (now «ideal_high») (now «ideal_low») (now neighbours)) (length (now expected)) (length (now «out_high»)) (length (now «out_low»)) ⌝ }
+    ensures { λ j. ⌜ Steps.Settled s r l (lent (now (point .entry)) (now (scale .entry)) (now (shift .entry)) (now («difference_deviations» .entry)) (now («last_expected» .entry)) (now («last_anomalous» .entry)) (now (high .entry)) (now (low .entry)) (now (median .entry)) (now («ideal_high» .entry)) (now («ideal_low» .entry)) (now (neighbours .entry))) (Judging.raisedOr r l (lent (now (point .entry)) (now (scale .entry)) (now (shift .entry)) (now («difference_deviations» .entry)) (now («last_expected» .entry)) (now («last_anomalous» .entry)) (now (high .entry)) (now (low .entry)) (now (median .entry)) (now («ideal_high» .entry)) (now («ideal_low» .entry)) (now (neighbours .entry))) s threshold grade) j (now (expected .entry)) (now («out_high» .entry)) (now («out_low» .entry)) (now (expected .exit)) (now («out_high» .exit)) (now («out_low» .exit)) ⌝ }
+{
+    let base = r.base_dimension;
+    let shingle = r.shingle_size;
+    let anomaly = l.anomaly;
+    let gap = gap_of(r.values_seen, l.has_anomaly, anomaly.values_seen);
+    let block = block_of(divector::max_gap_contribution(high, low, base, gap));
+    let start = block_start(block, base);
+    let used = corrected_score(r, l);
+    let counted = candidate_run(
+        s,
+        r,
+        l,
+        start,
+        threshold,
+        point,
+        difference_deviations,
+        high,
+        low,
+        median,
+    );
+    if counted.drift {
+        return Judgment {
+            outcome: Outcome::Accepted(Verdict::Corrected(threshold, CorrectionMode::DATA_DRIFT)),
+            relative_index: 0,
+            state: entered(counted.state, r, l, used),
+        };
+    }
+    write_raised(
+        r,
+        start,
+        point,
+        high,
+        low,
+        median,
+        expected,
+        out_high,
+        out_low,
+    );
+    Judgment {
+        outcome: Outcome::Accepted(Verdict::Raised(threshold, grade)),
+        relative_index: relative_index(block, shingle),
+        state: entered(counted.state.run_grown(), r, l, used),
+    }
+}
+
+// An accepted reading.
+fn judge(
+    s: PredictorCorrector,
+    r: Reading,
+    l: LastDescriptor,
+    point: &[f32],
+    scale: &[f32],
+    shift: &[f32],
+    difference_deviations: &[f32],
+    last_expected: &[f32],
+    last_anomalous: &[f32],
+    high: &[f64],
+    low: &[f64],
+    median: &[f32],
+    ideal_high: &[f64],
+    ideal_low: &[f64],
+    neighbours: &[f32],
+    expected: &mut [f32],
+    out_high: &mut [f64],
+    out_low: &mut [f64],
+) -> Judgment
+    requires { ⌜ Steps.Fitting r l (lent (now point) (now scale) (now shift) (now «difference_deviations») (now «last_expected») (now «last_anomalous») (now high) (now low) (now median) (now «ideal_high») (now «ideal_low») (now neighbours)) ⌝ ∗ ⌜ Steps.Writing (lent (now point) (now scale) (now shift) (now «difference_deviations») (now «last_expected») (now «last_anomalous») (now high) (now low) (now median) (now «ideal_high») (now «ideal_low») (now neighbours)) (length (now expected)) (length (now «out_high»)) (length (now «out_low»)) ⌝ }
+    ensures { λ j. ⌜ Steps.Settled s r l (lent (now (point .entry)) (now (scale .entry)) (now (shift .entry)) (now («difference_deviations» .entry)) (now («last_expected» .entry)) (now («last_anomalous» .entry)) (now (high .entry)) (now (low .entry)) (now (median .entry)) (now («ideal_high» .entry)) (now («ideal_low» .entry)) (now (neighbours .entry))) (Judging.verdict r l (lent (now (point .entry)) (now (scale .entry)) (now (shift .entry)) (now («difference_deviations» .entry)) (now («last_expected» .entry)) (now («last_anomalous» .entry)) (now (high .entry)) (now (low .entry)) (now (median .entry)) (now («ideal_high» .entry)) (now («ideal_low» .entry)) (now (neighbours .entry))) s) j (now (expected .entry)) (now («out_high» .entry)) (now («out_low» .entry)) (now (expected .exit)) (now («out_high» .exit)) (now («out_low» .exit)) ⌝ }
+{
+    let verdict = open_verdict(
+        s.basic_thresholder,
+        s.auto_adjust,
+        r,
+        l,
+        point,
+        scale,
+        shift,
+        difference_deviations,
+        last_expected,
+        last_anomalous,
+        high,
+        low,
+        median,
+        ideal_high,
+        ideal_low,
+        neighbours,
+    );
+    match verdict {
+        Verdict::Quiet(_) => Judgment {
+            outcome: Outcome::Accepted(verdict),
+            relative_index: 0,
+            state: entered(s.run_ended(), r, l, r.score),
+        },
+        Verdict::Corrected(_, _) => Judgment {
+            outcome: Outcome::Accepted(verdict),
+            relative_index: 0,
+            state: entered(s.auto_adjusted(point), r, l, corrected_score(r, l)),
+        },
+        Verdict::Raised(threshold, grade) => raise(
+            s,
+            r,
+            l,
+            threshold,
+            grade,
+            point,
+            scale,
+            shift,
+            difference_deviations,
+            last_expected,
+            last_anomalous,
+            high,
+            low,
+            median,
+            ideal_high,
+            ideal_low,
+            neighbours,
+            expected,
+            out_high,
+            out_low,
+        ),
+        Verdict::Skipped => Judgment {
+            outcome: Outcome::Accepted(verdict),
+            relative_index: 0,
+            state: s,
+        },
+    }
+}
+
+// Judges a reading: document 01's entry checks, then the Rust's `detect_and_modify`. The expected point and the normalised attribution
+// are written to the last three buffers where the reading is raised, and left alone otherwise.
+pub fn detect_and_modify(
+    s: PredictorCorrector,
+    r: Reading,
+    l: LastDescriptor,
+    point: &[f32],
+    scale: &[f32],
+    shift: &[f32],
+    difference_deviations: &[f32],
+    last_expected: &[f32],
+    last_anomalous: &[f32],
+    high: &[f64],
+    low: &[f64],
+    median: &[f32],
+    ideal_high: &[f64],
+    ideal_low: &[f64],
+    neighbours: &[f32],
+    expected: &mut [f32],
+    out_high: &mut [f64],
+    out_low: &mut [f64],
+) -> Judgment
+    ensures { λ j. ⌜ Judged.Judged s r l (lent (now (point .entry)) (now (scale .entry)) (now (shift .entry)) (now («difference_deviations» .entry)) (now («last_expected» .entry)) (now («last_anomalous» .entry)) (now (high .entry)) (now (low .entry)) (now (median .entry)) (now («ideal_high» .entry)) (now («ideal_low» .entry)) (now (neighbours .entry))) j (now (expected .entry)) (now («out_high» .entry)) (now («out_low» .entry)) (now (expected .exit)) (now («out_high» .exit)) (now («out_low» .exit)) ⌝ }
+{
+    let base = s.base_dimension as usize;
+    let answer = descriptor::answer(
+        r,
+        l,
+        point,
+        scale,
+        shift,
+        difference_deviations,
+        last_expected,
+        last_anomalous,
+        high,
+        low,
+        median,
+        ideal_high,
+        ideal_low,
+        neighbours,
+        base,
+        expected.len(),
+        out_high.len(),
+        out_low.len(),
+        s.counts_ok(),
+    );
+    match answer {
+        Answer::Done => judge(
+            s,
+            r,
+            l,
+            point,
+            scale,
+            shift,
+            difference_deviations,
+            last_expected,
+            last_anomalous,
+            high,
+            low,
+            median,
+            ideal_high,
+            ideal_low,
+            neighbours,
+            expected,
+            out_high,
+            out_low,
+        ),
+        Answer::Refused(why) => Judgment {
+            outcome: Outcome::Refused(why),
+            relative_index: 0,
+            state: s,
+        },
+    }
 }

@@ -25,7 +25,7 @@ construct-uncertainty-box-requires : tie.Need-construct-uncertainty-box-requires
 construct-uncertainty-box-requires c κs = search needs
 
 returns : tie.Need-returns
-returns c = 
+returns c =
     let a = c .before .before .before .before .before .before .before .before .args in
     let l : length (c .before .before .before .sixteen .result) ≡ 16 = search needs in
     let long : length (c .before .construct-uncertainty-box .last .1 .1 .1 .1 .1 .1 .0) ≡ a .base = c .before .construct-uncertainty-box .kept .1 .1 .1 .1 .1 .1 .0 ∙ length-take-le (a .base) (c .before .before .before .sixteen .result) (omega (arith, c .before .before .before .before .before .before .before .before .pre)) in

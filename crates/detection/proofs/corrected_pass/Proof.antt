@@ -32,14 +32,14 @@ apply-basic-corrector-requires : tie.Need-apply-basic-corrector-requires
 apply-basic-corrector-requires c κs = search needs
 
 array-share-prefix-work : tie.Need-array-share-prefix-work
-array-share-prefix-work c = 
+array-share-prefix-work c =
     let l : length (c .before .before .before .before .before .zeros .result) ≡ 1024 = search needs in
     let k = c .before .before .before .before .before .before .before .before .before .before .before .before .before .pre .0 in
     let long : length (c .before .apply-basic-corrector .last .1 .1 .1 .1 .1 .1 .1 .1 .1 .1 .0) ≡ length (now (c .before .before .before .before .before .before .before .before .before .before .before .before .before .args .point)) = c .before .apply-basic-corrector .kept .1 .1 .1 .1 .1 .1 .1 .1 .1 .1 .0 ∙ length-take-le (length (now (c .before .before .before .before .before .before .before .before .before .before .before .before .before .args .point))) (c .before .before .before .before .before .zeros .result) (omega arith) in
     simp length-append (omega arith)
 
 slice-aggregate-centered-transform-pass : tie.Need-slice-aggregate-centered-transform-pass
-slice-aggregate-centered-transform-pass c = 
+slice-aggregate-centered-transform-pass c =
     let l : length (c .before .before .before .before .before .before .zeros .result) ≡ 1024 = search needs in
     let k = c .before .before .before .before .before .before .before .before .before .before .before .before .before .before .pre .0 in
     let long : length (c .before .before .apply-basic-corrector .last .1 .1 .1 .1 .1 .1 .1 .1 .1 .1 .0) ≡ length (now (c .before .before .before .before .before .before .before .before .before .before .before .before .before .before .args .point)) = c .before .before .apply-basic-corrector .kept .1 .1 .1 .1 .1 .1 .1 .1 .1 .1 .0 ∙ length-take-le (length (now (c .before .before .before .before .before .before .before .before .before .before .before .before .before .before .args .point))) (c .before .before .before .before .before .before .zeros .result) (omega arith) in
@@ -49,7 +49,7 @@ centered-transform-pass-requires : tie.Need-centered-transform-pass-requires
 centered-transform-pass-requires c κs = search needs
 
 returns : tie.Need-returns
-returns c = 
+returns c =
     let a = c .before .before .before .before .before .before .before .before .before .before .before .before .before .before .before .args in
     let l : length (c .before .before .before .before .before .before .before .zeros .result) ≡ 1024 = search needs in
     let k = c .before .before .before .before .before .before .before .before .before .before .before .before .before .before .before .pre .0 in

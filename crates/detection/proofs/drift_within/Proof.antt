@@ -45,7 +45,7 @@ near-means-requires : tie.Need-near-means-requires
 near-means-requires c κs = search needs
 
 returns : tie.Need-returns
-returns c = 
+returns c =
     let la : length (c .before .before .before .before .before .before .before .before .before .args .t2) ≡ 16 = search needs in
     let le : length (c .before .before .before .before .before .before .before .before .before .args .t3) ≡ 16 = search needs in
     let h = c .before .before .before .before .before .before .before .before .before .pre .0 in

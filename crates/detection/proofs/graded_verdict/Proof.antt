@@ -23,7 +23,7 @@ corrected-quiet-requires : tie.Need-corrected-quiet-requires
 corrected-quiet-requires c κs = search needs
 
 returns : tie.Need-returns
-returns c = 
+returns c =
     let b = lent (now (c .before .before .before .before .before .before .before .before .before .before .before .before .before .before .before .before .before .args .point)) (now (c .before .before .before .before .before .before .before .before .before .before .before .before .before .before .before .before .before .args .scale)) (now (c .before .before .before .before .before .before .before .before .before .before .before .before .before .before .before .before .before .args .shift)) (now (c .before .before .before .before .before .before .before .before .before .before .before .before .before .before .before .before .before .args .difference-deviations)) (now (c .before .before .before .before .before .before .before .before .before .before .before .before .before .before .before .before .before .args .last-expected)) (now (c .before .before .before .before .before .before .before .before .before .before .before .before .before .before .before .before .before .args .last-anomalous)) (now (c .before .before .before .before .before .before .before .before .before .before .before .before .before .before .before .before .before .args .high)) (now (c .before .before .before .before .before .before .before .before .before .before .before .before .before .before .before .before .before .args .low)) (now (c .before .before .before .before .before .before .before .before .before .before .before .before .before .before .before .before .before .args .median)) (now (c .before .before .before .before .before .before .before .before .before .before .before .before .before .before .before .before .before .args .ideal-high)) (now (c .before .before .before .before .before .before .before .before .before .before .before .before .before .before .before .before .before .args .ideal-low)) (now (c .before .before .before .before .before .before .before .before .before .before .before .before .before .before .before .before .before .args .neighbours)) in
     let r = c .before .before .before .before .before .before .before .before .before .before .before .before .before .before .before .before .before .args .r in
     let l = c .before .before .before .before .before .before .before .before .before .before .before .before .before .before .before .before .before .args .l in
@@ -34,13 +34,13 @@ returns c =
     graded-corrected r l b t (c .before .before .before .before .before .before .before .before .before .before .before .before .before .before .before .before .before .args .auto-adjust) (c .before .before .before .before .before .before .before .before .before .before .before .before .before .before .before .before .before .args .threshold) (c .before .before .before .before .before .before .before .before .before .before .before .before .before .before .before .before .before .args .grade) (sym q ∙ c .if1 .taken)
 
 noise-pass-requires : tie.Need-noise-pass-requires
-noise-pass-requires c κs = 
+noise-pass-requires c κs =
     let b = lent (now (c .before .before .before .before .before .before .before .before .before .before .before .before .before .before .before .before .before .args .point)) (now (c .before .before .before .before .before .before .before .before .before .before .before .before .before .before .before .before .before .args .scale)) (now (c .before .before .before .before .before .before .before .before .before .before .before .before .before .before .before .before .before .args .shift)) (now (c .before .before .before .before .before .before .before .before .before .before .before .before .before .before .before .before .before .args .difference-deviations)) (now (c .before .before .before .before .before .before .before .before .before .before .before .before .before .before .before .before .before .args .last-expected)) (now (c .before .before .before .before .before .before .before .before .before .before .before .before .before .before .before .before .before .args .last-anomalous)) (now (c .before .before .before .before .before .before .before .before .before .before .before .before .before .before .before .before .before .args .high)) (now (c .before .before .before .before .before .before .before .before .before .before .before .before .before .before .before .before .before .args .low)) (now (c .before .before .before .before .before .before .before .before .before .before .before .before .before .before .before .before .before .args .median)) (now (c .before .before .before .before .before .before .before .before .before .before .before .before .before .before .before .before .before .args .ideal-high)) (now (c .before .before .before .before .before .before .before .before .before .before .before .before .before .before .before .before .before .args .ideal-low)) (now (c .before .before .before .before .before .before .before .before .before .before .before .before .before .before .before .before .before .args .neighbours)) in
     let g = gap-is (c .before .before .before .before .before .before .before .before .before .before .before .before .before .before .before .before .before .args .r) (c .before .before .before .before .before .before .before .before .before .before .before .before .before .before .before .before .before .args .l) b (c .before .before .before .gap-of .result) (c .before .before .before .gap-of .ensures) in
     (c .before .before .before .before .before .before .before .before .before .before .before .before .before .before .before .before .before .pre .point-most, subst (λ (n : ℕ). Correcting (length (now (c .before .before .before .before .before .before .before .before .before .before .before .before .before .before .before .before .before .args .point))) n (c .before .before .before .before .before .before .before .before .before .before .before .before .before .before .before .before .before .args .r .«shingle_size») (c .before .before .before .before .before .before .before .before .before .before .before .before .before .before .before .before .before .args .r .«base_dimension») (c .before .before .before .before .before .before .before .before .before .before .before .before .before .before .before .before .before .args .l .«has_anomaly») (length (now (c .before .before .before .before .before .before .before .before .before .before .before .before .before .before .before .before .before .args .last-expected))) (length (now (c .before .before .before .before .before .before .before .before .before .before .before .before .before .before .before .before .before .args .last-anomalous))) (length (now (c .before .before .before .before .before .before .before .before .before .before .before .before .before .before .before .before .before .args .point)))) (sym g) (c .before .before .before .before .before .before .before .before .before .before .before .before .before .before .before .before .before .pre .correcting))
 
 returns-2 : tie.Need-returns-2
-returns-2 c = 
+returns-2 c =
     let b = lent (now (c .before .before .before .before .before .before .before .before .before .before .before .before .before .before .before .before .before .before .before .args .point)) (now (c .before .before .before .before .before .before .before .before .before .before .before .before .before .before .before .before .before .before .before .args .scale)) (now (c .before .before .before .before .before .before .before .before .before .before .before .before .before .before .before .before .before .before .before .args .shift)) (now (c .before .before .before .before .before .before .before .before .before .before .before .before .before .before .before .before .before .before .before .args .difference-deviations)) (now (c .before .before .before .before .before .before .before .before .before .before .before .before .before .before .before .before .before .before .before .args .last-expected)) (now (c .before .before .before .before .before .before .before .before .before .before .before .before .before .before .before .before .before .before .before .args .last-anomalous)) (now (c .before .before .before .before .before .before .before .before .before .before .before .before .before .before .before .before .before .before .before .args .high)) (now (c .before .before .before .before .before .before .before .before .before .before .before .before .before .before .before .before .before .before .before .args .low)) (now (c .before .before .before .before .before .before .before .before .before .before .before .before .before .before .before .before .before .before .before .args .median)) (now (c .before .before .before .before .before .before .before .before .before .before .before .before .before .before .before .before .before .before .before .args .ideal-high)) (now (c .before .before .before .before .before .before .before .before .before .before .before .before .before .before .before .before .before .before .before .args .ideal-low)) (now (c .before .before .before .before .before .before .before .before .before .before .before .before .before .before .before .before .before .before .before .args .neighbours)) in
     let r = c .before .before .before .before .before .before .before .before .before .before .before .before .before .before .before .before .before .before .before .args .r in
     let l = c .before .before .before .before .before .before .before .before .before .before .before .before .before .before .before .before .before .before .before .args .l in
@@ -54,7 +54,7 @@ late-verdict-requires : tie.Need-late-verdict-requires
 late-verdict-requires c κs = (c .before .before .before .before .before .before .before .before .before .before .before .before .before .before .before .before .before .before .before .pre, gap-is (c .before .before .before .before .before .before .before .before .before .before .before .before .before .before .before .before .before .before .before .args .r) (c .before .before .before .before .before .before .before .before .before .before .before .before .before .before .before .before .before .before .before .args .l) (lent (now (c .before .before .before .before .before .before .before .before .before .before .before .before .before .before .before .before .before .before .before .args .point)) (now (c .before .before .before .before .before .before .before .before .before .before .before .before .before .before .before .before .before .before .before .args .scale)) (now (c .before .before .before .before .before .before .before .before .before .before .before .before .before .before .before .before .before .before .before .args .shift)) (now (c .before .before .before .before .before .before .before .before .before .before .before .before .before .before .before .before .before .before .before .args .difference-deviations)) (now (c .before .before .before .before .before .before .before .before .before .before .before .before .before .before .before .before .before .before .before .args .last-expected)) (now (c .before .before .before .before .before .before .before .before .before .before .before .before .before .before .before .before .before .before .before .args .last-anomalous)) (now (c .before .before .before .before .before .before .before .before .before .before .before .before .before .before .before .before .before .before .before .args .high)) (now (c .before .before .before .before .before .before .before .before .before .before .before .before .before .before .before .before .before .before .before .args .low)) (now (c .before .before .before .before .before .before .before .before .before .before .before .before .before .before .before .before .before .before .before .args .median)) (now (c .before .before .before .before .before .before .before .before .before .before .before .before .before .before .before .before .before .before .before .args .ideal-high)) (now (c .before .before .before .before .before .before .before .before .before .before .before .before .before .before .before .before .before .before .before .args .ideal-low)) (now (c .before .before .before .before .before .before .before .before .before .before .before .before .before .before .before .before .before .before .before .args .neighbours))) (c .before .before .before .before .before .gap-of .result) (c .before .before .before .before .before .gap-of .ensures))
 
 returns-3 : tie.Need-returns-3
-returns-3 c = 
+returns-3 c =
     let b = lent (now (c .before .before .before .before .before .before .before .before .before .before .before .before .before .before .before .before .before .before .before .before .args .point)) (now (c .before .before .before .before .before .before .before .before .before .before .before .before .before .before .before .before .before .before .before .before .args .scale)) (now (c .before .before .before .before .before .before .before .before .before .before .before .before .before .before .before .before .before .before .before .before .args .shift)) (now (c .before .before .before .before .before .before .before .before .before .before .before .before .before .before .before .before .before .before .before .before .args .difference-deviations)) (now (c .before .before .before .before .before .before .before .before .before .before .before .before .before .before .before .before .before .before .before .before .args .last-expected)) (now (c .before .before .before .before .before .before .before .before .before .before .before .before .before .before .before .before .before .before .before .before .args .last-anomalous)) (now (c .before .before .before .before .before .before .before .before .before .before .before .before .before .before .before .before .before .before .before .before .args .high)) (now (c .before .before .before .before .before .before .before .before .before .before .before .before .before .before .before .before .before .before .before .before .args .low)) (now (c .before .before .before .before .before .before .before .before .before .before .before .before .before .before .before .before .before .before .before .before .args .median)) (now (c .before .before .before .before .before .before .before .before .before .before .before .before .before .before .before .before .before .before .before .before .args .ideal-high)) (now (c .before .before .before .before .before .before .before .before .before .before .before .before .before .before .before .before .before .before .before .before .args .ideal-low)) (now (c .before .before .before .before .before .before .before .before .before .before .before .before .before .before .before .before .before .before .before .before .args .neighbours)) in
     let r = c .before .before .before .before .before .before .before .before .before .before .before .before .before .before .before .before .before .before .before .before .args .r in
     let l = c .before .before .before .before .before .before .before .before .before .before .before .before .before .before .before .before .before .before .before .before .args .l in

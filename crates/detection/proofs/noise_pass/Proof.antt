@@ -22,7 +22,7 @@ centered-transform-pass-requires : tie.Need-centered-transform-pass-requires
 centered-transform-pass-requires c κs = search needs
 
 returns-2 : tie.Need-returns-2
-returns-2 c = 
+returns-2 c =
     let a = c .before .before .before .before .before .before .before .before .before .args in
     c .centered-transform-pass .ensures
     ∙ ap (centeredTransformPass (a .r .«base_dimension») (now (a .scale)) (now (a .shift)) (now (a .difference-deviations)))

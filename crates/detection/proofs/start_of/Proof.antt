@@ -15,7 +15,7 @@ block-of-requires : tie.Need-block-of-requires
 block-of-requires c κs = search needs
 
 mul-result : tie.Need-mul-result
-mul-result c = 
+mul-result c =
     let h : c .block-of .result ≤ 1024 = subst (λ (k : ℕ). k ≤ 1024) (sym (c .block-of .ensures ∙ ap blockOf (c .before .max-gap-contribution .ensures))) (c .before .before .before .before .pre .0) in
     let p : c .block-of .result * c .before .before .before .before .args .base ≤ 1024 * 16 = mul-le-mul h (c .before .before .before .before .pre .1) in
     record { fits = omega arith }

@@ -25,14 +25,14 @@ expected-point-requires : tie.Need-expected-point-requires
 expected-point-requires c κs = search needs
 
 array-share-prefix-work : tie.Need-array-share-prefix-work
-array-share-prefix-work c = 
+array-share-prefix-work c =
     let l : length (c .before .before .before .zeros .result) ≡ 1024 = search needs in
     let k = c .before .before .before .before .before .before .before .before .before .before .pre .0 in
     let long : length (c .before .expected-point .last .1 .1 .1 .1 .1 .1 .0) ≡ length (now (c .before .before .before .before .before .before .before .before .before .before .args .point)) = c .before .expected-point .kept .1 .1 .1 .1 .1 .1 .0 ∙ length-take-le (length (now (c .before .before .before .before .before .before .before .before .before .before .args .point))) (c .before .before .before .zeros .result) (omega arith) in
     simp length-append (omega arith)
 
 slice-aggregate-within-unertainty-box : tie.Need-slice-aggregate-within-unertainty-box
-slice-aggregate-within-unertainty-box c = 
+slice-aggregate-within-unertainty-box c =
     let l : length (c .before .before .before .before .zeros .result) ≡ 1024 = search needs in
     let k = c .before .before .before .before .before .before .before .before .before .before .before .pre .0 in
     let long : length (c .before .before .expected-point .last .1 .1 .1 .1 .1 .1 .0) ≡ length (now (c .before .before .before .before .before .before .before .before .before .before .before .args .point)) = c .before .before .expected-point .kept .1 .1 .1 .1 .1 .1 .0 ∙ length-take-le (length (now (c .before .before .before .before .before .before .before .before .before .before .before .args .point))) (c .before .before .before .before .zeros .result) (omega arith) in
@@ -42,7 +42,7 @@ within-unertainty-box-requires : tie.Need-within-unertainty-box-requires
 within-unertainty-box-requires c κs = search needs
 
 returns : tie.Need-returns
-returns c = 
+returns c =
     let a = c .before .before .before .before .before .before .before .before .before .before .before .before .args in
     let l : length (c .before .before .before .before .before .zeros .result) ≡ 1024 = search needs in
     let k = c .before .before .before .before .before .before .before .before .before .before .before .before .pre .0 in

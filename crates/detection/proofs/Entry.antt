@@ -1,0 +1,203 @@
+-- What an accepted reading gives the stages: the lengths fit the sizes, and the block lies within the point. Assumes nothing.
+use mathlib.Core.Path.{_≡_, refl, sym, ap, _∙_, subst}
+use mathlib.Core.Bool.{Bool, true, false, cond, _&&_}
+use mathlib.Core.List.{List}
+use Prim.Native.Nat.{ℕ, zero, suc, _+_, _-_, _*_, _/_, _%_, _≤_, _<_}
+use native.Mathlib.Nat.{mul-le-mul-right, le-trans, le-of-eq, one-mul, mul-div-cancel, mul-mod-left, mul-pos, add-mul}
+use native.Mathlib.Omega.{arith}
+use lib.Dec.{leb, ltb, eqb}
+use lib.ListN.{length}
+use lib.Ieee.{Float}
+use borrow.Author.Tests.{leb-true, ltb-true, eqb-true}
+use Rattle.types.specs.declared.Refusal.the-variants.{Range, Length, NotFinite, ValuesSeen, Count}
+use Rattle.types.specs.declared.Answer.{Answer}
+use Rattle.types.specs.declared.Answer.the-variants.{Done, Refused}
+use Rattle.divector.specs.DiVector.{maxGapContribution, winner, firstBlock}
+use Rattle.divector.proofs.Laws as DiVectorLaws
+use Rattle.corrector.specs.Steps.{Expecting, Correcting}
+use Rattle.descriptor.specs.Checks.{sizesOk, dimension, rangeOk, pointsOk, rowsOk, neighboursOk, lastPointsOk, lengthsOk, finiteOk, isLater, seenOk, answerOf}
+use Rattle.descriptor.specs.Lent.{Lent}
+use Rattle.descriptor.specs.declared.Reading.{Reading}
+use Rattle.descriptor.specs.declared.LastDescriptor.{LastDescriptor}
+use Rattle.descriptor.proofs.Bounds.{both, Sizes, sizes, product-fits, dimension-is}
+use Rattle.detection.specs.Judging.{gapOf, blockOf, gap, block, start}
+use Rattle.detection.specs.Steps.{Fitting, Writing}
+
+-- The tests that passed, of an answer that is no refusal.
+record Passed (a c d e f : Bool) : Type 0 where
+  range : a ≡ true
+  lengths : c ≡ true
+  finite : d ≡ true
+  seen : e ≡ true
+
+passed : (a c d e f : Bool)
+    → cond a (cond c (cond d (cond e (cond f Done (Refused Count)) (Refused ValuesSeen)) (Refused NotFinite)) (Refused Length)) (Refused Range) ≡ Done → Passed a c d e f
+passed true true true true f h = record { range = refl; lengths = refl; finite = refl; seen = refl }
+passed true true true false f h = absurd (let z : _≡_ {A = ℕ} 0 1 = cc in omega arith)
+passed true true false e f h = absurd (let z : _≡_ {A = ℕ} 0 1 = cc in omega arith)
+passed true false d e f h = absurd (let z : _≡_ {A = ℕ} 0 1 = cc in omega arith)
+passed false c d e f h = absurd (let z : _≡_ {A = ℕ} 0 1 = cc in omega arith)
+
+-- The buffers that are D long.
+record Points (d point high low median idealHigh idealLow expected outHigh outLow : ℕ) : Type 0 where
+  of-point : point ≡ d
+  of-high : high ≡ d
+  of-low : low ≡ d
+  of-median : median ≡ d
+  of-expected : expected ≡ d
+  of-out-high : outHigh ≡ d
+  of-out-low : outLow ≡ d
+
+points : (d point high low median ih il e h w : ℕ) → pointsOk d point high low median ih il e h w ≡ true → Points d point high low median ih il e h w
+unfolding pointsOk
+points d point high low median ih il e h w q =
+    let p₁ = both (eqb point d) _ q in
+    let p₂ = both (eqb high d) _ (p₁ .1) in
+    let p₃ = both (eqb low d) _ (p₂ .1) in
+    let p₄ = both (eqb median d) _ (p₃ .1) in
+    let p₅ = both (eqb ih d) _ (p₄ .1) in
+    let p₆ = both (eqb il d) _ (p₅ .1) in
+    let p₇ = both (eqb e d) _ (p₆ .1) in
+    let p₈ = both (eqb h d) (eqb w d) (p₇ .1) in
+    record {
+      of-point = eqb-true point d (p₁ .0);
+      of-high = eqb-true high d (p₂ .0);
+      of-low = eqb-true low d (p₃ .0);
+      of-median = eqb-true median d (p₄ .0);
+      of-expected = eqb-true e d (p₇ .0);
+      of-out-high = eqb-true h d (p₈ .0);
+      of-out-low = eqb-true w d (p₈ .1);
+    }
+
+noise-row : (base scale shift noise : ℕ) → rowsOk base scale shift noise ≡ true → noise ≡ base
+unfolding rowsOk
+noise-row base scale shift noise q =
+    let p = both (eqb scale base) (eqb shift base && eqb noise base) q in
+    let r = both (eqb shift base) (eqb noise base) (p .1) in
+    eqb-true noise base (r .1)
+
+last-points : (h : Bool) (d e a : ℕ) → lastPointsOk h d e a ≡ true → h ≡ true → (e ≡ d) × (a ≡ d)
+unfolding lastPointsOk
+last-points true d e a q k = let p = both (eqb e d) (eqb a d) q in (eqb-true e d (p .0), eqb-true a d (p .1))
+last-points false d e a q k = absurd (let z : _≡_ {A = ℕ} 0 1 = cc in omega arith)
+
+-- A reading that is seen later than the last anomaly has a gap.
+gap-above : (n : ℕ) (h : Bool) (m : ℕ) → seenOk n h m ≡ true → 0 < gapOf n h m
+unfolding seenOk isLater gapOf
+gap-above n true m q =
+    let p = both (leb 1 n) (leb n 16777216 && ltb m n) q in
+    let r = both (leb n 16777216) (ltb m n) (p .1) in
+    let k = ltb-true m n (r .1) in
+    omega arith
+gap-above n false m q = let p = both (leb 1 n) (leb n 16777216 && true) q in let k = leb-true 1 n (p .0) in omega arith
+
+-- The block of an accepted search, in a pair of whole blocks.
+block-within : (hs ls : List Float) (shingle base g : ℕ) → length hs ≡ shingle * base → length hs ≡ length ls → 0 < shingle → 0 < base → 0 < g
+    → blockOf (maxGapContribution hs ls base g) < shingle
+unfolding blockOf
+block-within hs ls shingle base g long same s-pos b-pos g-pos =
+    let l-pos : 0 < length hs = subst (λ (n : ℕ). 0 < n) (sym long) (mul-pos s-pos b-pos) in
+    let whole : length hs % base ≡ 0 = ap (λ (n : ℕ). n % base) long ∙ mul-mod-left shingle base in
+    let count : length hs / base ≡ shingle = ap (λ (n : ℕ). n / base) long ∙ mul-div-cancel shingle b-pos in
+    let a = DiVectorLaws.answered hs ls base g (record { alike = same; gapped = g-pos; based = b-pos; long = l-pos; whole = whole }) in
+    let k = DiVectorLaws.chosen hs ls base g a in
+    subst (λ (n : ℕ). blockOf (maxGapContribution hs ls base g) < n) count (subst (λ (m : _). blockOf m < length hs / base) (sym a) (k .1))
+
+row-inside : (k shingle base : ℕ) → k < shingle → k * base + base ≤ shingle * base
+row-inside k shingle base h =
+    let p : (k + 1) * base ≤ shingle * base = mul-le-mul-right base (let q : k + 1 ≤ shingle = omega arith in q) in
+    omega arith
+
+base-inside : (shingle base : ℕ) → 1 ≤ shingle → base ≤ shingle * base
+base-inside shingle base h = rw one-mul at (mul-le-mul-right base h)
+
+module _ (r : Reading) (l : LastDescriptor) (b : Lent) (stateBase e h w : ℕ) (ok : Bool) (accepted : answerOf r l b stateBase e h w ok ≡ Done) where
+  tests : Passed (rangeOk (r .«shingle_size») (r .«base_dimension») stateBase) (lengthsOk r l b e h w) (finiteOk r l b) (seenOk (r .«values_seen») (l .«has_anomaly») (l .anomaly .«values_seen»)) ok
+  unfolding answerOf
+  tests = passed _ _ _ _ _ accepted
+
+  sized : sizesOk (r .«shingle_size») (r .«base_dimension») ≡ true
+  unfolding rangeOk
+  sized = both (sizesOk (r .«shingle_size») (r .«base_dimension»)) (eqb (r .«base_dimension») stateBase) (tests .range) .0
+
+  d : ℕ
+  d = dimension (r .«shingle_size») (r .«base_dimension»)
+
+  product : d ≡ r .«shingle_size» * r .«base_dimension»
+  unfolding d
+  product = dimension-is (r .«shingle_size») (r .«base_dimension») sized
+
+  record Lengths : Type 0 where
+    of : Points d (length (b .point)) (length (b .high)) (length (b .low)) (length (b .median)) (length (b .«ideal_high»)) (length (b .«ideal_low»)) e h w
+    noise : length (b .«difference_deviations») ≡ r .«base_dimension»
+    last : l .«has_anomaly» ≡ true → (length (b .«last_expected») ≡ d) × (length (b .«last_anomalous») ≡ d)
+
+  lengths : Lengths
+  unfolding lengthsOk d
+  lengths =
+      let p₁ = both (pointsOk d (length (b .point)) (length (b .high)) (length (b .low)) (length (b .median)) (length (b .«ideal_high»)) (length (b .«ideal_low»)) e h w) _ (tests .lengths) in
+      let p₂ = both (rowsOk (r .«base_dimension») (length (b .scale)) (length (b .shift)) (length (b .«difference_deviations»))) _ (p₁ .1) in
+      let p₃ = both (neighboursOk d (length (b .neighbours))) _ (p₂ .1) in
+      record {
+        of = points d (length (b .point)) (length (b .high)) (length (b .low)) (length (b .median)) (length (b .«ideal_high»)) (length (b .«ideal_low»)) e h w (p₁ .0);
+        noise = noise-row (r .«base_dimension») (length (b .scale)) (length (b .shift)) (length (b .«difference_deviations»)) (p₂ .0);
+        last = last-points (l .«has_anomaly») d (length (b .«last_expected»)) (length (b .«last_anomalous»)) (p₃ .1);
+      }
+
+  gapped : 0 < gap r l b
+  unfolding gap
+  gapped = gap-above (r .«values_seen») (l .«has_anomaly») (l .anomaly .«values_seen») (tests .seen)
+
+  block-below : block r l b < r .«shingle_size»
+  unfolding block
+  block-below =
+      let z = sizes (r .«shingle_size») (r .«base_dimension») sized in
+      let n = lengths in
+      block-within (b .high) (b .low) (r .«shingle_size») (r .«base_dimension») (gap r l b) (n .of .of-high ∙ product) (n .of .of-high ∙ sym (n .of .of-low)) (z .shingle-least) (z .base-least) gapped
+
+  inside : start r l b + r .«base_dimension» ≤ length (b .point)
+  unfolding start
+  inside = le-trans (row-inside (block r l b) (r .«shingle_size») (r .«base_dimension») block-below) (le-of-eq (sym (lengths .of .of-point ∙ product)))
+
+  pub fitting : Fitting r l b
+  fitting =
+      let z = sizes (r .«shingle_size») (r .«base_dimension») sized in
+      let n = lengths in
+      let k = block-below in
+      let m = z .shingle-most in
+      let long = n .of .of-point in
+      record {
+        shingle-most = z .shingle-most;
+        base-least = z .base-least;
+        base-most = z .base-most;
+        point-most = subst (λ (x : ℕ). x ≤ 1024) (sym (long ∙ product)) (product-fits (r .«shingle_size») (r .«base_dimension») sized);
+        base-within = subst (λ (x : ℕ). r .«base_dimension» ≤ x) (sym (long ∙ product)) (base-inside (r .«shingle_size») (r .«base_dimension») (z .shingle-least));
+        noise-long = n .noise;
+        correcting = record {
+          sizes = record { some = z .shingle-least; few = z .shingle-most; wide = z .base-least; narrow = z .base-most; long = long ∙ product };
+          later = gapped;
+          out-long = refl;
+          expected-long = λ q. n .last q .0 ∙ sym long;
+          anomalous-long = λ q. n .last q .1 ∙ sym long;
+        };
+        expecting = record {
+          high-long = n .of .of-high ∙ sym long;
+          low-long = n .of .of-low ∙ sym long;
+          median-long = n .of .of-median ∙ sym long;
+          out-long = refl;
+          some = z .base-least;
+          few = z .base-most;
+          inside = inside;
+        };
+        block-small = omega arith;
+      }
+
+  pub writing : Writing b e h w
+  writing =
+      let n = lengths in
+      record {
+        expected-long = n .of .of-expected ∙ sym (n .of .of-point);
+        low-long = n .of .of-high ∙ sym (n .of .of-low);
+        out-high-long = n .of .of-high ∙ sym (n .of .of-out-high);
+        out-low-long = n .of .of-high ∙ sym (n .of .of-out-low);
+      }
