@@ -1,0 +1,89 @@
+-- The calls on a reading's buffers that predictorcorrector.rs has public: what each answers, and what it leaves in its buffer or state.
+use Prim.Native.Nat.{ℕ, _+_, _-_}
+use mathlib.Core.Bool.{Bool, true, false, cond, _&&_}
+use mathlib.Core.List.{List}
+use lib.Dec.{leb, ltb, eqb}
+use lib.ListN.{length}
+use lib.IntN.{ℤ}
+use lib.Ieee.{Float}
+use Rattle.types.specs.declared.Refusal.the-variants.{Range, Length, NotFinite, ValuesSeen, Count}
+use Rattle.types.specs.declared.Answer.{Answer}
+use Rattle.types.specs.declared.Answer.the-variants.{Done, Refused}
+use Rattle.descriptor.specs.Checks.{sizesOk, dimension, lastPointsOk, allFinite}
+use Rattle.corrector.specs.Corrector.{expectedPoint, applyBasicCorrector}
+use Rattle.predictorcorrector.specs.State.{autoAdjusted, stateCountsOk}
+use Rattle.predictorcorrector.specs.declared.PredictorCorrector.{PredictorCorrector}
+use Rattle.predictorcorrector.specs.declared.Changed.{Changed}
+
+-- The first test that fails names the refusal: 2, 3, 4, then the call's own.
+unfoldable pub firstRefusal : Bool → Bool → Bool → Answer → Answer
+firstRefusal sizes lengths finite last =
+    cond sizes (cond lengths (cond finite last (Refused NotFinite)) (Refused Length)) (Refused Range)
+
+-- What a buffer holds afterwards: the new contents of a call that was carried out.
+unfoldable pub written : Answer → List Float → List Float → List Float
+written Done new old = new
+written (Refused why) new old = old
+
+-- ---- expected_point
+-- A start position is not beyond D - base.
+unfoldable pub startOk : ℕ → ℕ → ℕ → Bool
+startOk position d base = leb position (d - base)
+
+-- Every buffer is D long, and the row from position on lies within.
+unfoldable pub expectedLengths : (d base position point high low median out : ℕ) → Bool
+expectedLengths d base position point high low median out =
+    eqb point d && (eqb high d && (eqb low d && (eqb median d && (eqb out d && startOk position d base))))
+
+unfoldable pub expectedFinite : List Float → List Float → List Float → List Float → Bool
+expectedFinite point high low median = allFinite point && (allFinite high && (allFinite low && allFinite median))
+
+unfoldable pub expectedAnswer : (shingle base position : ℕ) → (point high low median : List Float) → (out : ℕ) → Answer
+expectedAnswer shingle base position point high low median out =
+    firstRefusal (sizesOk shingle base)
+    (expectedLengths (dimension shingle base) base position (length point) (length high) (length low) (length median) out)
+    (expectedFinite point high low median)
+    Done
+
+-- ---- apply_basic_corrector
+unfoldable pub correctorLengths : (d point out : ℕ) → Bool → (expected anomalous : ℕ) → Bool
+correctorLengths d point out hasAnomaly expected anomalous = eqb point d && (eqb out d && lastPointsOk hasAnomaly d expected anomalous)
+
+-- Behind a no the last points are not looked at.
+unfoldable pub lastFinite : Bool → List Float → List Float → Bool
+lastFinite hasAnomaly expected anomalous = cond hasAnomaly (allFinite expected && allFinite anomalous) true
+
+unfoldable pub correctorFinite : List Float → Bool → List Float → List Float → Bool
+correctorFinite point hasAnomaly expected anomalous = allFinite point && lastFinite hasAnomaly expected anomalous
+
+-- Refusal 5 for gap 0.
+unfoldable pub gapAnswer : ℕ → Answer
+gapAnswer gap = cond (eqb gap 0) (Refused ValuesSeen) Done
+
+unfoldable pub correctorAnswer : (shingle base gap : ℕ) → (point : List Float) → Bool → (expected anomalous : List Float) → (out : ℕ) → Answer
+correctorAnswer shingle base gap point hasAnomaly expected anomalous out =
+    firstRefusal (sizesOk shingle base)
+    (correctorLengths (dimension shingle base) (length point) out hasAnomaly (length expected) (length anomalous))
+    (correctorFinite point hasAnomaly expected anomalous)
+    (gapAnswer gap)
+
+-- ---- update_auto_adjust
+-- Refusal 6 for counts that take no update.
+unfoldable pub countsAnswer : Bool → Answer
+countsAnswer ok = cond ok Done (Refused Count)
+
+unfoldable pub adjustAnswer : PredictorCorrector → ℕ → List Float → Answer
+adjustAnswer s shingle point =
+    firstRefusal (sizesOk shingle (s .«base_dimension»))
+    (eqb (length point) (dimension shingle (s .«base_dimension»)))
+    (allFinite point)
+    (countsAnswer (stateCountsOk s))
+
+-- A refusal hands the state back as it came.
+unfoldable pub adjustedBy : Answer → PredictorCorrector → List Float → PredictorCorrector
+adjustedBy Done s point = autoAdjusted s point
+adjustedBy (Refused why) s point = s
+
+unfoldable pub updateAutoAdjust : PredictorCorrector → ℕ → List Float → Changed
+updateAutoAdjust s shingle point =
+    record { answer = adjustAnswer s shingle point; state = adjustedBy (adjustAnswer s shingle point) s point }

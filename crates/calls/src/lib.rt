@@ -1,0 +1,229 @@
+// The calls on a reading's buffers that predictorcorrector.rs has public, with document 01's refusals.
+use predictorcorrector::Changed;
+use predictorcorrector::PredictorCorrector;
+use types::Answer;
+use types::Refusal;
+ghost use mathlib.Core.Path.{_≡_};
+ghost use lib.ListN.{length};
+ghost use Rattle.descriptor.specs.Checks as Checks;
+ghost use Rattle.corrector.specs.Corrector as Corrector;
+ghost use Rattle.calls.specs.Calls as Calls;
+
+fn first_refusal(sizes: bool, lengths: bool, finite: bool, last: Answer) -> Answer
+    ensures { λ r. ⌜ r ≡ Calls.firstRefusal sizes lengths finite last ⌝ }
+{
+    if sizes {
+        if lengths {
+            if finite {
+                return last;
+            }
+            return Answer::Refused(Refusal::NotFinite);
+        }
+        return Answer::Refused(Refusal::Length);
+    }
+    Answer::Refused(Refusal::Range)
+}
+
+fn at_most(position: usize, d: usize, base: usize) -> bool
+    ensures { λ r. ⌜ r ≡ Calls.startOk position d base ⌝ }
+{
+    if base <= d {
+        return position <= d - base;
+    }
+    position == 0
+}
+
+fn expected_answer(
+    shingle_size: usize,
+    base: usize,
+    position: usize,
+    point: &[f32],
+    high: &[f64],
+    low: &[f64],
+    median: &[f32],
+    out: usize,
+) -> Answer
+    ensures { λ r. ⌜ r ≡ Calls.expectedAnswer «shingle_size» base position (now (point .entry)) (now (high .entry)) (now (low .entry)) (now (median .entry)) out ⌝ }
+{
+    let d = descriptor::dimension(shingle_size, base);
+    first_refusal(
+        descriptor::sizes_ok(shingle_size, base),
+        (point.len() == d)
+            & ((high.len() == d)
+                & ((low.len() == d)
+                    & ((median.len() == d) & ((out == d) & at_most(position, d, base))))),
+        descriptor::all_finite_f32(point)
+            & (descriptor::all_finite_f64(high)
+                & (descriptor::all_finite_f64(low) & descriptor::all_finite_f32(median))),
+        Answer::Done,
+    )
+}
+
+// The expected point: the point with the conditional median at the coordinates of the row from `position` on that contribute most.
+pub fn expected_point(
+    shingle_size: usize,
+    base: usize,
+    position: usize,
+    point: &[f32],
+    high: &[f64],
+    low: &[f64],
+    median: &[f32],
+    out: &mut [f32],
+) -> Answer
+    ensures { λ r. ⌜ r ≡ Calls.expectedAnswer «shingle_size» base position (now (point .entry)) (now (high .entry)) (now (low .entry)) (now (median .entry)) (length (now (out .entry))) ⌝ ∗ ⌜ now (out .exit) ≡ Calls.written (Calls.expectedAnswer «shingle_size» base position (now (point .entry)) (now (high .entry)) (now (low .entry)) (now (median .entry)) (length (now (out .entry)))) (Corrector.expectedPoint (now (high .entry)) (now (low .entry)) position base (now (point .entry)) (now (median .entry))) (now (out .entry)) ⌝ }
+{
+    let answer = expected_answer(
+        shingle_size,
+        base,
+        position,
+        point,
+        high,
+        low,
+        median,
+        out.len(),
+    );
+    match answer {
+        Answer::Done => {
+            corrector::expected_point(high, low, position, base, point, median, out);
+            answer
+        }
+        Answer::Refused(_) => answer,
+    }
+}
+
+fn gap_answer(gap: usize) -> Answer
+    ensures { λ r. ⌜ r ≡ Calls.gapAnswer gap ⌝ }
+{
+    if gap == 0 {
+        return Answer::Refused(Refusal::ValuesSeen);
+    }
+    Answer::Done
+}
+
+fn last_points_ok(has_anomaly: bool, d: usize, expected: usize, anomalous: usize) -> bool
+    ensures { λ r. ⌜ r ≡ Checks.lastPointsOk «has_anomaly» d expected anomalous ⌝ }
+{
+    if has_anomaly {
+        return (expected == d) & (anomalous == d);
+    }
+    true
+}
+
+fn corrector_finite(point: &[f32], has_anomaly: bool, expected: &[f32], anomalous: &[f32]) -> bool
+    ensures { λ r. ⌜ r ≡ Calls.correctorFinite (now (point .entry)) «has_anomaly» (now (expected .entry)) (now (anomalous .entry)) ⌝ }
+{
+    descriptor::all_finite_f32(point) & both_finite(has_anomaly, expected, anomalous)
+}
+
+fn both_finite(has_anomaly: bool, expected: &[f32], anomalous: &[f32]) -> bool
+    ensures { λ r. ⌜ r ≡ Calls.lastFinite «has_anomaly» (now (expected .entry)) (now (anomalous .entry)) ⌝ }
+{
+    if has_anomaly {
+        return descriptor::all_finite_f32(expected) & descriptor::all_finite_f32(anomalous);
+    }
+    true
+}
+
+fn corrector_answer(
+    shingle_size: usize,
+    base: usize,
+    gap: usize,
+    point: &[f32],
+    has_anomaly: bool,
+    expected: &[f32],
+    anomalous: &[f32],
+    out: usize,
+) -> Answer
+    ensures { λ r. ⌜ r ≡ Calls.correctorAnswer «shingle_size» base gap (now (point .entry)) «has_anomaly» (now (expected .entry)) (now (anomalous .entry)) out ⌝ }
+{
+    let d = descriptor::dimension(shingle_size, base);
+    first_refusal(
+        descriptor::sizes_ok(shingle_size, base),
+        (point.len() == d)
+            & ((out == d) & last_points_ok(has_anomaly, d, expected.len(), anomalous.len())),
+        corrector_finite(point, has_anomaly, expected, anomalous),
+        gap_answer(gap),
+    )
+}
+
+// The point with the last anomaly's effect taken out.
+pub fn apply_basic_corrector(
+    point: &[f32],
+    gap: usize,
+    shingle_size: usize,
+    base: usize,
+    has_anomaly: bool,
+    last_expected: &[f32],
+    last_anomalous: &[f32],
+    relative_index: i32,
+    use_difference: bool,
+    time_augmented: bool,
+    out: &mut [f32],
+) -> Answer
+    ensures { λ r. ⌜ r ≡ Calls.correctorAnswer «shingle_size» base gap (now (point .entry)) «has_anomaly» (now («last_expected» .entry)) (now («last_anomalous» .entry)) (length (now (out .entry))) ⌝ ∗ ⌜ now (out .exit) ≡ Calls.written (Calls.correctorAnswer «shingle_size» base gap (now (point .entry)) «has_anomaly» (now («last_expected» .entry)) (now («last_anomalous» .entry)) (length (now (out .entry)))) (Corrector.applyBasicCorrector (now (point .entry)) gap «shingle_size» base «has_anomaly» (now («last_expected» .entry)) (now («last_anomalous» .entry)) «relative_index» «use_difference» «time_augmented») (now (out .entry)) ⌝ }
+{
+    let answer = corrector_answer(
+        shingle_size,
+        base,
+        gap,
+        point,
+        has_anomaly,
+        last_expected,
+        last_anomalous,
+        out.len(),
+    );
+    match answer {
+        Answer::Done => {
+            corrector::apply_basic_corrector(
+                point,
+                gap,
+                shingle_size,
+                base,
+                has_anomaly,
+                last_expected,
+                last_anomalous,
+                relative_index,
+                use_difference,
+                time_augmented,
+                out,
+            );
+            answer
+        }
+        Answer::Refused(_) => answer,
+    }
+}
+
+fn counts_answer(ok: bool) -> Answer
+    ensures { λ r. ⌜ r ≡ Calls.countsAnswer ok ⌝ }
+{
+    if ok {
+        return Answer::Done;
+    }
+    Answer::Refused(Refusal::Count)
+}
+
+fn adjust_answer(s: PredictorCorrector, shingle_size: usize, point: &[f32]) -> Answer
+    ensures { λ r. ⌜ r ≡ Calls.adjustAnswer s «shingle_size» (now (point .entry)) ⌝ }
+{
+    let base = s.base_dimension as usize;
+    first_refusal(
+        descriptor::sizes_ok(shingle_size, base),
+        point.len() == descriptor::dimension(shingle_size, base),
+        descriptor::all_finite_f32(point),
+        counts_answer(s.counts_ok()),
+    )
+}
+
+// Within a run with auto adjust, counts the oldest row of the point.
+pub fn update_auto_adjust(s: PredictorCorrector, shingle_size: usize, point: &[f32]) -> Changed
+    ensures { λ r. ⌜ r ≡ Calls.updateAutoAdjust s «shingle_size» (now (point .entry)) ⌝ }
+{
+    let answer = adjust_answer(s, shingle_size, point);
+    match answer {
+        Answer::Done => Changed {
+            answer,
+            state: s.auto_adjusted(point),
+        },
+        Answer::Refused(_) => Changed { answer, state: s },
+    }
+}
