@@ -16,7 +16,7 @@ use Rattle.corrector.specs.Corrector.{expectedFits, correctorFits}
 use Rattle.corrector.specs.Steps.{Expecting, Correcting}
 use Rattle.corrector.proofs.Kept.{expects, corrects}
 use Rattle.descriptor.specs.Checks.{sizesOk, dimension, lastPointsOk}
-use Rattle.descriptor.proofs.Bounds.{both, sizes, dimension-is}
+use Rattle.descriptor.proofs.Bounds.{both, sizes, dimension-is, base-inside, last-points}
 use Rattle.calls.specs.Calls.{firstRefusal, written, startOk, expectedLengths, expectedFinite, expectedAnswer, correctorLengths, correctorFinite, gapAnswer, correctorAnswer}
 
 record Passed (sizes lengths finite : Bool) (last : Answer) : Type 0 where
@@ -30,9 +30,6 @@ passed true true true last h = record { of-sizes = refl; of-lengths = refl; of-l
 passed true true false last h = absurd (let z : _≡_ {A = ℕ} 0 1 = cc in omega arith)
 passed true false d last h = absurd (let z : _≡_ {A = ℕ} 0 1 = cc in omega arith)
 passed false c d last h = absurd (let z : _≡_ {A = ℕ} 0 1 = cc in omega arith)
-
-base-inside : (shingle base : ℕ) → 1 ≤ shingle → base ≤ shingle * base
-base-inside shingle base h = rw one-mul at (mul-le-mul-right base h)
 
 pub expected-fits : (shingle base position : ℕ) (point high low median : List Float) (out : ℕ) → expectedAnswer shingle base position point high low median out ≡ Done
     → expectedFits (length high) (length low) position base (length point) (length median) out ≡ true
@@ -67,11 +64,6 @@ gap-above gap h = go (eqb gap 0) (λ (e : eqb gap 0 ≡ false). eqb-false gap 0 
     go : (t : Bool) → (eqb gap 0 ≡ false → gap ≡ 0 → ⊥) → eqb gap 0 ≡ t → cond t (Refused ValuesSeen) Done ≡ Done → 0 < gap
     go true f e k = absurd (let z : _≡_ {A = ℕ} 0 1 = cc in omega arith)
     go false f e k = let n = f e in omega arith
-
-last-points : (h : Bool) (d e a : ℕ) → lastPointsOk h d e a ≡ true → h ≡ true → (e ≡ d) × (a ≡ d)
-unfolding lastPointsOk
-last-points true d e a q k = let p = both (eqb e d) (eqb a d) q in (eqb-true e d (p .0), eqb-true a d (p .1))
-last-points false d e a q k = absurd (let z : _≡_ {A = ℕ} 0 1 = cc in omega arith)
 
 pub corrector-fits : (shingle base gap : ℕ) (point : List Float) (has : Bool) (expected anomalous : List Float) (out : ℕ) → correctorAnswer shingle base gap point has expected anomalous out ≡ Done
     → correctorFits (length point) gap shingle base has (length expected) (length anomalous) out ≡ true

@@ -5,7 +5,6 @@ use types::Answer;
 use types::Refusal;
 ghost use mathlib.Core.Path.{_≡_};
 ghost use lib.ListN.{length};
-ghost use Rattle.descriptor.specs.Checks as Checks;
 ghost use Rattle.corrector.specs.Corrector as Corrector;
 ghost use Rattle.calls.specs.Calls as Calls;
 
@@ -100,15 +99,6 @@ fn gap_answer(gap: usize) -> Answer
     Answer::Done
 }
 
-fn last_points_ok(has_anomaly: bool, d: usize, expected: usize, anomalous: usize) -> bool
-    ensures { λ r. ⌜ r ≡ Checks.lastPointsOk «has_anomaly» d expected anomalous ⌝ }
-{
-    if has_anomaly {
-        return (expected == d) & (anomalous == d);
-    }
-    true
-}
-
 fn corrector_finite(point: &[f32], has_anomaly: bool, expected: &[f32], anomalous: &[f32]) -> bool
     ensures { λ r. ⌜ r ≡ Calls.correctorFinite (now (point .entry)) «has_anomaly» (now (expected .entry)) (now (anomalous .entry)) ⌝ }
 {
@@ -140,7 +130,8 @@ fn corrector_answer(
     first_refusal(
         descriptor::sizes_ok(shingle_size, base),
         (point.len() == d)
-            & ((out == d) & last_points_ok(has_anomaly, d, expected.len(), anomalous.len())),
+            & ((out == d)
+                & descriptor::last_points_ok(has_anomaly, d, expected.len(), anomalous.len())),
         corrector_finite(point, has_anomaly, expected, anomalous),
         gap_answer(gap),
     )

@@ -1,11 +1,12 @@
 -- What the entry checks give once they pass, for the judge. Assumes nothing.
-use mathlib.Core.Path.{_≡_, refl, sym, subst, _∙_, ap}
-use mathlib.Core.Bool.{Bool, true, false, cond, _&&_, true≢false}
-use Prim.Native.Nat.{ℕ, _*_, _≤_, _<_}
-use native.Mathlib.Nat.{mul-le-mul, lt-of-le-of-lt}
-use lib.Dec.{T, leb, eqb, lit<}
+use mathlib.Core.Path.{_≡_, refl, sym}
+use mathlib.Core.Bool.{Bool, true, false, _&&_, true≢false}
+use Prim.Native.Nat.{ℕ, _*_, _≤_}
+use native.Mathlib.Nat.{mul-le-mul, mul-le-mul-right, one-mul}
+use native.Mathlib.Omega.{arith}
+use lib.Dec.{leb, eqb}
 use borrow.Author.Tests.{leb-true, eqb-true}
-use Rattle.descriptor.specs.Checks.{sizesOk, dimension, rangeOk}
+use Rattle.descriptor.specs.Checks.{sizesOk, dimension, lastPointsOk}
 
 -- Two tests that passed together.
 pub both : (a b : Bool) → (a && b) ≡ true → (a ≡ true) × (b ≡ true)
@@ -37,3 +38,12 @@ product-fits shingle base h = let s = sizes shingle base h in mul-le-mul (s .shi
 pub dimension-is : (shingle base : ℕ) → sizesOk shingle base ≡ true → dimension shingle base ≡ shingle * base
 unfolding dimension
 dimension-is shingle base h = rw h
+
+-- A row fits a point of one row or more.
+pub base-inside : (shingle base : ℕ) → 1 ≤ shingle → base ≤ shingle * base
+base-inside shingle base h = rw one-mul at (mul-le-mul-right base h)
+
+pub last-points : (h : Bool) (d e a : ℕ) → lastPointsOk h d e a ≡ true → h ≡ true → (e ≡ d) × (a ≡ d)
+unfolding lastPointsOk
+last-points true d e a q k = let p = both (eqb e d) (eqb a d) q in (eqb-true e d (p .0), eqb-true a d (p .1))
+last-points false d e a q k = absurd (let z : _≡_ {A = ℕ} 0 1 = cc in omega arith)

@@ -134,7 +134,8 @@ pub fn neighbours_ok(d: usize, n: usize) -> bool
     (n % d == 0) & (n / d <= 256)
 }
 
-fn last_points_ok(has_anomaly: bool, d: usize, expected: usize, anomalous: usize) -> bool
+// The last anomaly's points, behind its yes/no.
+pub fn last_points_ok(has_anomaly: bool, d: usize, expected: usize, anomalous: usize) -> bool
     ensures { λ r. ⌜ r ≡ Checks.lastPointsOk «has_anomaly» d expected anomalous ⌝ }
 {
     if has_anomaly {

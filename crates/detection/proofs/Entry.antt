@@ -19,7 +19,7 @@ use Rattle.descriptor.specs.Checks.{sizesOk, dimension, rangeOk, pointsOk, rows
 use Rattle.descriptor.specs.Lent.{Lent}
 use Rattle.descriptor.specs.declared.Reading.{Reading}
 use Rattle.descriptor.specs.declared.LastDescriptor.{LastDescriptor}
-use Rattle.descriptor.proofs.Bounds.{both, Sizes, sizes, product-fits, dimension-is}
+use Rattle.descriptor.proofs.Bounds.{both, Sizes, sizes, product-fits, dimension-is, base-inside, last-points}
 use Rattle.detection.specs.Judging.{gapOf, blockOf, gap, block, start}
 use Rattle.detection.specs.Steps.{Fitting, Writing}
 
@@ -76,11 +76,6 @@ noise-row base scale shift noise q =
     let r = both (eqb shift base) (eqb noise base) (p .1) in
     eqb-true noise base (r .1)
 
-last-points : (h : Bool) (d e a : ℕ) → lastPointsOk h d e a ≡ true → h ≡ true → (e ≡ d) × (a ≡ d)
-unfolding lastPointsOk
-last-points true d e a q k = let p = both (eqb e d) (eqb a d) q in (eqb-true e d (p .0), eqb-true a d (p .1))
-last-points false d e a q k = absurd (let z : _≡_ {A = ℕ} 0 1 = cc in omega arith)
-
 -- A reading that is seen later than the last anomaly has a gap.
 gap-above : (n : ℕ) (h : Bool) (m : ℕ) → seenOk n h m ≡ true → 0 < gapOf n h m
 unfolding seenOk isLater gapOf
@@ -107,9 +102,6 @@ row-inside : (k shingle base : ℕ) → k < shingle → k * base + base ≤ shin
 row-inside k shingle base h =
     let p : (k + 1) * base ≤ shingle * base = mul-le-mul-right base (let q : k + 1 ≤ shingle = omega arith in q) in
     omega arith
-
-base-inside : (shingle base : ℕ) → 1 ≤ shingle → base ≤ shingle * base
-base-inside shingle base h = rw one-mul at (mul-le-mul-right base h)
 
 module _ (r : Reading) (l : LastDescriptor) (b : Lent) (stateBase e h w : ℕ) (ok : Bool) (accepted : answerOf r l b stateBase e h w ok ≡ Done) where
   tests : Passed (rangeOk (r .«shingle_size») (r .«base_dimension») stateBase) (lengthsOk r l b e h w) (finiteOk r l b) (seenOk (r .«values_seen») (l .«has_anomaly») (l .anomaly .«values_seen»)) ok
