@@ -1,0 +1,2 @@
+mod Keeps
+pub mod Demand3
