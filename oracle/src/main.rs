@@ -2,14 +2,18 @@
 
 mod bench;
 mod bytes;
+#[cfg(feature = "chain")]
+mod chain;
 mod ours;
 mod parts;
 mod random;
 mod readings;
 mod refusals;
 mod same;
+mod sample;
 mod statistics;
 mod tally;
+mod thresholders;
 mod values;
 
 use std::process::ExitCode;
@@ -35,11 +39,14 @@ fn wanted() -> Result<Wanted, String> {
     for word in std::env::args().skip(1) {
         if let Some(number) = word.strip_prefix("seed=") {
             wanted.seed = number.parse().map_err(|_| format!("no seed: {number}"))?;
-        } else if word == "bench" || PARTS.iter().any(|p| p.name == word) {
+        } else if word == "bench" || word == "sample" || PARTS.iter().any(|p| p.name == word) {
             wanted.parts.push(word);
         } else {
             let names: Vec<&str> = PARTS.iter().map(|p| p.name).collect();
-            return Err(format!("no part {word}; parts: {} bench", names.join(" ")));
+            return Err(format!(
+                "no part {word}; parts: {} bench sample",
+                names.join(" ")
+            ));
         }
     }
     if wanted.parts.is_empty() {
@@ -53,6 +60,10 @@ fn wanted() -> Result<Wanted, String> {
 fn run(name: &str, seed: u64) -> u64 {
     if name == "bench" {
         bench::run(&mut Random::new(seed));
+        return 0;
+    }
+    if name == "sample" {
+        sample::write(&mut Random::new(seed)).expect("a sample written");
         return 0;
     }
     let part = PARTS.iter().find(|p| p.name == name).expect("a known part");

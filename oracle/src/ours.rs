@@ -26,6 +26,63 @@ mod c {
         pub fn krcf_deviation_deviation(s: *const u8, s_len: usize, out: *mut u8, len: usize)
             -> u8;
         pub fn krcf_deviation_is_empty(s: *const u8, s_len: usize, out: *mut u8, len: usize) -> u8;
+
+        pub fn krcf_thresholder_new(discount: f64, adjust: u8, out: *mut u8, len: usize) -> u8;
+        pub fn krcf_thresholder_is_deviation_ready(
+            s: *const u8,
+            s_len: usize,
+            out: *mut u8,
+            len: usize,
+        ) -> u8;
+        pub fn krcf_threshold(s: *const u8, s_len: usize, out: *mut u8, len: usize) -> u8;
+        pub fn krcf_primary_grade(
+            s: *const u8,
+            s_len: usize,
+            score: f32,
+            out: *mut u8,
+            len: usize,
+        ) -> u8;
+        pub fn krcf_primary_threshold_and_grade(
+            s: *const u8,
+            s_len: usize,
+            score: f32,
+            out: *mut u8,
+            len: usize,
+        ) -> u8;
+        pub fn krcf_threshold_and_grade(
+            s: *const u8,
+            s_len: usize,
+            score: f32,
+            method: u8,
+            shingle_size: usize,
+            out: *mut u8,
+            len: usize,
+        ) -> u8;
+        pub fn krcf_threshold_and_grade_with_factor(
+            s: *const u8,
+            s_len: usize,
+            score: f32,
+            factor: f32,
+            method: u8,
+            shingle_size: usize,
+            out: *mut u8,
+            len: usize,
+        ) -> u8;
+        pub fn krcf_update_threshold(s: *mut u8, s_len: usize, score: f32) -> u8;
+        pub fn krcf_update_primary(s: *mut u8, s_len: usize, score: f64) -> u8;
+        pub fn krcf_update_both(s: *mut u8, s_len: usize, primary: f32, secondary: f32) -> u8;
+        pub fn krcf_update(
+            s: *mut u8,
+            s_len: usize,
+            primary: f32,
+            secondary: f32,
+            last_score: f32,
+        ) -> u8;
+        pub fn krcf_set_score_differencing(s: *mut u8, s_len: usize, horizon: f32) -> u8;
+        pub fn krcf_set_z_factor(s: *mut u8, s_len: usize, factor: f32) -> u8;
+        pub fn krcf_set_lower_threshold(s: *mut u8, s_len: usize, lower: f32) -> u8;
+        pub fn krcf_set_absolute_threshold(s: *mut u8, s_len: usize, value: f32) -> u8;
+        pub fn krcf_set_initial_threshold(s: *mut u8, s_len: usize, initial: f32) -> u8;
     }
 }
 
@@ -47,26 +104,61 @@ pub use c::krcf_widen as widen;
 
 // Each function below hands over slices that are alive and apart for the length of the call.
 
-pub fn deviation_new(discount: f64, out: &mut [u8]) -> u8 {
-    unsafe { c::krcf_deviation_new(discount, out.as_mut_ptr(), out.len()) }
+/// Functions that make a state.
+macro_rules! making {
+    ($($name:ident = $c:ident($($arg:ident: $t:ty),*);)*) => {$(
+        pub fn $name($($arg: $t,)* out: &mut [u8]) -> u8 {
+            unsafe { c::$c($($arg,)* out.as_mut_ptr(), out.len()) }
+        }
+    )*};
 }
 
-pub fn deviation_update(state: &mut [u8], score: f64) -> u8 {
-    unsafe { c::krcf_deviation_update(state.as_mut_ptr(), state.len(), score) }
+/// Functions that change a state.
+macro_rules! changing {
+    ($($name:ident = $c:ident($($arg:ident: $t:ty),*);)*) => {$(
+        pub fn $name(state: &mut [u8] $(, $arg: $t)*) -> u8 {
+            unsafe { c::$c(state.as_mut_ptr(), state.len() $(, $arg)*) }
+        }
+    )*};
 }
 
-pub fn deviation_reset(state: &mut [u8]) -> u8 {
-    unsafe { c::krcf_deviation_reset(state.as_mut_ptr(), state.len()) }
+/// Functions that read a state and answer into a slice.
+macro_rules! reading {
+    ($($name:ident = $c:ident($($arg:ident: $t:ty),*);)*) => {$(
+        pub fn $name(state: &[u8] $(, $arg: $t)*, out: &mut [u8]) -> u8 {
+            unsafe { c::$c(state.as_ptr(), state.len() $(, $arg)*, out.as_mut_ptr(), out.len()) }
+        }
+    )*};
 }
 
-pub fn deviation_mean(state: &[u8], out: &mut [u8]) -> u8 {
-    unsafe { c::krcf_deviation_mean(state.as_ptr(), state.len(), out.as_mut_ptr(), out.len()) }
+making! {
+    deviation_new = krcf_deviation_new(discount: f64);
+    thresholder_new = krcf_thresholder_new(discount: f64, adjust: u8);
 }
 
-pub fn deviation_deviation(state: &[u8], out: &mut [u8]) -> u8 {
-    unsafe { c::krcf_deviation_deviation(state.as_ptr(), state.len(), out.as_mut_ptr(), out.len()) }
+changing! {
+    deviation_update = krcf_deviation_update(score: f64);
+    deviation_reset = krcf_deviation_reset();
+    update_threshold = krcf_update_threshold(score: f32);
+    update_primary = krcf_update_primary(score: f64);
+    update_both = krcf_update_both(primary: f32, secondary: f32);
+    update = krcf_update(primary: f32, secondary: f32, last_score: f32);
+    set_score_differencing = krcf_set_score_differencing(horizon: f32);
+    set_z_factor = krcf_set_z_factor(factor: f32);
+    set_lower_threshold = krcf_set_lower_threshold(lower: f32);
+    set_absolute_threshold = krcf_set_absolute_threshold(value: f32);
+    set_initial_threshold = krcf_set_initial_threshold(initial: f32);
 }
 
-pub fn deviation_is_empty(state: &[u8], out: &mut [u8]) -> u8 {
-    unsafe { c::krcf_deviation_is_empty(state.as_ptr(), state.len(), out.as_mut_ptr(), out.len()) }
+reading! {
+    deviation_mean = krcf_deviation_mean();
+    deviation_deviation = krcf_deviation_deviation();
+    deviation_is_empty = krcf_deviation_is_empty();
+    is_deviation_ready = krcf_thresholder_is_deviation_ready();
+    threshold = krcf_threshold();
+    primary_grade = krcf_primary_grade(score: f32);
+    primary_threshold_and_grade = krcf_primary_threshold_and_grade(score: f32);
+    threshold_and_grade = krcf_threshold_and_grade(score: f32, method: u8, shingle_size: usize);
+    threshold_and_grade_with_factor = krcf_threshold_and_grade_with_factor(
+        score: f32, factor: f32, method: u8, shingle_size: usize);
 }

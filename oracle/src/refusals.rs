@@ -3,8 +3,10 @@
 use crate::tally::Tally;
 
 pub const DISCOUNT: u8 = 1;
+pub const RANGE: u8 = 2;
 pub const LENGTH: u8 = 3;
 pub const COUNT: u8 = 6;
+pub const HORIZON: u8 = 7;
 
 /// A call on a buffer of a length that is refused, with the given number, the buffer and the bytes
 /// around it left as they were.

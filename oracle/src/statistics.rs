@@ -32,7 +32,7 @@ pub fn countable(count: i32) -> bool {
 }
 
 /// Any count, most often one that an update takes.
-fn count(random: &mut Random) -> i32 {
+pub fn count(random: &mut Random) -> i32 {
     match random.below(8) {
         0 => random.of(&COUNTS),
         1 => random.word() as i32,

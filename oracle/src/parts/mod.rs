@@ -3,9 +3,12 @@
 mod conversions;
 mod deviation;
 mod floor;
+#[cfg(feature = "chain")]
+mod judging;
 mod narrow;
 mod root;
 mod standin;
+mod thresholder;
 mod util;
 
 use crate::random::Random;
@@ -27,5 +30,8 @@ pub const PARTS: &[Part] = &[
     part("conversions", conversions::compare),
     part("util", util::compare),
     part("deviation", deviation::compare),
+    part("thresholder", thresholder::compare),
     part("standin", standin::compare),
+    #[cfg(feature = "chain")]
+    part("judging", judging::compare),
 ];

@@ -1,28 +1,17 @@
-//! The Rust's chain over the stand-in forest, by itself: it runs, every verdict comes up, the forest
+//! The Rust's chain over the stand-in forest, by itself: it runs, every exit comes up, the forest
 //! is called in the order in which its results are lent, and a state read out and put back is whole.
 
 use rcflib::rcf::Call;
 use rcflib::trcf::predictorcorrector::PredictorCorrector;
 
 use crate::random::Random;
+use crate::readings::exits::{exit, Exits};
 use crate::readings::making::Maker;
-use crate::readings::{verdict, Reading, Verdict};
+use crate::readings::{verdict, Reading};
 use crate::tally::Tally;
 
 const SEQUENCES: u64 = 5_000;
 const READINGS: u64 = 40;
-
-/// The verdicts in a line's order; corrected ones by their mode.
-const KINDS: usize = 10;
-
-fn kind(verdict: Verdict) -> usize {
-    match verdict {
-        Verdict::Skipped => 0,
-        Verdict::Quiet(_) => 1,
-        Verdict::Raised(..) => 2,
-        Verdict::Corrected(_, mode) => 3 + mode as usize,
-    }
-}
 
 /// A letter for each call.
 fn letters(calls: &[Call]) -> String {
@@ -57,7 +46,7 @@ fn whole(reading: &Reading, auto_adjust: bool, field: bool) -> String {
     calls
 }
 
-fn sequence(tally: &mut Tally, random: &mut Random, seen: &mut [u64; KINDS]) {
+fn sequence(tally: &mut Tally, random: &mut Random, exits: &mut Exits) {
     let mut maker = Maker::new(random);
     let mut chain = maker.chain();
     for _ in 0..READINGS {
@@ -74,29 +63,15 @@ fn sequence(tally: &mut Tally, random: &mut Random, seen: &mut [u64; KINDS]) {
         tally.compare(&allowed.starts_with(&made), &true, || {
             format!("calls {made} where {allowed} are allowed")
         });
-        seen[kind(verdict(&result))] += 1;
+        exits.count(&reading, exit(&result, &calls));
         maker.judged(&reading, &result);
     }
 }
 
 pub fn compare(tally: &mut Tally, random: &mut Random) {
-    let mut seen = [0; KINDS];
+    let mut exits = Exits::default();
     for _ in 0..SEQUENCES {
-        sequence(tally, random, &mut seen);
+        sequence(tally, random, &mut exits);
     }
-    let [skipped, quiet, raised, none, noise, multi, shingle, field, forecast, drift] = seen;
-    println!(
-        "    skipped {skipped}, quiet {quiet}, raised {raised}, NOISE {noise}, \
-         ANOMALY_IN_SHINGLE {shingle}, CONDITIONAL_FORECAST {field}, FORECAST {forecast}, \
-         DATA_DRIFT {drift}"
-    );
-    let reached = [
-        skipped, quiet, raised, noise, shingle, field, forecast, drift,
-    ];
-    tally.compare(&reached.iter().all(|&n| n > 0), &true, || {
-        "a verdict that never came up".to_string()
-    });
-    tally.compare(&(none, multi), &(0, 0), || {
-        "modes that never come up".to_string()
-    });
+    exits.report(tally);
 }

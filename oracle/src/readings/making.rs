@@ -17,6 +17,11 @@ const METHODS: [TransformMethod; 6] = [
     TransformMethod::NORMALIZE_DIFFERENCE,
 ];
 
+const STRATEGIES: [ScoringStrategy; 2] = [
+    ScoringStrategy::EXPECTED_INVERSE_HEIGHT,
+    ScoringStrategy::DISTANCE,
+];
+
 /// How many calm readings open a sequence: enough for the statistics to be ready.
 const CALM: usize = 12;
 
@@ -55,17 +60,12 @@ fn vector(random: &mut Random, n: usize) -> DiVector {
 impl Maker {
     pub fn new(random: &mut Random) -> Self {
         let base = random.of(&[1, 1, 2, 3, 6, 16]);
-        let distance = random.once_in(3);
         Maker {
             shingle: random.of(&[1, 2, 4, 4, 8, 64]),
             base,
             auto_adjust: random.once_in(2),
             discount: random.of(&[0.0, 0.01, 0.1, 0.5]),
-            strategy: if distance {
-                ScoringStrategy::DISTANCE
-            } else {
-                ScoringStrategy::EXPECTED_INVERSE_HEIGHT
-            },
+            strategy: random.of(&STRATEGIES),
             method: random.of(&METHODS),
             drift: random.once_in(3),
             made: 0,
@@ -122,7 +122,11 @@ impl Maker {
         Reading {
             shingle: self.shingle,
             base: self.base,
-            strategy: self.strategy,
+            strategy: if random.once_in(24) {
+                random.of(&STRATEGIES)
+            } else {
+                self.strategy
+            },
             method: self.method,
             time_augmented: random.once_in(2),
             values_seen: self.seen,

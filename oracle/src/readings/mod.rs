@@ -1,5 +1,6 @@
 //! Readings with all that is lent to them, and how the Rust judges them.
 
+pub mod exits;
 pub mod making;
 
 use rcflib::common::descriptor::Descriptor;

@@ -1,0 +1,118 @@
+// A case: 48 bytes, then for a call on a state that state's bytes and the bytes it is to have afterwards.
+ghost use Prim.Native.Nat.{_<_, _≤_};
+
+// Byte 0 is the operation, byte 1 the number that the call answers; from byte 8 on four arguments and the result, of eight bytes each, the
+// lowest first. What a call does not have is 0.
+pub struct Case {
+    pub operation: u8,
+    pub number: u8,
+    pub a: u64,
+    pub b: u64,
+    pub c: u64,
+    pub d: u64,
+    pub result: u64,
+}
+
+pub fn wide(b: u8) -> u64
+    ensures { λ r. ⌜ r < 0x100 ⌝ }
+{
+    b as u64
+}
+
+fn four(a: u8, b: u8, c: u8, d: u8) -> u64
+    ensures { λ r. ⌜ r < 0x1_0000_0000 ⌝ }
+{
+    wide(a) + 0x100 * wide(b) + 0x1_0000 * wide(c) + 0x100_0000 * wide(d)
+}
+
+// The first four bytes, the lowest first.
+pub fn word4(b: &[u8; 4]) -> u64 {
+    four(b[0], b[1], b[2], b[3])
+}
+
+pub fn word8(b: &[u8; 8]) -> u64 {
+    four(b[0], b[1], b[2], b[3]) + 0x1_0000_0000 * four(b[4], b[5], b[6], b[7])
+}
+
+fn word_at(b: &[u8; 48], at: usize) -> u64
+    requires { ⌜ at ≤ 40 ⌝ }
+{
+    let low = four(b[at], b[at + 1], b[at + 2], b[at + 3]);
+    let high = four(b[at + 4], b[at + 5], b[at + 6], b[at + 7]);
+    low + 0x1_0000_0000 * high
+}
+
+pub fn read(b: &[u8; 48]) -> Case {
+    Case {
+        operation: b[0],
+        number: b[1],
+        a: word_at(b, 8),
+        b: word_at(b, 16),
+        c: word_at(b, 24),
+        d: word_at(b, 32),
+        result: word_at(b, 40),
+    }
+}
+
+// An argument's low byte, its low half, and all of it as what it stands for.
+pub fn byte(w: u64) -> u8 {
+    (w % 0x100) as u8
+}
+
+pub fn half(w: u64) -> u32 {
+    (w % 0x1_0000_0000) as u32
+}
+
+pub fn single(w: u64) -> f32 {
+    c_interface::krcf_f32_from_bits(half(w))
+}
+
+pub fn double(w: u64) -> f64 {
+    c_interface::krcf_f64_from_bits(w)
+}
+
+pub fn size(w: u64) -> usize {
+    w as usize
+}
+
+// Two's complement.
+pub fn signed(n: u32) -> i32 {
+    if n < 0x8000_0000 {
+        return n as i32;
+    }
+    -1 - ((0xffff_ffff - n) as i32)
+}
+
+pub fn is_equal(a: &[u8], b: &[u8]) -> bool {
+    if a.len() != b.len() {
+        return false;
+    }
+    let mut i = 0usize;
+    while i < a.len() {
+        if a[i] != b[i] {
+            return false;
+        }
+        i += 1;
+    }
+    true
+}
+
+// What a call answered: its number, and its result, 0 where it has none.
+pub struct Answer {
+    pub number: u8,
+    pub result: u64,
+}
+
+pub fn only(number: u8) -> Answer {
+    Answer {
+        number: number,
+        result: 0,
+    }
+}
+
+pub fn is_answer(case: Case, answer: Answer) -> bool {
+    if case.number == answer.number {
+        return case.result == answer.result;
+    }
+    false
+}

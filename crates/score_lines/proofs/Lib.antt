@@ -1,0 +1,5 @@
+pub mod Bytes
+pub mod Reading
+pub mod Parts
+pub mod Digits
+pub mod Whole

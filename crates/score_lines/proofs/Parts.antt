@@ -1,0 +1,171 @@
+-- Input that comes in parts: feeding xs and then ys is feeding xs ++ ys. And what a turn of `feed` leaves. Assumes nothing.
+use mathlib.Core.Path.{_≡_, refl, sym, ap, ap₂, _∙_}
+use mathlib.Core.Bool.{Bool, true, false}
+use mathlib.Core.List.{List, [], _∷_, _++_, append-assoc, append-nil}
+use Prim.Native.Nat.{ℕ, _+_, _*_, _/_, _≤_, _<_}
+use native.Mathlib.Nat.{zero-add}
+use native.Mathlib.Numerals.{add-one}
+use native.Mathlib.Omega.{arith}
+use lib.Dec.{eqb}
+use lib.ListN.{length, take, drop, getD, length-append, take-append-drop}
+use lib.Seq.{take-suc}
+use lib.Ieee.{toBits, binary32}
+use borrow.Author.Tests.{le-leb, lt-leb, eq-eqb, ne-eqb}
+use Rattle.basicthresholder.specs.declared.Graded.{Graded}
+use Rattle.score_lines.specs.declared.Line.{Line}
+use Rattle.score_lines.specs.declared.Line.the-variants.{Score, Fault}
+use Rattle.score_lines.specs.declared.Run.{Run}
+use Rattle.score_lines.specs.declared.Fed.{Fed}
+use Rattle.score_lines.specs.Output.{row, badLine, counts}
+use Rattle.score_lines.specs.Feeding.{runOf, lineNumber, pushed, lineOf, ended, lineEnded, lineSaid, saidBy, taken, takenSaid, step, said, fed, printed, totalSaid, hasRoom, done, refused, pasted, Put, Feeds}
+use Rattle.score_lines.proofs.Bytes.{put-then, decimal-length, hex-length, cond-length}
+
+pub fed-append : (run : Run) (xs ys : List ℕ) → fed run (xs ++ ys) ≡ fed (fed run xs) ys
+unfolding fed
+fed-append run [] ys = refl
+fed-append run (x ∷ xs) ys = fed-append (step run x) xs ys
+
+pub printed-append : (run : Run) (xs ys : List ℕ) → printed run (xs ++ ys) ≡ printed run xs ++ printed (fed run xs) ys
+unfolding fed printed
+printed-append run [] ys = refl
+printed-append run (x ∷ xs) ys =
+    ap (λ (l : List ℕ). said run x ++ l) (printed-append (step run x) xs ys) ∙ sym (append-assoc (said run x) (printed (step run x) xs) (printed (fed (step run x) xs) ys))
+
+-- A run that is over reads on without a word.
+module _ (run : Run) (over : run .over ≡ true) where
+  pub over-step : (b : ℕ) → step run b ≡ run
+  unfolding step
+  over-step b = simp over
+
+  pub over-said : (b : ℕ) → said run b ≡ []
+  unfolding said
+  over-said b = simp over
+
+pub over-fed : (run : Run) (xs : List ℕ) → run .over ≡ true → fed run xs ≡ run
+unfolding fed
+over-fed run [] over = refl
+over-fed run (x ∷ xs) over = ap (λ (r : Run). fed r xs) (over-step run over x) ∙ over-fed run xs over
+
+pub over-printed : (run : Run) (xs : List ℕ) → run .over ≡ true → printed run xs ≡ []
+unfolding printed
+over-printed run [] over = refl
+over-printed run (x ∷ xs) over =
+    ap₂ (λ (a : List ℕ) (r : Run). a ++ printed r xs) (over-said run over x) (over-step run over x) ∙ over-printed run xs over
+
+-- What a line, a byte and the end of the input print is short.
+row-length : (n : ℕ) (g : Graded) → length (row n g) ≤ 32
+unfolding row
+row-length n g =
+    simp (length-append, hex-length (toBits binary32 (g .threshold)), hex-length (toBits binary32 (g .grade))) (omega (arith, decimal-length n))
+
+bad-length : (n : ℕ) → length (badLine n) ≤ 32
+unfolding badLine
+bad-length n = simp length-append (omega (arith, decimal-length n))
+
+said-by-length : (run : Run) (l : Line) → length (saidBy run l) ≤ 32
+unfolding saidBy
+said-by-length run Fault = bad-length (lineNumber run)
+said-by-length run (Score x) = row-length (lineNumber run) _
+
+pub line-said-length : (run : Run) → length (lineSaid run) ≤ 32
+unfolding lineSaid
+line-said-length run = said-by-length run (lineOf (run .quiet + run .raised) (run .part))
+
+pub said-length : (run : Run) (b : ℕ) → length (said run b) ≤ 32
+unfolding said takenSaid
+said-length run b =
+    cond-length (run .over) 32 [] _ (omega arith)
+    (cond-length (eqb b 10) 32 (lineSaid run) _ (line-said-length run)
+    (cond-length (eqb (pushed (run .part) b) 0) 32 (badLine (lineNumber run)) [] (bad-length (lineNumber run)) (omega arith)))
+
+counts-length : (a b : ℕ) → length (counts a b) ≤ 36
+unfolding counts
+counts-length a b = simp length-append (omega (arith, decimal-length a, decimal-length b))
+
+pub total-length : (run : Run) → length (totalSaid run) ≤ 36
+unfolding totalSaid
+total-length run = cond-length (run .over) 36 [] (counts (run .quiet) (run .raised)) (omega arith) (counts-length (run .quiet) (run .raised))
+
+-- A byte: a line end, a byte that makes the line malformed, a digit.
+module _ (run : Run) (b : ℕ) (going : run .over ≡ false) where
+  pub line-step : b ≡ 10 → step run b ≡ lineEnded run
+  unfolding step
+  line-step h = simp (going, eq-eqb b 10 h)
+
+  pub line-said : b ≡ 10 → said run b ≡ lineSaid run
+  unfolding said
+  line-said h = simp (going, eq-eqb b 10 h)
+
+  module _ (inside : b ≡ 10 → ⊥) where
+    pub bad-step : pushed (run .part) b ≡ 0 → step run b ≡ ended run
+    unfolding step taken
+    bad-step h = simp (going, ne-eqb b 10 inside, eq-eqb (pushed (run .part) b) 0 h)
+
+    pub bad-said : pushed (run .part) b ≡ 0 → said run b ≡ badLine (lineNumber run)
+    unfolding said takenSaid
+    bad-said h = simp (going, ne-eqb b 10 inside, eq-eqb (pushed (run .part) b) 0 h)
+
+    pub digit-step : (pushed (run .part) b ≡ 0 → ⊥) → step run b ≡ runOf (run .thresholder) (run .quiet) (run .raised) (pushed (run .part) b) (run .over)
+    unfolding step taken
+    digit-step h = simp (going, ne-eqb b 10 inside, ne-eqb (pushed (run .part) b) 0 h)
+
+    pub digit-said : (pushed (run .part) b ≡ 0 → ⊥) → said run b ≡ []
+    unfolding said takenSaid
+    digit-said h = simp (going, ne-eqb b 10 inside, ne-eqb (pushed (run .part) b) 0 h)
+
+-- A run at the byte i of its input, and what it has printed by then.
+module _ (run : Run) (xs : List ℕ) (i : ℕ) {state : Run} (e : state ≡ fed run (take i xs)) where
+  one-more : i < length xs → take (i + 1) xs ≡ take i xs ++ (getD xs i 0 ∷ [])
+  one-more h = rw add-one (take-suc xs i 0 h)
+
+  pub next-run : {after : Run} → i < length xs → after ≡ step state (getD xs i 0) → after ≡ fed run (take (i + 1) xs)
+  unfolding fed
+  next-run h s = s ∙ ap (λ (r : Run). step r (getD xs i 0)) e ∙ sym (ap (fed run) (one-more h) ∙ fed-append run (take i xs) (getD xs i 0 ∷ []))
+
+  next-printed : i < length xs → printed run (take (i + 1) xs) ≡ printed run (take i xs) ++ said state (getD xs i 0)
+  unfolding printed
+  next-printed h =
+      ap (printed run) (one-more h) ∙ printed-append run (take i xs) (getD xs i 0 ∷ [])
+      ∙ ap (λ (l : List ℕ). printed run (take i xs) ++ l) (append-nil (said (fed run (take i xs)) (getD xs i 0)) ∙ ap (λ (r : Run). said r (getD xs i 0)) (sym e))
+
+  pub next-put : {first out out′ ys : List ℕ} {to to′ : ℕ} → i < length xs → to ≤ 32 * i → 32 * length xs ≤ length first → Put first 0 (printed run (take i xs)) to out
+      → said state (getD xs i 0) ≡ ys → Put out to ys to′ out′ → (to′ ≤ 32 * (i + 1)) × Put first 0 (printed run (take (i + 1) xs)) to′ out′
+  next-put {first} {out} {out′} {ys} {to} {to′} h t room p s q =
+      let short : length ys ≤ 32 = rw s at (said-length state (getD xs i 0)) in
+      (omega (arith, q .place), rw (next-printed h ∙ ap (λ (l : List ℕ). printed run (take i xs) ++ l) s) (put-then p q (omega (arith, p .place))))
+
+  -- A run that is over by then has printed all that it prints.
+  pub over-run : state .over ≡ true → fed run xs ≡ state
+  over-run o =
+      ap (fed run) (sym (take-append-drop i xs)) ∙ fed-append run (take i xs) (drop i xs) ∙ ap (λ (r : Run). fed r (drop i xs)) (sym e) ∙ over-fed state (drop i xs) o
+
+  pub over-all : state .over ≡ true → printed run xs ≡ printed run (take i xs)
+  over-all o =
+      ap (printed run) (sym (take-append-drop i xs)) ∙ printed-append run (take i xs) (drop i xs)
+      ∙ ap (λ (l : List ℕ). printed run (take i xs) ++ l) (ap (λ (r : Run). printed r (drop i xs)) (sym e) ∙ over-printed state (drop i xs) o)
+      ∙ append-nil (printed run (take i xs))
+
+-- The contract of a call, from what it left.
+pub feeds : {room : Bool} {run next : Run} {text out after : List ℕ} {r : Fed} {to : ℕ} → room ≡ true → r ≡ done next to → Put out 0 text to after
+    → Feeds room run next text out r after
+feeds {room} {run} {next} {text} {out} {after} {r} {to} e d p = record {
+  answer = simp e (d ∙ ap (done next) (p .place ∙ zero-add (length text)));
+  bytes = simp e (p .bytes);
+}
+
+pub feeds-not : {room : Bool} {run next : Run} {text out : List ℕ} {r : Fed} → room ≡ false → r ≡ refused run → Feeds room run next text out r out
+feeds-not e d = record { answer = simp e d; bytes = simp e }
+
+pub room : (n m : ℕ) → n ≤ m / 32 → hasRoom n m ≡ true
+unfolding hasRoom
+room n m h = le-leb n (m / 32) h
+
+pub no-room : (n m : ℕ) → m / 32 < n → hasRoom n m ≡ false
+unfolding hasRoom
+no-room n m h = lt-leb n (m / 32) h
+
+-- What a call has written is within the buffer.
+pub within : (room : Bool) {run next : Run} {text out after : List ℕ} {r : Fed} → Feeds room run next text out r after → r .written ≤ length after
+unfolding done refused pasted
+within true {run} {next} {text} {out} f = rw (f .answer, f .bytes, length-append text (drop (0 + length text) out)) (omega arith)
+within false f = rw (f .answer) (omega arith)

@@ -1,0 +1,21 @@
+use borrow.Author.Needs.{needs}
+use Rattle.score_lines.specs.Output.{counted}
+use Rattle.score_lines.proofs.counted.Statement.{statement}
+use Rattle.score_lines.proofs.counted.Tie as tie
+
+returns : tie.Need-returns
+unfolding counted
+returns c = simp (c .if1 .taken)
+
+widen-requires : tie.Need-widen-requires
+widen-requires c κs = search needs
+
+primary-counted-requires : tie.Need-primary-counted-requires
+primary-counted-requires c κs = search needs
+
+returns-2 : tie.Need-returns-2
+unfolding counted
+returns-2 c = simp (c .before .before .if1 .left, c .primary-counted .ensures, c .before .widen .ensures)
+
+pub counted-spec : {M : Type 1} → statement M
+counted-spec = tie.close (tie.spec returns widen-requires primary-counted-requires returns-2)

@@ -1,0 +1,128 @@
+-- The run as it is fed its input byte by byte. `proofs/Whole.antt` says that this prints `output`, however the input is cut.
+use Prim.Native.Nat.{ℕ, _+_, _-_, _*_, _/_}
+use mathlib.Core.Path.{_≡_}
+use mathlib.Core.Bool.{Bool, true, false, cond, _&&_}
+use mathlib.Core.List.{List, [], _∷_, _++_}
+use lib.Dec.{leb, ltb, eqb}
+use lib.ListN.{length, take, drop}
+use lib.Ieee.{Float, ofBits, binary32}
+use Rattle.types.specs.declared.Refusal.the-variants.{Length}
+use Rattle.types.specs.declared.Answer.the-variants.{Done, Refused}
+use Rattle.basicthresholder.specs.declared.BasicThresholder.{BasicThresholder}
+use Rattle.score_lines.specs.declared.Line.{Line}
+use Rattle.score_lines.specs.declared.Line.the-variants.{Score, Fault}
+use Rattle.score_lines.specs.declared.Run.{Run}
+use Rattle.score_lines.specs.declared.Fed.{Fed}
+use Rattle.score_lines.specs.Output.{digitOf, finiteOnly, shown, counted, isQuiet, row, badLine, counts, settings}
+
+abbrev pub runOf : BasicThresholder → ℕ → ℕ → ℕ → Bool → Run
+runOf s quiet raised part over = record { thresholder = s; quiet = quiet; raised = raised; part = part; over = over }
+
+-- A run that has read nothing.
+unfoldable pub begin : Run
+begin = runOf settings 0 0 1 false
+
+-- The number of the line under way.
+abbrev pub lineNumber : Run → ℕ
+lineNumber run = run .quiet + run .raised + 1
+
+-- The line under way with one more byte; 0 where that makes it malformed.
+unfoldable pub pushed : ℕ → ℕ → ℕ
+pushed part b = cond (ltb part 0x1_0000_0000 && ltb (digitOf b) 16) (part * 16 + digitOf b) 0
+
+-- What a line with these digits behind a leading 1 holds, with so many lines before it.
+unfoldable pub lineOf : ℕ → ℕ → Line
+lineOf lines part =
+    cond (ltb lines 65536 && (leb 0x1_0000_0000 part && ltb part 0x2_0000_0000)) (finiteOnly (ofBits binary32 (part - 0x1_0000_0000))) Fault
+
+-- The run after a sound line, and after a bad one.
+unfoldable pub judged : Run → BasicThresholder → Float → Run
+judged run s grade =
+    cond (isQuiet grade) (runOf s (run .quiet + 1) (run .raised) 1 false) (runOf s (run .quiet) (run .raised + 1) 1 false)
+
+unfoldable pub ended : Run → Run
+ended run = runOf (run .thresholder) (run .quiet) (run .raised) (run .part) true
+
+-- ys over xs from the place `at`, and the place behind them.
+unfoldable pub pasted : List ℕ → ℕ → List ℕ → List ℕ
+pasted xs at ys = take at xs ++ (ys ++ drop (at + length ys) xs)
+
+pub record Put (xs : List ℕ) (at : ℕ) (ys : List ℕ) (end : ℕ) (after : List ℕ) : Type 0 where
+  pub place : end ≡ at + length ys
+  pub bytes : after ≡ pasted xs at ys
+
+-- The end of the line under way: the run after it and what it prints.
+unfoldable pub endedBy : Run → Line → Run
+endedBy run Fault = ended run
+endedBy run (Score x) = judged run (counted (run .thresholder) x) (shown (run .thresholder) x .grade)
+
+unfoldable pub saidBy : Run → Line → List ℕ
+saidBy run Fault = badLine (lineNumber run)
+saidBy run (Score x) = row (lineNumber run) (shown (run .thresholder) x)
+
+unfoldable pub lineEnded : Run → Run
+lineEnded run = endedBy run (lineOf (run .quiet + run .raised) (run .part))
+
+unfoldable pub lineSaid : Run → List ℕ
+lineSaid run = saidBy run (lineOf (run .quiet + run .raised) (run .part))
+
+-- The line under way with one more byte that is no line end; a byte that makes it malformed ends the run.
+unfoldable pub taken : Run → ℕ → Run
+taken run part = cond (eqb part 0) (ended run) (runOf (run .thresholder) (run .quiet) (run .raised) part (run .over))
+
+unfoldable pub takenSaid : Run → ℕ → List ℕ
+takenSaid run part = cond (eqb part 0) (badLine (lineNumber run)) []
+
+-- One byte of the input: the run after it, and what it prints.
+unfoldable pub step : Run → ℕ → Run
+step run b = cond (run .over) run (cond (eqb b 10) (lineEnded run) (taken run (pushed (run .part) b)))
+
+unfoldable pub said : Run → ℕ → List ℕ
+said run b = cond (run .over) [] (cond (eqb b 10) (lineSaid run) (takenSaid run (pushed (run .part) b)))
+
+-- A part of the input, byte by byte.
+unfoldable pub fed : Run → List ℕ → Run
+fed run [] = run
+fed run (b ∷ bs) = fed (step run b) bs
+
+unfoldable pub printed : Run → List ℕ → List ℕ
+printed run [] = []
+printed run (b ∷ bs) = said run b ++ printed (step run b) bs
+
+-- The counts, unless the run is over.
+unfoldable pub totalRun : Run → Run
+totalRun run = cond (run .over) run (ended run)
+
+unfoldable pub totalSaid : Run → List ℕ
+totalSaid run = cond (run .over) [] (counts (run .quiet) (run .raised))
+
+-- The end of the input: a last line without a line end, then the counts.
+unfoldable pub closed : Run → Run
+closed run = cond (run .over) run (cond (eqb (run .part) 1) (totalRun run) (totalRun (lineEnded run)))
+
+unfoldable pub closing : Run → List ℕ
+closing run = cond (run .over) [] (cond (eqb (run .part) 1) (totalSaid run) (lineSaid run ++ totalSaid (lineEnded run)))
+
+-- An input that comes in parts, and what a run prints that is fed one after the other and then finished.
+unfoldable pub joined : List (List ℕ) → List ℕ
+joined [] = []
+joined (p ∷ ps) = p ++ joined ps
+
+unfoldable pub inParts : Run → List (List ℕ) → List ℕ
+inParts run [] = closing run
+inParts run (p ∷ ps) = printed run p ++ inParts (fed run p) ps
+
+-- A buffer of m bytes takes what n bytes of input print.
+unfoldable pub hasRoom : ℕ → ℕ → Bool
+hasRoom n m = leb n (m / 32)
+
+unfoldable pub done : Run → ℕ → Fed
+done run written = record { answer = Done; run = run; written = written }
+
+unfoldable pub refused : Run → Fed
+refused run = record { answer = Refused Length; run = run; written = 0 }
+
+-- A call that leaves the run `next` and prints `text` at the front of the buffer. Without room it is refused by 3, and run and buffer stay.
+pub record Feeds (room : Bool) (run next : Run) (text out : List ℕ) (r : Fed) (after : List ℕ) : Type 0 where
+  pub answer : r ≡ cond room (done next (length text)) (refused run)
+  pub bytes : after ≡ cond room (pasted out 0 text) out

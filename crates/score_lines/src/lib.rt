@@ -1,0 +1,399 @@
+// The score watch on bytes: lines of eight hexadecimal digits in, rows of thresholds and grades out. A run is fed its input in parts of any size and
+// hands back what it prints; a program above has only to read and to write.
+use basicthresholder::BasicThresholder;
+use basicthresholder::Graded;
+use types::Answer;
+use types::Refusal;
+ghost use mathlib.Core.Path.{_≡_};
+ghost use mathlib.Core.List.{List, [], _∷_};
+ghost use Prim.Native.Nat.{ℕ, _+_, _*_, _≤_, _<_};
+ghost use lib.ListN.{length};
+ghost use lib.Ieee.{toBits, binary32};
+ghost use Rattle.score_lines.specs.Output as Output;
+ghost use Rattle.score_lines.specs.Feeding as Feeding;
+
+const LINE_END: u8 = 10;
+
+const MOST_LINES: u64 = 65536;
+
+const Z_FACTOR: f32 = 3.0;
+
+// What a line holds.
+pub enum Line {
+    Score(f32),
+    Fault,
+}
+
+// A run between two bytes of its input. `part` is the line under way: its digits behind a leading 1, so that 1 alone is a line with no byte yet.
+// A run is over once it has met a bad line.
+pub struct Run {
+    pub thresholder: BasicThresholder,
+    pub quiet: u32,
+    pub raised: u32,
+    pub part: u64,
+    pub over: bool,
+}
+
+// What a call that prints answers: how many bytes it wrote at the front of the lent buffer, and the run after it.
+pub struct Fed {
+    pub answer: Answer,
+    pub run: Run,
+    pub written: usize,
+}
+
+// The run after a line, and where what it printed ends.
+struct Printed {
+    run: Run,
+    at: usize,
+}
+
+// The value of a hexadecimal digit of either case; 16 for any other byte.
+fn digit(b: u8) -> u64
+    ensures { λ r. ⌜ r ≡ Output.digitOf b ⌝ ∗ ⌜ r ≤ 16 ⌝ }
+{
+    if b < 48 {
+        return 16;
+    }
+    if b <= 57 {
+        return (b - 48) as u64;
+    }
+    if b < 65 {
+        return 16;
+    }
+    if b <= 70 {
+        return (b - 55) as u64;
+    }
+    if b < 97 {
+        return 16;
+    }
+    if b <= 102 {
+        return (b - 87) as u64;
+    }
+    16
+}
+
+// The line under way with one more byte; 0 where that makes it malformed.
+fn pushed(part: u64, b: u8) -> u64
+    ensures { λ r. ⌜ r ≡ Feeding.pushed part b ⌝ }
+{
+    if part < 0x1_0000_0000 {
+        let d = digit(b);
+        if d < 16 {
+            return part * 16 + d;
+        }
+        return 0;
+    }
+    0
+}
+
+// What the line holds that `part` has the digits of, with so many lines before it.
+fn line_of(lines: u64, part: u64) -> Line
+    ensures { λ r. ⌜ r ≡ Feeding.lineOf lines part ⌝ }
+{
+    if lines < MOST_LINES {
+        if 0x1_0000_0000 <= part {
+            if part < 0x2_0000_0000 {
+                return finite_only(ieee::f32_from_bits((part - 0x1_0000_0000) as u32));
+            }
+            return Line::Fault;
+        }
+        return Line::Fault;
+    }
+    Line::Fault
+}
+
+fn finite_only(score: f32) -> Line
+    ensures { λ r. ⌜ r ≡ Output.finiteOnly score ⌝ }
+{
+    if descriptor::is_finite_f32(score) {
+        return Line::Score(score);
+    }
+    Line::Fault
+}
+
+// What a row shows: threshold and opening grade before the score is counted.
+fn shown(thresholder: BasicThresholder, score: f32) -> Graded
+    ensures { λ r. ⌜ r ≡ Output.shown thresholder score ⌝ }
+{
+    if score == 0.0 {
+        return Graded {
+            threshold: 0.0,
+            grade: 0.0,
+        };
+    }
+    thresholder.primary_threshold_and_grade(score)
+}
+
+// The statistics with the score; a zero score is not counted.
+fn counted(thresholder: BasicThresholder, x: f32) -> BasicThresholder
+    ensures { λ r. ⌜ r ≡ Output.counted thresholder x ⌝ }
+{
+    if x == 0.0 {
+        return thresholder;
+    }
+    thresholder.primary_counted(ieee::widen(x))
+}
+
+// The run after a sound line of that grade.
+fn judged(run: Run, thresholder: BasicThresholder, grade: f32) -> Run
+    requires { ⌜ run .quiet + run .raised < 65536 ⌝ }
+    ensures { λ r. ⌜ r ≡ Feeding.judged run thresholder grade ⌝ }
+{
+    if grade == 0.0 {
+        return Run {
+            thresholder,
+            quiet: run.quiet + 1,
+            raised: run.raised,
+            part: 1,
+            over: false,
+        };
+    }
+    Run {
+        thresholder,
+        quiet: run.quiet,
+        raised: run.raised + 1,
+        part: 1,
+        over: false,
+    }
+}
+
+// The run after a bad line.
+fn ended(run: Run) -> Run
+    ensures { λ r. ⌜ r ≡ Feeding.ended run ⌝ }
+{
+    let mut out = run;
+    out.over = true;
+    out
+}
+
+// A digit below 16 as a byte, in lower case.
+fn glyph(d: u64) -> u8
+    requires { ⌜ d < 16 ⌝ }
+    ensures { λ r. ⌜ r ≡ Output.glyph d ⌝ }
+{
+    if d < 10 {
+        return 48 + d as u8;
+    }
+    87 + d as u8
+}
+
+// The eight hexadecimal digits of a pattern.
+fn hex(n: u32) -> [u8; 8]
+    ensures { λ r. ⌜ r ≡ Output.hex n ⌝ }
+{
+    let g = n as u64;
+    let f = g / 16;
+    let e = f / 16;
+    let d = e / 16;
+    let c = d / 16;
+    let b = c / 16;
+    let a = b / 16;
+    [
+        glyph(a / 16 % 16),
+        glyph(a % 16),
+        glyph(b % 16),
+        glyph(c % 16),
+        glyph(d % 16),
+        glyph(e % 16),
+        glyph(f % 16),
+        glyph(g % 16),
+    ]
+}
+
+// Each `put` writes bytes over `out` from the place `at`, and answers the place behind them.
+fn put(out: &mut [u8], at: usize, b: u8) -> usize
+    requires { ⌜ at < length (now out) ⌝ }
+    ensures { λ r. ⌜ Feeding.Put (now (out .entry)) at (b ∷ []) r (now (out .exit)) ⌝ }
+{
+    out[at] = b;
+    at + 1
+}
+
+fn put_all(out: &mut [u8], at: usize, bytes: &[u8]) -> usize
+    requires { ⌜ at + length (now bytes) ≤ length (now out) ⌝ }
+    ensures { λ r. ⌜ Feeding.Put (now (out .entry)) at (now (bytes .entry)) r (now (out .exit)) ⌝ }
+{
+    let mut i = 0usize;
+    let mut to = at;
+    while i < bytes.len() {
+        out[to] = bytes[i];
+        to += 1;
+        i += 1;
+    }
+    to
+}
+
+fn put_decimal(out: &mut [u8], at: usize, n: u64) -> usize
+    requires { ⌜ n < 10000000000 ⌝ ∗ ⌜ at + length (Output.decimal n) ≤ length (now out) ⌝ }
+    ensures { λ r. ⌜ Feeding.Put (now (out .entry)) at (Output.decimal n) r (now (out .exit)) ⌝ }
+{
+    if n < 10 {
+        return put(out, at, glyph(n));
+    }
+    let to = put_decimal(out, at, n / 10);
+    put(out, to, glyph(n % 10))
+}
+
+fn put_row(out: &mut [u8], at: usize, number: u64, shown: Graded) -> usize
+    requires { ⌜ number < 10000000000 ⌝ ∗ ⌜ at + 32 ≤ length (now out) ⌝ }
+    ensures { λ r. ⌜ Feeding.Put (now (out .entry)) at (Output.row number shown) r (now (out .exit)) ⌝ }
+{
+    let threshold = hex(ieee::f32_to_bits(shown.threshold));
+    let grade = hex(ieee::f32_to_bits(shown.grade));
+    let a = put_decimal(out, at, number);
+    let b = put(out, a, b' ');
+    let c = put_all(out, b, &threshold);
+    let d = put(out, c, b' ');
+    let e = put_all(out, d, &grade);
+    put(out, e, LINE_END)
+}
+
+fn put_bad(out: &mut [u8], at: usize, number: u64) -> usize
+    requires { ⌜ number < 10000000000 ⌝ ∗ ⌜ at + 32 ≤ length (now out) ⌝ }
+    ensures { λ r. ⌜ Feeding.Put (now (out .entry)) at (Output.badLine number) r (now (out .exit)) ⌝ }
+{
+    let a = put_all(out, at, b"bad line ");
+    let b = put_decimal(out, a, number);
+    put(out, b, LINE_END)
+}
+
+fn put_counts(out: &mut [u8], at: usize, quiet: u64, raised: u64) -> usize
+    requires { ⌜ quiet < 10000000000 ⌝ ∗ ⌜ raised < 10000000000 ⌝ ∗ ⌜ at + 36 ≤ length (now out) ⌝ }
+    ensures { λ r. ⌜ Feeding.Put (now (out .entry)) at (Output.counts quiet raised) r (now (out .exit)) ⌝ }
+{
+    let a = put_all(out, at, b"quiet ");
+    let b = put_decimal(out, a, quiet);
+    let c = put_all(out, b, b" raised ");
+    let d = put_decimal(out, c, raised);
+    put(out, d, LINE_END)
+}
+
+// The end of the line under way: its row, or that it is bad.
+fn end_line(run: Run, out: &mut [u8], at: usize) -> Printed
+    requires { ⌜ at + 32 ≤ length (now out) ⌝ }
+    ensures { λ r. ⌜ r .run ≡ Feeding.lineEnded run ⌝ ∗ ⌜ Feeding.Put (now (out .entry)) at (Feeding.lineSaid run) (r .at) (now (out .exit)) ⌝ }
+{
+    let lines = run.quiet as u64 + run.raised as u64;
+    let line = line_of(lines, run.part);
+    match line {
+        Line::Score(score) => {
+            let next = counted(run.thresholder, score);
+            let seen = shown(run.thresholder, score);
+            let end = put_row(out, at, lines + 1, seen);
+            Printed {
+                run: judged(run, next, seen.grade),
+                at: end,
+            }
+        }
+        Line::Fault => {
+            let end = put_bad(out, at, lines + 1);
+            Printed {
+                run: ended(run),
+                at: end,
+            }
+        }
+    }
+}
+
+fn done(run: Run, written: usize) -> Fed
+    ensures { λ r. ⌜ r ≡ Feeding.done run written ⌝ }
+{
+    Fed {
+        answer: Answer::Done,
+        run,
+        written,
+    }
+}
+
+fn refused(run: Run) -> Fed
+    ensures { λ r. ⌜ r ≡ Feeding.refused run ⌝ }
+{
+    Fed {
+        answer: Answer::Refused(Refusal::Length),
+        run,
+        written: 0,
+    }
+}
+
+// The counts, unless the run is over.
+fn total(run: Run, out: &mut [u8], at: usize) -> Fed
+    requires { ⌜ at + 36 ≤ length (now out) ⌝ }
+    ensures { λ r. ⌜ r ≡ Feeding.done (Feeding.totalRun run) (at + length (Feeding.totalSaid run)) ⌝ ∗ ⌜ now (out .exit) ≡ Feeding.pasted (now (out .entry)) at (Feeding.totalSaid run) ⌝ }
+{
+    if run.over {
+        return done(run, at);
+    }
+    let end = put_counts(out, at, run.quiet as u64, run.raised as u64);
+    done(ended(run), end)
+}
+
+// A run that has read nothing.
+pub fn begin() -> Run
+    ensures { λ r. ⌜ r ≡ Feeding.begin ⌝ }
+{
+    let thresholder = BasicThresholder::fresh(0.0, false).set_z_factor(Z_FACTOR);
+    Run {
+        thresholder,
+        quiet: 0,
+        raised: 0,
+        part: 1,
+        over: false,
+    }
+}
+
+// "line threshold grade" and a line end: what a run prints first.
+pub fn header() -> [u8; 21]
+    ensures { λ r. ⌜ r ≡ Output.header ⌝ }
+{
+    *b"line threshold grade\n"
+}
+
+// Reads a part of the input. `out` needs 32 bytes for each byte of it, since a byte can end a line.
+pub fn feed(run: Run, input: &[u8], out: &mut [u8]) -> Fed
+    ensures { λ r. ⌜ Feeding.Feeds (Feeding.hasRoom (length (now (input .entry))) (length (now (out .entry)))) run (Feeding.fed run (now (input .entry))) (Feeding.printed run (now (input .entry))) (now (out .entry)) r (now (out .exit)) ⌝ }
+{
+    if out.len() / 32 < input.len() {
+        return refused(run);
+    }
+    let mut state = run;
+    let mut i = 0usize;
+    let mut to = 0usize;
+    while i < input.len() {
+        if state.over {
+            return done(state, to);
+        }
+        let b = input[i];
+        if b == LINE_END {
+            let after = end_line(state, out, to);
+            state = after.run;
+            to = after.at;
+            i += 1;
+            continue;
+        }
+        let part = pushed(state.part, b);
+        if part == 0 {
+            let end = put_bad(out, to, state.quiet as u64 + state.raised as u64 + 1);
+            return done(ended(state), end);
+        }
+        state.part = part;
+        i += 1;
+    }
+    done(state, to)
+}
+
+// The end of the input: a last line without a line end is judged, then the counts. `out` needs 128 bytes.
+pub fn finish(run: Run, out: &mut [u8]) -> Fed
+    ensures { λ r. ⌜ Feeding.Feeds (Feeding.hasRoom 4 (length (now (out .entry)))) run (Feeding.closed run) (Feeding.closing run) (now (out .entry)) r (now (out .exit)) ⌝ }
+{
+    if out.len() / 32 < 4 {
+        return refused(run);
+    }
+    if run.over {
+        return done(run, 0);
+    }
+    if run.part == 1 {
+        return total(run, out, 0);
+    }
+    let last = end_line(run, out, 0);
+    total(last.run, out, last.at)
+}

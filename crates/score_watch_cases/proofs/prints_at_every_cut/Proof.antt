@@ -1,0 +1,55 @@
+use Prim.Native.Nat.{_-_, _+_}
+use mathlib.Core.Path.{_≡_}
+use lib.ListN.{length}
+use borrow.Author.Needs.{needs}
+use Rattle.score_watch_cases.proofs.prints_at_every_cut.Statement.{statement}
+use Rattle.score_watch_cases.proofs.prints_at_every_cut.Tie as tie
+
+abbrev Inv-loop : tie.InvT-loop
+Inv-loop input expected out₀ cut₀ out cut = length out ≡ length out₀
+
+abbrev μ-loop : tie.MeasureT-loop
+μ-loop input expected out₀ cut₀ out cut = length input + 1 - cut
+
+loop-holds : tie.Need-loop-holds Inv-loop μ-loop
+loop-holds c = search needs
+
+prints-requires : tie.Need-prints-requires Inv-loop μ-loop
+prints-requires c κs = search needs
+
+same-length : tie.Need-same-length Inv-loop μ-loop
+same-length c = search needs
+
+returns : tie.Need-returns Inv-loop μ-loop
+returns c = search needs
+
+add-cut : tie.Need-add-cut Inv-loop μ-loop
+add-cut c = search needs
+
+loop-less : tie.Need-loop-less Inv-loop μ-loop
+loop-less c = search needs
+
+loop-again : tie.Need-loop-again Inv-loop μ-loop
+loop-again c = search needs
+
+same-length-2 : tie.Need-same-length-2 Inv-loop μ-loop
+same-length-2 c = search needs
+
+returns-2 : tie.Need-returns-2 Inv-loop μ-loop
+returns-2 c = search needs
+
+pub prints-at-every-cut-spec : {M : Type 1} → statement M
+prints-at-every-cut-spec =
+    tie.close
+    (tie.spec
+    Inv-loop
+    μ-loop
+    loop-holds
+    prints-requires
+    same-length
+    returns
+    add-cut
+    loop-less
+    loop-again
+    same-length-2
+    returns-2)

@@ -1,0 +1,283 @@
+//! Our C functions of the whole chain, and what they are handed. Linked only where our library has
+//! them (the feature `chain`, which `run` sets).
+
+use rcflib::common::deviation::Deviation;
+use rcflib::trcf::basicthresholder::Numbers;
+use rcflib::trcf::predictorcorrector::State;
+use rcflib::trcf::types::{CorrectionMode, ScoringStrategy};
+
+use crate::bytes::Bytes;
+use crate::readings::{Reading, Verdict};
+
+mod c {
+    #[link(name = "c_interface", kind = "static")]
+    unsafe extern "C" {
+        pub fn krcf_new(
+            discount: f64,
+            auto_adjust: u8,
+            base_dimension: usize,
+            out: *mut u8,
+            out_len: usize,
+        ) -> u8;
+        pub fn krcf_chain_set_z_factor(s: *mut u8, s_len: usize, factor: f32) -> u8;
+        pub fn krcf_chain_set_lower_threshold(s: *mut u8, s_len: usize, lower: f32) -> u8;
+        pub fn krcf_chain_set_initial_threshold(s: *mut u8, s_len: usize, initial: f32) -> u8;
+        pub fn krcf_chain_set_horizon(s: *mut u8, s_len: usize, horizon: f32) -> u8;
+        pub fn krcf_detect_and_modify(
+            state: *mut u8,
+            state_len: usize,
+            reading: *const u8,
+            reading_len: usize,
+            last: *const u8,
+            last_len: usize,
+            point: *const f32,
+            point_len: usize,
+            scale: *const f32,
+            scale_len: usize,
+            shift: *const f32,
+            shift_len: usize,
+            difference_deviations: *const f32,
+            difference_deviations_len: usize,
+            last_expected: *const f32,
+            last_expected_len: usize,
+            last_anomalous: *const f32,
+            last_anomalous_len: usize,
+            high: *const f64,
+            high_len: usize,
+            low: *const f64,
+            low_len: usize,
+            median: *const f32,
+            median_len: usize,
+            ideal_high: *const f64,
+            ideal_high_len: usize,
+            ideal_low: *const f64,
+            ideal_low_len: usize,
+            neighbours: *const f32,
+            neighbours_len: usize,
+            expected: *mut f32,
+            expected_len: usize,
+            out_high: *mut f64,
+            out_high_len: usize,
+            out_low: *mut f64,
+            out_low_len: usize,
+            verdict: *mut u8,
+            verdict_len: usize,
+        ) -> u8;
+    }
+}
+
+/// Lengths of a state, and of a verdict: its code in the order quiet, corrected, raised, skipped,
+/// the threshold, the mode's code, the grade, the relative index.
+pub const STATE: usize = 1310;
+pub const VERDICT: usize = 14;
+
+/// Where a state has its yes/no, run length, base dimension and lists.
+pub const ADJUST: usize = Numbers::SIZE;
+pub const RUN: usize = ADJUST + 1;
+pub const BASE: usize = RUN + 4;
+pub const ACTUAL: usize = BASE + 4;
+pub const EXPECTED: usize = ACTUAL + 16 * Deviation::SIZE;
+
+pub fn new(discount: f64, auto_adjust: u8, base_dimension: usize, out: &mut [u8]) -> u8 {
+    unsafe {
+        c::krcf_new(
+            discount,
+            auto_adjust,
+            base_dimension,
+            out.as_mut_ptr(),
+            out.len(),
+        )
+    }
+}
+
+macro_rules! setters {
+    ($($name:ident = $c:ident;)*) => {$(
+        pub fn $name(state: &mut [u8], x: f32) -> u8 {
+            unsafe { c::$c(state.as_mut_ptr(), state.len(), x) }
+        }
+    )*};
+}
+
+setters! {
+    set_z_factor = krcf_chain_set_z_factor;
+    set_lower_threshold = krcf_chain_set_lower_threshold;
+    set_initial_threshold = krcf_chain_set_initial_threshold;
+    set_horizon = krcf_chain_set_horizon;
+}
+
+/// All that one judgment is handed: the buffers that are read, and those that it may write.
+#[derive(Clone, Debug, PartialEq)]
+pub struct Handed {
+    pub reading: Vec<u8>,
+    pub last: Vec<u8>,
+    pub points: [Vec<f32>; 8],
+    pub vectors: [Vec<f64>; 4],
+    pub state: Vec<u8>,
+    pub expected: Vec<f32>,
+    pub out_high: Vec<f64>,
+    pub out_low: Vec<f64>,
+    pub verdict: Vec<u8>,
+}
+
+/// The places of `points` in the order of the C function's parameters.
+pub const POINT: usize = 0;
+pub const SCALE: usize = 1;
+pub const LAST_EXPECTED: usize = 4;
+pub const MEDIAN: usize = 6;
+pub const NEIGHBOURS: usize = 7;
+
+fn strategy(s: ScoringStrategy) -> u8 {
+    (s != ScoringStrategy::EXPECTED_INVERSE_HEIGHT) as u8
+}
+
+fn reading_bytes(r: &Reading) -> Vec<u8> {
+    let mut out = Vec::new();
+    out.extend((r.shingle as u32).to_le_bytes());
+    out.extend((r.base as u32).to_le_bytes());
+    out.extend([strategy(r.strategy), r.method as u8, r.time_augmented as u8]);
+    out.extend((r.values_seen as u32).to_le_bytes());
+    out.extend(r.score.to_le_bytes());
+    out.extend(r.corrected_score.to_le_bytes());
+    out
+}
+
+fn last_bytes(r: &Reading) -> Vec<u8> {
+    let mut out = vec![strategy(r.last.scoring_strategy)];
+    out.extend(r.last.score.to_le_bytes());
+    out.extend(r.last.threshold.to_le_bytes());
+    match &r.last.last_anomaly {
+        Some(a) => {
+            out.push(1);
+            out.extend(a.relative_index.to_le_bytes());
+            out.extend((a.values_seen as u32).to_le_bytes());
+            out.push(a.attribution.is_some() as u8);
+            out.extend(a.score.to_le_bytes());
+        }
+        None => out.extend([0; 14]),
+    }
+    out
+}
+
+impl Handed {
+    /// The buffers that may be written have values of their own, so that a change shows.
+    pub fn new(state: &[u8], r: &Reading) -> Self {
+        let n = r.shingle * r.base;
+        let anomaly = r.last.last_anomaly.as_ref();
+        let last_expected = anomaly.map_or(vec![], |a| a.expected_rcf_point.clone());
+        let last_anomalous = anomaly.map_or(vec![], |a| a.anomalous_rcf_point.clone());
+        Handed {
+            reading: reading_bytes(r),
+            last: last_bytes(r),
+            points: [
+                r.point.clone(),
+                r.scale.clone(),
+                r.shift.clone(),
+                r.deviations.clone(),
+                last_expected,
+                last_anomalous,
+                r.median.clone(),
+                r.neighbours.concat(),
+            ],
+            vectors: [
+                r.attribution.high.clone(),
+                r.attribution.low.clone(),
+                r.expected_attribution.high.clone(),
+                r.expected_attribution.low.clone(),
+            ],
+            state: state.to_vec(),
+            expected: vec![-7.5; n],
+            out_high: vec![-3.25; n],
+            out_low: vec![-1.125; n],
+            verdict: vec![0xa5; VERDICT],
+        }
+    }
+
+    /// Our judgment: the refusal's number or 0.
+    pub fn judge(&mut self) -> u8 {
+        let [point, scale, shift, deviations, last_expected, last_anomalous, median, neighbours] =
+            &self.points;
+        let [high, low, ideal_high, ideal_low] = &self.vectors;
+        unsafe {
+            c::krcf_detect_and_modify(
+                self.state.as_mut_ptr(),
+                self.state.len(),
+                self.reading.as_ptr(),
+                self.reading.len(),
+                self.last.as_ptr(),
+                self.last.len(),
+                point.as_ptr(),
+                point.len(),
+                scale.as_ptr(),
+                scale.len(),
+                shift.as_ptr(),
+                shift.len(),
+                deviations.as_ptr(),
+                deviations.len(),
+                last_expected.as_ptr(),
+                last_expected.len(),
+                last_anomalous.as_ptr(),
+                last_anomalous.len(),
+                high.as_ptr(),
+                high.len(),
+                low.as_ptr(),
+                low.len(),
+                median.as_ptr(),
+                median.len(),
+                ideal_high.as_ptr(),
+                ideal_high.len(),
+                ideal_low.as_ptr(),
+                ideal_low.len(),
+                neighbours.as_ptr(),
+                neighbours.len(),
+                self.expected.as_mut_ptr(),
+                self.expected.len(),
+                self.out_high.as_mut_ptr(),
+                self.out_high.len(),
+                self.out_low.as_mut_ptr(),
+                self.out_low.len(),
+                self.verdict.as_mut_ptr(),
+                self.verdict.len(),
+            )
+        }
+    }
+}
+
+const MODES: [CorrectionMode; 7] = [
+    CorrectionMode::NONE,
+    CorrectionMode::NOISE,
+    CorrectionMode::MULTI_MODE,
+    CorrectionMode::ANOMALY_IN_SHINGLE,
+    CorrectionMode::CONDITIONAL_FORECAST,
+    CorrectionMode::FORECAST,
+    CorrectionMode::DATA_DRIFT,
+];
+
+/// The verdict of its bytes, with the relative index.
+pub fn said(bytes: &[u8]) -> (Verdict, i32) {
+    let (threshold, grade) = (f32::get(&bytes[1..]), f32::get(&bytes[6..]));
+    let verdict = match bytes[0] {
+        0 => Verdict::Quiet(threshold),
+        1 => Verdict::Corrected(threshold, MODES[bytes[5] as usize % 7]),
+        2 => Verdict::Raised(threshold, grade),
+        _ => Verdict::Skipped,
+    };
+    (verdict, i32::get(&bytes[10..]))
+}
+
+/// A state's bytes as the Rust's state. Its lists have as many statistics as the Rust's would.
+pub fn state_of(bytes: &[u8]) -> State {
+    let word = |at: usize| i32::get(&bytes[at..]) as u32 as usize;
+    let auto_adjust = bytes[ADJUST] != 0;
+    let n = if auto_adjust { word(BASE).min(16) } else { 0 };
+    let list = |at: usize| {
+        let each = (0..n).map(|k| Deviation::get(&bytes[at + k * Deviation::SIZE..]));
+        each.collect::<Vec<Deviation>>()
+    };
+    State {
+        basic_thresholder: Numbers::get(bytes),
+        auto_adjust,
+        run_length: word(RUN),
+        deviations_actual: list(ACTUAL),
+        deviations_expected: list(EXPECTED),
+    }
+}
