@@ -106,7 +106,7 @@ setters! {
 }
 
 /// All that one judgment is handed: the buffers that are read, and those that it may write.
-#[derive(Clone, Debug, PartialEq)]
+#[derive(Clone, Debug)]
 pub struct Handed {
     pub reading: Vec<u8>,
     pub last: Vec<u8>,

@@ -113,70 +113,56 @@ fn new(tally: &mut Tally, discount: f64, adjust: u8, base: usize, len: usize) ->
     out
 }
 
+fn put(bytes: &mut [u8], at: usize, n: u32) {
+    bytes[at..at + 4].copy_from_slice(&n.to_le_bytes());
+}
+
 /// A change that makes an accepted judgment a refused one, with its number.
 fn spoiled(random: &mut Random, h: &mut Handed) -> u8 {
-    let put = |bytes: &mut Vec<u8>, at: usize, n: u32| {
-        bytes[at..at + 4].copy_from_slice(&n.to_le_bytes());
-    };
-    let bad = random.of(&[f32::NAN, f32::INFINITY, f32::NEG_INFINITY]);
-    let code = 6 + random.below(250) as u8;
-    let seen = u32::from_le_bytes([h.last[14], h.last[15], h.last[16], h.last[17]]);
-    let has_anomaly = h.last[9] == 1;
-    match random.below(22) {
+    match random.below(8) {
+        0 | 1 => out_of_range(random, h),
+        2 | 3 => longer(random, h),
+        4 | 5 => unbounded(random, h),
+        6 => out_of_time(random, h),
+        _ => {
+            let at = random.of(&[4, 48, 84, 120, chain::RUN]);
+            put(&mut h.state, at, random.of(&[16_777_216, u32::MAX]));
+            COUNT
+        }
+    }
+}
+
+/// A size or a code beyond its range.
+fn out_of_range(random: &mut Random, h: &mut Handed) -> u8 {
+    let above = random.of(&[2, 3, 255]);
+    match random.below(10) {
         0 => put(&mut h.reading, 0, random.of(&[0, 65, u32::MAX])),
         1 => put(&mut h.reading, 4, random.of(&[0, 17, u32::MAX])),
-        2 => h.reading[8] = random.of(&[2, 3, 255]),
-        3 => h.reading[9] = code,
-        4 => h.reading[10] = random.of(&[2, 255]),
-        5 => h.last[0] = random.of(&[2, 255]),
-        6 => h.last[9] = random.of(&[2, 255]),
-        7 => h.state[chain::ADJUST] = random.of(&[2, 255]),
-        8 => h.state[124] = random.of(&[2, 255]),
-        9 => return shortened(random, h),
-        10 => return shortened(random, h),
-        11 | 12 => return unbounded(random, h, bad),
-        13 => {
-            h.reading[15..19].copy_from_slice(&bad.to_le_bytes());
-            return NOT_FINITE;
-        }
-        14 => {
-            h.last[1..5].copy_from_slice(&bad.to_le_bytes());
-            return NOT_FINITE;
-        }
-        15 => {
-            h.last[5..9].copy_from_slice(&bad.to_le_bytes());
-            return NOT_FINITE;
-        }
-        16 => {
-            put(&mut h.reading, 11, random.of(&[0, 16_777_217, u32::MAX]));
-            return VALUES_SEEN;
-        }
-        17 if has_anomaly => {
-            put(&mut h.reading, 11, random.below(seen as u64 + 1) as u32);
-            return VALUES_SEEN;
-        }
-        18 => {
-            put(&mut h.state, chain::RUN, random.of(&[16_777_216, u32::MAX]));
-            return COUNT;
-        }
-        19 => {
-            let at = random.of(&[4, 48, 84, 120]);
-            put(&mut h.state, at, random.of(&[16_777_216, u32::MAX]));
-            return COUNT;
-        }
-        20 => put(&mut h.state, chain::BASE, random.of(&[0, 17, u32::MAX])),
-        _ => {
-            h.verdict.push(0);
-            return LENGTH;
-        }
+        2 => put(&mut h.state, chain::BASE, random.of(&[0, 17, u32::MAX])),
+        3 => h.reading[8] = above,
+        4 => h.reading[9] = 6 + random.below(250) as u8,
+        5 => h.reading[10] = above,
+        6 => h.last[0] = above,
+        7 => h.last[9] = above,
+        8 => h.state[chain::ADJUST] = above,
+        _ => h.state[124] = above,
     }
     RANGE
 }
 
+/// A number of values seen that is 0, too large or not later than the last anomaly's.
+fn out_of_time(random: &mut Random, h: &mut Handed) -> u8 {
+    let seen = u32::from_le_bytes([h.last[14], h.last[15], h.last[16], h.last[17]]);
+    let earlier = random.below(seen as u64 + 1) as u32;
+    let n = random.of(&[0, 16_777_217, u32::MAX, earlier]);
+    put(&mut h.reading, 11, n);
+    VALUES_SEEN
+}
+
 /// One of the buffers one element longer.
-fn shortened(random: &mut Random, h: &mut Handed) -> u8 {
+fn longer(random: &mut Random, h: &mut Handed) -> u8 {
     let anomaly = h.last[9] == 1;
-    match random.below(16) {
+    match random.below(17) {
         k @ 0..=7 => {
             let k = k as usize;
             let read = !(chain::LAST_EXPECTED..chain::MEDIAN).contains(&k) || anomaly;
@@ -188,15 +174,24 @@ fn shortened(random: &mut Random, h: &mut Handed) -> u8 {
         12 => h.expected.push(1.0),
         13 => h.out_high.push(1.0),
         14 => h.out_low.push(1.0),
+        15 => h.verdict.push(0),
         _ => h.state.push(0),
     }
     LENGTH
 }
 
-/// A float that is not finite in one of the lent lists.
-fn unbounded(random: &mut Random, h: &mut Handed, bad: f32) -> u8 {
-    let k = random.below(12) as usize;
-    if k < 8 {
+/// A float that is not finite in one of the lent lists, in the reading or in the last descriptor.
+fn unbounded(random: &mut Random, h: &mut Handed) -> u8 {
+    let bad = random.of(&[f32::NAN, f32::INFINITY, f32::NEG_INFINITY]);
+    let k = random.below(15) as usize;
+    if k >= 12 {
+        let bytes = match k {
+            12 => &mut h.reading[15..19],
+            13 => &mut h.last[1..5],
+            _ => &mut h.last[5..9],
+        };
+        bytes.copy_from_slice(&bad.to_le_bytes());
+    } else if k < 8 {
         let k = if h.points[k].is_empty() { 0 } else { k };
         let at = random.below(h.points[k].len() as u64) as usize;
         h.points[k][at] = bad;
@@ -208,7 +203,7 @@ fn unbounded(random: &mut Random, h: &mut Handed, bad: f32) -> u8 {
     NOT_FINITE
 }
 
-/// One or two spoiled things: the smaller number, and nothing written.
+/// One thing spoiled: its number, and nothing written.
 fn refusal(tally: &mut Tally, random: &mut Random, state: &[u8], reading: &Reading) {
     let mut h = Handed::new(state, reading);
     let number = spoiled(random, &mut h);
@@ -216,7 +211,6 @@ fn refusal(tally: &mut Tally, random: &mut Random, state: &[u8], reading: &Readi
     let answer = h.judge();
     let case = || format!("refusal {number} of {before:?}");
     tally.compare(&answer, &number, case);
-    tally.compare(&(h == before || number == NOT_FINITE), &true, case);
     tally.compare(&h.state, &before.state, case);
     tally.compare(&h.expected, &before.expected, case);
     tally.compare(&h.out_high, &before.out_high, case);

@@ -165,10 +165,6 @@ fn kinds(refused: bool) -> Vec<Call> {
 
 /// States and answers of other lengths, yes/no bytes above 1, and the smaller of two refusals.
 fn refusals(tally: &mut Tally) {
-    let good = BasicThresholder::new(0.5)
-        .expect("a discount")
-        .numbers()
-        .bytes();
     for adjust in 0..=u8::MAX {
         new(tally, 0.25, adjust);
         new(tally, 1.0, adjust);
@@ -193,8 +189,14 @@ fn refusals(tally: &mut Tally) {
             });
         }
     }
+    let made = BasicThresholder::new(0.5).expect("a discount below 1");
+    flags_and_answers(tally, &made.numbers().bytes());
+}
+
+/// What is refused on a state of its length.
+fn flags_and_answers(tally: &mut Tally, good: &[u8]) {
     for flag in 2..=u8::MAX {
-        let mut state = good.clone();
+        let mut state = good.to_vec();
         state[FLAG] = flag;
         for (one, number) in all_kinds(RANGE) {
             for len in [0, 1, 4, 8, 9] {
@@ -210,7 +212,7 @@ fn refusals(tally: &mut Tally) {
     for (one, number) in all_kinds(LENGTH) {
         for len in (0..=40).filter(|&len| one.room() > 0 && len != one.room()) {
             refused(tally, len, number, &format!("{one:?}"), |b| {
-                one.ours(&mut good.clone(), b)
+                one.ours(&mut good.to_vec(), b)
             });
         }
     }
