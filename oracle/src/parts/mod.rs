@@ -2,6 +2,7 @@
 
 mod conversions;
 mod deviation;
+mod exits;
 mod floor;
 #[cfg(feature = "chain")]
 mod judging;
@@ -32,6 +33,7 @@ pub const PARTS: &[Part] = &[
     part("deviation", deviation::compare),
     part("thresholder", thresholder::compare),
     part("standin", standin::compare),
+    part("exits", exits::compare),
     #[cfg(feature = "chain")]
     part("judging", judging::compare),
 ];

@@ -1,0 +1,57 @@
+use borrow.Author.Needs.{needs}
+use Prim.Native.Nat.{_≤_, _-_}
+use Rattle.nine_exits.proofs.wides.Statement.{statement}
+use Rattle.nine_exits.proofs.wides.Tie as tie
+
+abbrev Inv-loop : tie.InvT-loop
+Inv-loop text out₀ i₀ out i = i ≤ 96
+
+abbrev μ-loop : tie.MeasureT-loop
+μ-loop text out₀ i₀ out i = 96 - i
+
+no-wides-requires : tie.Need-no-wides-requires Inv-loop μ-loop
+no-wides-requires c κs = search needs
+
+loop-holds : tie.Need-loop-holds Inv-loop μ-loop
+loop-holds c = search needs
+
+add-wide : tie.Need-add-wide Inv-loop μ-loop
+add-wide c = search needs
+
+wide-requires : tie.Need-wide-requires Inv-loop μ-loop
+wide-requires c κs = search needs
+
+mul-out : tie.Need-mul-out Inv-loop μ-loop
+mul-out c = search needs
+
+array-write-out : tie.Need-array-write-out Inv-loop μ-loop
+array-write-out c = search needs
+
+add-i : tie.Need-add-i Inv-loop μ-loop
+add-i c = search needs
+
+loop-less : tie.Need-loop-less Inv-loop μ-loop
+loop-less c = search needs
+
+loop-again : tie.Need-loop-again Inv-loop μ-loop
+loop-again c = search needs
+
+returns : tie.Need-returns Inv-loop μ-loop
+returns c = search needs
+
+pub wides-spec : {M : Type 1} → statement M
+wides-spec =
+    tie.close
+    (tie.spec
+    Inv-loop
+    μ-loop
+    no-wides-requires
+    loop-holds
+    add-wide
+    wide-requires
+    mul-out
+    array-write-out
+    add-i
+    loop-less
+    loop-again
+    returns)
