@@ -1,3 +1,4 @@
 pub mod Signs
 pub mod Pasting
 pub mod Laws
+pub mod Rows

@@ -7,12 +7,15 @@ use native.Mathlib.Numerals.{add-one}
 use native.Mathlib.Omega.{arith}
 use lib.ListN.{length, take, drop, set, length-append, length-drop, take-append-drop, drop-of-length-le}
 use lib.Seq.{length-take-le, take-at, drop-at, drop-drop, set-split}
+use lib.IntN.{ℤ}
+use lib.Ieee.{Float}
 use borrow.Rule.Slice.PartMut.{putMid}
 use Rattle.deviation.specs.declared.Deviation.{Deviation}
 use Rattle.basicthresholder.specs.declared.BasicThresholder.{BasicThresholder}
 use Rattle.basicthresholder.specs.declared.Graded.{Graded}
-use Rattle.layout.specs.Numbers.{bytes4, bytes8, f32Bytes, f64Bytes, i32Bytes, flagBytes}
-use Rattle.layout.specs.Parts.{pasted, openingBytes, statisticsBytes, settingsBytes}
+use Rattle.layout.specs.Numbers.{bytes4, bytes8, f32Bytes, f64Bytes, i32Bytes, flagBytes, pasted}
+use Rattle.layout.specs.Readings.{verdictBytes}
+use Rattle.layout.specs.Parts.{openingBytes, statisticsBytes, settingsBytes}
 use Rattle.layout.specs.States.{joined, encodeDeviation, encodeThresholder, encodeGraded}
 
 -- ---- a part that a call wrote, in the whole.
@@ -93,6 +96,14 @@ module _ (xs : List ℕ) where
   unfolding encodeGraded joined f32Bytes bytes4
   graded-pasted g h =
       pasted-all xs 0 (f32Bytes (g .threshold) ∷ f32Bytes (g .grade) ∷ []) (omega arith) ∙ pasted-whole xs (joined (f32Bytes (g .threshold) ∷ f32Bytes (g .grade) ∷ [])) (omega arith)
+
+  pub verdict-pasted : (kind mode : ℕ) (t g : Float) (n : ℤ) → length xs ≡ 14
+      → pasted (pasted (pasted (pasted (pasted xs 0 (kind ∷ [])) 1 (mode ∷ [])) 2 (f32Bytes t)) 6 (f32Bytes g)) 10 (i32Bytes n) ≡ verdictBytes kind mode t g n
+  unfolding verdictBytes joined f32Bytes i32Bytes bytes4
+  verdict-pasted kind mode t g n h =
+      let cs = (kind ∷ []) ∷ (mode ∷ []) ∷ f32Bytes t ∷ f32Bytes g ∷ i32Bytes n ∷ [] in
+      let l : length (joined cs) ≡ 14 = refl in
+      pasted-all xs 0 cs (omega arith) ∙ pasted-whole xs (joined cs) (omega arith)
 
   module _ (s : BasicThresholder) (h : length xs ≡ 149) where
     pub opening-pasted : pasted (pasted (pasted (pasted xs 0 (f32Bytes (s .elasticity))) 4 (i32Bytes (s .count))) 8 (f32Bytes (s .«score_differencing»))) 12 (f32Bytes (s .«last_score»))

@@ -1,3 +1,5 @@
 pub mod Numbers
 pub mod States
+pub mod Chain
+pub mod Readings
 pub mod Parts

@@ -5,7 +5,7 @@ use mathlib.Core.Bool.{Bool, cond, not}
 use mathlib.Core.List.{List, [], _∷_, _++_}
 use lib.Dec.{eqb, ltb}
 use lib.IntN.{ℤ, pos, negsuc}
-use lib.ListN.{getD, length}
+use lib.ListN.{getD, length, take, drop}
 use lib.Ieee.{Float, binary32, binary64, ofBits, toBits}
 
 -- The number of four bytes, the lowest first.
@@ -62,3 +62,7 @@ flagBytes b = flagByte b ∷ []
 -- What a write leaves of a buffer that must have n bytes: the new bytes, or what it was.
 unfoldable pub writtenOf : ℕ → List ℕ → List ℕ → List ℕ
 writtenOf n xs ys = cond (eqb (length xs) n) ys xs
+
+-- ys put over xs from the place `at` on.
+unfoldable pub pasted : List ℕ → ℕ → List ℕ → List ℕ
+pasted xs at ys = take at xs ++ (ys ++ drop (at + length ys) xs)

@@ -1,14 +1,9 @@
 -- What this crate's private functions promise each other. A reader need not read it: no public contract mentions it.
-use Prim.Native.Nat.{ℕ, _+_}
-use mathlib.Core.List.{List, [], _∷_, _++_}
-use lib.ListN.{take, drop, length}
+use Prim.Native.Nat.{ℕ}
+use mathlib.Core.List.{List, [], _∷_}
 use Rattle.basicthresholder.specs.declared.BasicThresholder.{BasicThresholder}
 use Rattle.layout.specs.Numbers.{f32Bytes, i32Bytes, flagBytes}
 use Rattle.layout.specs.States.{joined, encodeDeviation}
-
--- ys put over xs from the place `at` on.
-unfoldable pub pasted : List ℕ → ℕ → List ℕ → List ℕ
-pasted xs at ys = take at xs ++ (ys ++ drop (at + length ys) xs)
 
 -- A thresholder's bytes in three groups: before, in and after the statistics.
 unfoldable pub openingBytes : BasicThresholder → List ℕ

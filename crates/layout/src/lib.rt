@@ -2,13 +2,24 @@
 // straight code, so that the bytes of a number become one load or one store.
 use basicthresholder::BasicThresholder;
 use basicthresholder::Graded;
+use descriptor::LastAnomaly;
+use descriptor::LastDescriptor;
+use descriptor::Reading;
 use deviation::Deviation;
+use predictorcorrector::PredictorCorrector;
+use types::MethodCode;
+use types::ScoringStrategy;
+use types::TransformMethod;
 ghost use mathlib.Core.Path.{_≡_};
-ghost use Prim.Native.Nat.{_+_, _≤_, _<_};
-ghost use lib.ListN.{length};
+ghost use mathlib.Core.List.{[], _∷_};
+ghost use Prim.Native.Nat.{_+_, _*_, _≤_, _<_};
+ghost use lib.ListN.{length, replicate};
+ghost use Rattle.types.specs.Codes as Codes;
 ghost use Rattle.layout.specs.Numbers as Numbers;
 ghost use Rattle.layout.specs.States as States;
-ghost use Rattle.layout.specs.Parts.{pasted, openingBytes, statisticsBytes, settingsBytes};
+ghost use Rattle.layout.specs.Chain as Chain;
+ghost use Rattle.layout.specs.Readings as Readings;
+ghost use Rattle.layout.specs.Parts.{openingBytes, statisticsBytes, settingsBytes};
 
 fn wide(b: u8) -> u32
     ensures { λ r. ⌜ (r ≡ b) × (r < 0x100) ⌝ }
@@ -103,7 +114,7 @@ fn deviation_at(bytes: &[u8], at: usize) -> Deviation
 }
 
 fn thresholder_of(bytes: &[u8]) -> BasicThresholder
-    requires { ⌜ length (now bytes) ≡ 149 ⌝ }
+    requires { ⌜ 149 ≤ length (now bytes) ⌝ }
     ensures { λ r. ⌜ r ≡ States.decodeThresholder (now (bytes .entry)) ⌝ }
 {
     let primary = deviation_at(bytes, 16);
@@ -159,7 +170,7 @@ fn set4(out: &mut [u8], n: u32)
 
 fn put4(out: &mut [u8], at: usize, n: u32)
     requires { ⌜ at + 4 ≤ length (now out) ⌝ }
-    ensures { λ _. ⌜ now (out .exit) ≡ pasted (now (out .entry)) at (Numbers.bytes4 n) ⌝ }
+    ensures { λ _. ⌜ now (out .exit) ≡ Numbers.pasted (now (out .entry)) at (Numbers.bytes4 n) ⌝ }
 {
     let end = at + 4;
     set4(&mut out[at..end], n);
@@ -167,7 +178,7 @@ fn put4(out: &mut [u8], at: usize, n: u32)
 
 fn put8(out: &mut [u8], at: usize, n: u64)
     requires { ⌜ at + 8 ≤ length (now out) ⌝ }
-    ensures { λ _. ⌜ now (out .exit) ≡ pasted (now (out .entry)) at (Numbers.bytes8 n) ⌝ }
+    ensures { λ _. ⌜ now (out .exit) ≡ Numbers.pasted (now (out .entry)) at (Numbers.bytes8 n) ⌝ }
 {
     put4(out, at, (n % 0x1_0000_0000) as u32);
     put4(out, at + 4, (n / 0x1_0000_0000) as u32);
@@ -175,21 +186,21 @@ fn put8(out: &mut [u8], at: usize, n: u64)
 
 fn put_f32(out: &mut [u8], at: usize, x: f32)
     requires { ⌜ at + 4 ≤ length (now out) ⌝ }
-    ensures { λ _. ⌜ now (out .exit) ≡ pasted (now (out .entry)) at (Numbers.f32Bytes x) ⌝ }
+    ensures { λ _. ⌜ now (out .exit) ≡ Numbers.pasted (now (out .entry)) at (Numbers.f32Bytes x) ⌝ }
 {
     put4(out, at, ieee::f32_to_bits(x));
 }
 
 fn put_f64(out: &mut [u8], at: usize, x: f64)
     requires { ⌜ at + 8 ≤ length (now out) ⌝ }
-    ensures { λ _. ⌜ now (out .exit) ≡ pasted (now (out .entry)) at (Numbers.f64Bytes x) ⌝ }
+    ensures { λ _. ⌜ now (out .exit) ≡ Numbers.pasted (now (out .entry)) at (Numbers.f64Bytes x) ⌝ }
 {
     put8(out, at, ieee::f64_to_bits(x));
 }
 
 fn put_i32(out: &mut [u8], at: usize, n: i32)
     requires { ⌜ at + 4 ≤ length (now out) ⌝ }
-    ensures { λ _. ⌜ now (out .exit) ≡ pasted (now (out .entry)) at (Numbers.i32Bytes n) ⌝ }
+    ensures { λ _. ⌜ now (out .exit) ≡ Numbers.pasted (now (out .entry)) at (Numbers.i32Bytes n) ⌝ }
 {
     put4(out, at, unsigned(n));
 }
@@ -202,7 +213,7 @@ fn flag_byte(b: bool) -> u8
 
 fn put_flag(out: &mut [u8], at: usize, b: bool)
     requires { ⌜ at < length (now out) ⌝ }
-    ensures { λ _. ⌜ now (out .exit) ≡ pasted (now (out .entry)) at (Numbers.flagBytes b) ⌝ }
+    ensures { λ _. ⌜ now (out .exit) ≡ Numbers.pasted (now (out .entry)) at (Numbers.flagBytes b) ⌝ }
 {
     out[at] = flag_byte(b);
 }
@@ -220,7 +231,7 @@ fn set_deviation(out: &mut [u8], d: Deviation)
 
 fn put_deviation(out: &mut [u8], at: usize, d: Deviation)
     requires { ⌜ at + 36 ≤ length (now out) ⌝ }
-    ensures { λ _. ⌜ now (out .exit) ≡ pasted (now (out .entry)) at (States.encodeDeviation d) ⌝ }
+    ensures { λ _. ⌜ now (out .exit) ≡ Numbers.pasted (now (out .entry)) at (States.encodeDeviation d) ⌝ }
 {
     let end = at + 36;
     set_deviation(&mut out[at..end], d);
@@ -228,7 +239,7 @@ fn put_deviation(out: &mut [u8], at: usize, d: Deviation)
 
 fn put_opening(out: &mut [u8], s: BasicThresholder)
     requires { ⌜ length (now out) ≡ 149 ⌝ }
-    ensures { λ _. ⌜ now (out .exit) ≡ pasted (now (out .entry)) 0 (openingBytes s) ⌝ }
+    ensures { λ _. ⌜ now (out .exit) ≡ Numbers.pasted (now (out .entry)) 0 (openingBytes s) ⌝ }
 {
     put_f32(out, 0, s.elasticity);
     put_i32(out, 4, s.count);
@@ -238,7 +249,7 @@ fn put_opening(out: &mut [u8], s: BasicThresholder)
 
 fn put_statistics(out: &mut [u8], s: BasicThresholder)
     requires { ⌜ length (now out) ≡ 149 ⌝ }
-    ensures { λ _. ⌜ now (out .exit) ≡ pasted (now (out .entry)) 16 (statisticsBytes s) ⌝ }
+    ensures { λ _. ⌜ now (out .exit) ≡ Numbers.pasted (now (out .entry)) 16 (statisticsBytes s) ⌝ }
 {
     put_deviation(out, 16, s.primary_deviation);
     put_deviation(out, 52, s.secondary_deviation);
@@ -247,7 +258,7 @@ fn put_statistics(out: &mut [u8], s: BasicThresholder)
 
 fn put_settings(out: &mut [u8], s: BasicThresholder)
     requires { ⌜ length (now out) ≡ 149 ⌝ }
-    ensures { λ _. ⌜ now (out .exit) ≡ pasted (now (out .entry)) 124 (settingsBytes s) ⌝ }
+    ensures { λ _. ⌜ now (out .exit) ≡ Numbers.pasted (now (out .entry)) 124 (settingsBytes s) ⌝ }
 {
     put_flag(out, 124, s.auto_threshold);
     put_f32(out, 125, s.absolute_threshold);
@@ -315,5 +326,273 @@ pub fn write_graded(out: &mut [u8], g: Graded)
     if out.len() == 8 {
         put_f32(out, 0, g.threshold);
         put_f32(out, 4, g.grade);
+    }
+}
+
+pub fn write_u64(out: &mut [u8], n: u64)
+    ensures { λ _. ⌜ now (out .exit) ≡ Numbers.writtenOf 8 (now (out .entry)) (Numbers.bytes8 n) ⌝ }
+{
+    if out.len() == 8 {
+        put8(out, 0, n);
+    }
+}
+
+// Zero in every byte.
+pub fn clear(out: &mut [u8])
+    ensures { λ _. ⌜ now (out .exit) ≡ replicate (length (now (out .entry))) 0 ⌝ }
+{
+    let mut i = 0usize;
+    while i < out.len() {
+        out[i] = 0;
+        i += 1;
+    }
+}
+
+// How many entries of a stored state's lists exist.
+fn entries(auto_adjust: bool, base_dimension: u32) -> usize
+    ensures { λ r. ⌜ (r ≡ Chain.entries «auto_adjust» «base_dimension») × (r ≤ 16) ⌝ }
+{
+    if auto_adjust {
+        if base_dimension <= 16 {
+            return base_dimension as usize;
+        }
+        return 16;
+    }
+    0
+}
+
+fn empty_list() -> [Deviation; 16]
+    ensures { λ r. ⌜ r ≡ Chain.emptyList ⌝ }
+{
+    [Deviation::default(); 16]
+}
+
+// The first n entries of a list that is stored from `at` on; those behind them all zero.
+fn list_at(bytes: &[u8], at: usize, n: usize) -> [Deviation; 16]
+    requires { ⌜ n ≤ 16 ⌝ ∗ ⌜ at ≤ 734 ⌝ ∗ ⌜ at + 576 ≤ length (now bytes) ⌝ }
+    ensures { λ r. ⌜ r ≡ Chain.listAt (now (bytes .entry)) at n ⌝ }
+{
+    let mut out = empty_list();
+    let mut i = 0usize;
+    while i < n {
+        out[i] = deviation_at(bytes, at + 36 * i);
+        i += 1;
+    }
+    out
+}
+
+fn state_of(bytes: &[u8]) -> PredictorCorrector
+    requires { ⌜ length (now bytes) ≡ 1310 ⌝ }
+    ensures { λ r. ⌜ r ≡ Chain.decodeState (now (bytes .entry)) ⌝ }
+{
+    let auto_adjust = flag_at(bytes, 149);
+    let base_dimension = read4(bytes, 154);
+    let n = entries(auto_adjust, base_dimension);
+    PredictorCorrector {
+        basic_thresholder: thresholder_of(bytes),
+        auto_adjust,
+        run_length: read4(bytes, 150),
+        base_dimension,
+        deviations_actual: list_at(bytes, 158, n),
+        deviations_expected: list_at(bytes, 734, n),
+    }
+}
+
+// The chain's state of 1310 bytes; of a slice of another length a new one with discount 0 and base 1.
+pub fn read_state(bytes: &[u8]) -> PredictorCorrector
+    ensures { λ r. ⌜ r ≡ Chain.readState (now (bytes .entry)) ⌝ }
+{
+    if bytes.len() == 1310 {
+        return state_of(bytes);
+    }
+    let made = PredictorCorrector::new(0.0, false, 1);
+    made.state
+}
+
+fn put_thresholder(out: &mut [u8], at: usize, s: BasicThresholder)
+    requires { ⌜ at + 149 ≤ length (now out) ⌝ }
+    ensures { λ _. ⌜ now (out .exit) ≡ Numbers.pasted (now (out .entry)) at (States.encodeThresholder s) ⌝ }
+{
+    let end = at + 149;
+    set_thresholder(&mut out[at..end], s);
+}
+
+// The first n entries of a list, written from `at` on; the bytes of those behind them stay.
+fn put_list(out: &mut [u8], at: usize, list: [Deviation; 16], n: usize)
+    requires { ⌜ n ≤ 16 ⌝ ∗ ⌜ at ≤ 734 ⌝ ∗ ⌜ at + 576 ≤ length (now out) ⌝ }
+    ensures { λ _. ⌜ now (out .exit) ≡ Chain.listOver (now (out .entry)) at list n ⌝ }
+{
+    let mut i = 0usize;
+    while i < n {
+        put_deviation(out, at + 36 * i, list[i]);
+        i += 1;
+    }
+}
+
+fn set_state(out: &mut [u8], s: PredictorCorrector)
+    requires { ⌜ length (now out) ≡ 1310 ⌝ }
+    ensures { λ _. ⌜ now (out .exit) ≡ Chain.encodeStateOver (now (out .entry)) s ⌝ }
+{
+    let n = entries(s.auto_adjust, s.base_dimension);
+    let actual = s.deviations_actual;
+    let expected = s.deviations_expected;
+    put_thresholder(out, 0, s.basic_thresholder);
+    put_flag(out, 149, s.auto_adjust);
+    put4(out, 150, s.run_length);
+    put4(out, 154, s.base_dimension);
+    put_list(out, 158, actual, n);
+    put_list(out, 734, expected, n);
+}
+
+pub fn write_state(out: &mut [u8], s: PredictorCorrector)
+    ensures { λ _. ⌜ now (out .exit) ≡ Numbers.writtenOf 1310 (now (out .entry)) (Chain.encodeStateOver (now (out .entry)) s) ⌝ }
+{
+    if out.len() == 1310 {
+        set_state(out, s);
+    }
+}
+
+// Code 0 is the height strategy's, and any other is taken for DISTANCE; a method's code outside its list for NONE. Callers refuse such codes.
+fn strategy_of(code: u8) -> ScoringStrategy
+    ensures { λ r. ⌜ r ≡ Readings.strategyFrom code ⌝ }
+{
+    if code == 0 {
+        return ScoringStrategy::EXPECTED_INVERSE_HEIGHT;
+    }
+    ScoringStrategy::DISTANCE
+}
+
+fn method_of(code: u8) -> TransformMethod
+    ensures { λ r. ⌜ r ≡ Readings.methodFrom (Codes.methodOf code) ⌝ }
+{
+    match TransformMethod::of_code(code) {
+        MethodCode::Known(m) => m,
+        MethodCode::Refused(_) => TransformMethod::NONE,
+    }
+}
+
+fn size_at(bytes: &[u8], at: usize) -> usize
+    requires { ⌜ at + 4 ≤ length (now bytes) ⌝ }
+    ensures { λ r. ⌜ r ≡ Numbers.le4 (now (bytes .entry)) at ⌝ }
+{
+    read4(bytes, at) as usize
+}
+
+fn reading_of(bytes: &[u8]) -> Reading
+    requires { ⌜ length (now bytes) ≡ 23 ⌝ }
+    ensures { λ r. ⌜ r ≡ Readings.decodeReading (now (bytes .entry)) ⌝ }
+{
+    let strategy = strategy_of(bytes[8]);
+    let method = method_of(bytes[9]);
+    Reading {
+        shingle_size: size_at(bytes, 0),
+        base_dimension: size_at(bytes, 4),
+        scoring_strategy: strategy,
+        transform_method: method,
+        time_augmented: flag_at(bytes, 10),
+        values_seen: size_at(bytes, 11),
+        score: f32_at(bytes, 15),
+        corrected_score: f32_at(bytes, 19),
+    }
+}
+
+// A reading's 23 bytes; of a slice of another length all zeros.
+pub fn read_reading(bytes: &[u8]) -> Reading
+    ensures { λ r. ⌜ r ≡ Readings.readReading (now (bytes .entry)) ⌝ }
+{
+    if bytes.len() == 23 {
+        return reading_of(bytes);
+    }
+    Reading {
+        shingle_size: 0,
+        base_dimension: 0,
+        scoring_strategy: ScoringStrategy::EXPECTED_INVERSE_HEIGHT,
+        transform_method: TransformMethod::NONE,
+        time_augmented: false,
+        values_seen: 0,
+        score: 0.0,
+        corrected_score: 0.0,
+    }
+}
+
+fn anomaly_of(bytes: &[u8]) -> LastAnomaly
+    requires { ⌜ length (now bytes) ≡ 23 ⌝ }
+    ensures { λ r. ⌜ r ≡ Readings.decodeAnomaly (now (bytes .entry)) ⌝ }
+{
+    LastAnomaly {
+        relative_index: i32_at(bytes, 10),
+        values_seen: size_at(bytes, 14),
+        has_attribution: flag_at(bytes, 18),
+        score: f32_at(bytes, 19),
+    }
+}
+
+fn last_of(bytes: &[u8]) -> LastDescriptor
+    requires { ⌜ length (now bytes) ≡ 23 ⌝ }
+    ensures { λ r. ⌜ r ≡ Readings.decodeLast (now (bytes .entry)) ⌝ }
+{
+    let strategy = strategy_of(bytes[0]);
+    let anomaly = anomaly_of(bytes);
+    LastDescriptor {
+        scoring_strategy: strategy,
+        score: f32_at(bytes, 1),
+        threshold: f32_at(bytes, 5),
+        has_anomaly: flag_at(bytes, 9),
+        anomaly,
+    }
+}
+
+// The last descriptor's 23 bytes; of a slice of another length all zeros.
+pub fn read_last(bytes: &[u8]) -> LastDescriptor
+    ensures { λ r. ⌜ r ≡ Readings.readLast (now (bytes .entry)) ⌝ }
+{
+    if bytes.len() == 23 {
+        return last_of(bytes);
+    }
+    LastDescriptor {
+        scoring_strategy: ScoringStrategy::EXPECTED_INVERSE_HEIGHT,
+        score: 0.0,
+        threshold: 0.0,
+        has_anomaly: false,
+        anomaly: LastAnomaly {
+            relative_index: 0,
+            values_seen: 0,
+            has_attribution: false,
+            score: 0.0,
+        },
+    }
+}
+
+fn put_byte(out: &mut [u8], at: usize, b: u8)
+    requires { ⌜ at < length (now out) ⌝ }
+    ensures { λ _. ⌜ now (out .exit) ≡ Numbers.pasted (now (out .entry)) at (b ∷ []) ⌝ }
+{
+    out[at] = b;
+}
+
+fn set_verdict(out: &mut [u8], kind: u8, mode: u8, threshold: f32, grade: f32, relative_index: i32)
+    requires { ⌜ length (now out) ≡ 14 ⌝ }
+    ensures { λ _. ⌜ now (out .exit) ≡ Readings.verdictBytes kind mode threshold grade «relative_index» ⌝ }
+{
+    put_byte(out, 0, kind);
+    put_byte(out, 1, mode);
+    put_f32(out, 2, threshold);
+    put_f32(out, 6, grade);
+    put_i32(out, 10, relative_index);
+}
+
+// A verdict by its parts, 14 bytes.
+pub fn write_verdict(
+    out: &mut [u8],
+    kind: u8,
+    mode: u8,
+    threshold: f32,
+    grade: f32,
+    relative_index: i32,
+)
+    ensures { λ _. ⌜ now (out .exit) ≡ Numbers.writtenOf 14 (now (out .entry)) (Readings.verdictBytes kind mode threshold grade «relative_index») ⌝ }
+{
+    if out.len() == 14 {
+        set_verdict(out, kind, mode, threshold, grade, relative_index);
     }
 }
