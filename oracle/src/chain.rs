@@ -254,10 +254,10 @@ const MODES: [CorrectionMode; 7] = [
 
 /// The verdict of its bytes, with the relative index.
 pub fn said(bytes: &[u8]) -> (Verdict, i32) {
-    let (threshold, grade) = (f32::get(&bytes[1..]), f32::get(&bytes[6..]));
+    let (threshold, grade) = (f32::get(&bytes[2..]), f32::get(&bytes[6..]));
     let verdict = match bytes[0] {
         0 => Verdict::Quiet(threshold),
-        1 => Verdict::Corrected(threshold, MODES[bytes[5] as usize % 7]),
+        1 => Verdict::Corrected(threshold, MODES[bytes[1] as usize % 7]),
         2 => Verdict::Raised(threshold, grade),
         _ => Verdict::Skipped,
     };
