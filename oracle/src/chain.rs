@@ -67,7 +67,7 @@ mod c {
 }
 
 /// Lengths of a state, and of a verdict: its code in the order quiet, corrected, raised, skipped,
-/// the threshold, the mode's code, the grade, the relative index.
+/// the mode's code, the threshold, the grade, the relative index.
 pub const STATE: usize = 1310;
 pub const VERDICT: usize = 14;
 
