@@ -1,0 +1,158 @@
+-- The calls' shapes over plain variables. Assumes nothing.
+use mathlib.Core.Path.{_≡_, refl, sym, ap, _∙_}
+use mathlib.Core.Bool.{Bool, true, false, cond, _&&_}
+use mathlib.Core.List.{List}
+use Prim.Native.Nat.{ℕ}
+use lib.Dec.{eqb}
+use lib.ListN.{length}
+use lib.IntN.{ℤ}
+use lib.Ieee.{Float}
+use borrow.Author.Tests.{eq-eqb, eqb-true}
+use Rattle.types.specs.Codes.{modeCode}
+use Rattle.types.specs.declared.CorrectionMode.{CorrectionMode}
+use Rattle.types.specs.Refusals.{number}
+use Rattle.types.specs.declared.Refusal.{Refusal}
+use Rattle.types.specs.declared.Refusal.the-variants.{Range, Length}
+use Rattle.descriptor.specs.Checks.{sizesOk, rangeOk}
+use Rattle.descriptor.specs.Lent.{Lent}
+use Rattle.descriptor.proofs.Bounds.{both}
+use Rattle.descriptor.specs.declared.Reading.{Reading}
+use Rattle.descriptor.specs.declared.LastDescriptor.{LastDescriptor}
+use Rattle.predictorcorrector.specs.declared.PredictorCorrector.{PredictorCorrector}
+use Rattle.detection.specs.Judged.{Judged, outcome, written}
+use Rattle.detection.specs.declared.Judgment.{Judgment}
+use Rattle.detection.specs.declared.Verdict.{Verdict}
+use Rattle.detection.specs.declared.Verdict.the-variants.{Quiet, Corrected, Raised, Skipped}
+use Rattle.detection.specs.Const.{zero32}
+use Rattle.detection.specs.declared.Outcome.{Outcome}
+use Rattle.detection.specs.declared.Outcome.the-variants.{Accepted, Refused}
+use Rattle.layout.specs.Numbers.{writtenOf, le4}
+use Rattle.layout.specs.Chain.{readState, decodeState, encodeStateOver}
+use Rattle.layout.specs.Readings.{readReading, readLast, decodeReading, verdictBytes}
+use Rattle.c_judging.specs.Judging.{codesOk, slicesOk, sizesFit, outcomeOver, stateOver, indexOver, Answered, stateLeft, verdictLeft, stored, told}
+use Rattle.c_judging.specs.Steps.{Put}
+
+-- A slice of its length is written whole.
+whole : (n : ℕ) (xs ys : List ℕ) → length xs ≡ n → writtenOf n xs ys ≡ ys
+unfolding writtenOf
+whole n xs ys h = rw (eq-eqb (length xs) n h)
+
+module _ (v : Verdict) (xs zs : List ℕ) where
+  module _ (s : PredictorCorrector) (l : length xs ≡ 1310) (p : zs ≡ writtenOf 1310 xs (encodeStateOver xs s)) where
+    full : zs ≡ encodeStateOver xs s
+    full = p ∙ whole 1310 xs (encodeStateOver xs s) l
+
+    pub stored-quiet : (t : Float) → v ≡ Quiet t → zs ≡ stored v xs s
+    unfolding stored
+    stored-quiet t e = full ∙ rw e
+
+    pub stored-corrected : (t : Float) (m : CorrectionMode) → v ≡ Corrected t m → zs ≡ stored v xs s
+    unfolding stored
+    stored-corrected t m e = full ∙ rw e
+
+    pub stored-raised : (t g : Float) → v ≡ Raised t g → zs ≡ stored v xs s
+    unfolding stored
+    stored-raised t g e = full ∙ rw e
+
+  module _ (i k : ℤ) (f : k ≡ i) (l : length xs ≡ 14) where
+    pub told-quiet : (t : Float) → v ≡ Quiet t → zs ≡ writtenOf 14 xs (verdictBytes 0 0 t zero32 k) → zs ≡ told v i
+    unfolding told
+    told-quiet t e p = p ∙ whole 14 xs (verdictBytes 0 0 t zero32 k) l ∙ rw (e, f)
+
+    pub told-corrected : (t : Float) (m : CorrectionMode) (n : ℕ) → v ≡ Corrected t m → n ≡ modeCode m → zs ≡ writtenOf 14 xs (verdictBytes 1 n t zero32 k) → zs ≡ told v i
+    unfolding told
+    told-corrected t m n e c p = p ∙ whole 14 xs (verdictBytes 1 n t zero32 k) l ∙ rw (e, c, f)
+
+    pub told-raised : (t g : Float) → v ≡ Raised t g → zs ≡ writtenOf 14 xs (verdictBytes 2 0 t g k) → zs ≡ told v i
+    unfolding told
+    told-raised t g e p = p ∙ whole 14 xs (verdictBytes 2 0 t g k) l ∙ rw (e, f)
+
+    pub told-skipped : v ≡ Skipped → zs ≡ writtenOf 14 xs (verdictBytes 3 0 zero32 zero32 k) → zs ≡ told v i
+    unfolding told
+    told-skipped e p = p ∙ whole 14 xs (verdictBytes 3 0 zero32 zero32 k) l ∙ rw (e, f)
+
+-- ---- the slices.
+module _ (state reading last verdict : ℕ) (h : slicesOk state reading last verdict ≡ true) where
+  parts : (eqb state 1310 ≡ true) × (eqb verdict 14 ≡ true)
+  unfolding slicesOk
+  parts =
+      let p = both (eqb state 1310) _ h in
+      let q = both (eqb reading 23) _ (p .1) in
+      (p .0, both (eqb last 23) (eqb verdict 14) (q .1) .1)
+
+  pub state-long : state ≡ 1310
+  state-long = eqb-true state 1310 (parts .0)
+
+  pub verdict-long : verdict ≡ 14
+  verdict-long = eqb-true verdict 14 (parts .1)
+
+-- ---- the sizes.
+module _ (state reading : List ℕ) (r : Reading) (e : r ≡ readReading reading) (h : eqb (length reading) 23 ≡ true) where
+  decoded : r ≡ decodeReading reading
+  unfolding readReading
+  decoded = e ∙ rw h
+
+  pub sizes-fit-both : (s : PredictorCorrector) (b : Bool) → s ≡ readState state → eqb (length state) 1310 ≡ true
+      → b ≡ rangeOk (r .«shingle_size») (r .«base_dimension») (s .«base_dimension») → b ≡ sizesFit state reading
+  unfolding sizesFit readState decodeState decodeReading
+  sizes-fit-both s b q l p = p ∙ rw (decoded, q, l, h)
+
+  pub sizes-fit-one : (b : Bool) → eqb (length state) 1310 ≡ false → b ≡ sizesOk (r .«shingle_size») (r .«base_dimension») → b ≡ sizesFit state reading
+  unfolding sizesFit decodeReading
+  sizes-fit-one b l p = p ∙ rw (decoded, l, h)
+
+-- ---- a judgment put over the bytes.
+module _ (j : Judgment) (state verdict state′ verdict′ : List ℕ) where
+  pub put-accepted : (v : Verdict) → j .outcome ≡ Accepted v → state′ ≡ stored v state (j .state) → verdict′ ≡ told v (j .«relative_index») → Put j 0 state verdict state′ verdict′
+  unfolding stateLeft verdictLeft
+  put-accepted v o p q = record { answer = rw o; bytes = p ∙ rw o; says = q ∙ rw o }
+
+  pub put-refused : (why : Refusal) (n : ℕ) → j .outcome ≡ Refused why → n ≡ number why → state′ ≡ state → verdict′ ≡ verdict → Put j n state verdict state′ verdict′
+  unfolding stateLeft verdictLeft
+  put-refused why n o e p q = record { answer = e ∙ rw o; bytes = p ∙ rw o; says = q ∙ rw o }
+
+-- ---- the whole call.
+module _ (state reading last : List ℕ) (b : Lent) (e h w : List Float) (v : List ℕ) where
+  abbrev over : ℕ → ℕ → ℕ → ℕ → Outcome
+  over = outcomeOver state reading last b
+
+  -- Refused ahead of judging: nothing is written.
+  turned-back : (why : Refusal) → over (length e) (length h) (length w) (length v) ≡ Refused why → Answered state reading last b (number why) e h w v state e h w v
+  unfolding stateLeft verdictLeft written
+  turned-back why o = record { answer = rw o; bytes = rw o; point = rw o; highs = rw o; lows = rw o; verdict = rw o }
+
+  pub bad-codes : codesOk state reading last ≡ false → Answered state reading last b 2 e h w v state e h w v
+  unfolding outcomeOver
+  bad-codes c = turned-back Range (rw c)
+
+  module _ (c : codesOk state reading last ≡ true) where
+    module _ (s : slicesOk (length state) (length reading) (length last) (length v) ≡ false) where
+      pub bad-lengths : sizesFit state reading ≡ true → Answered state reading last b 3 e h w v state e h w v
+      unfolding outcomeOver
+      bad-lengths f = turned-back Length (rw (c, s, f))
+
+      pub bad-sizes : sizesFit state reading ≡ false → Answered state reading last b 2 e h w v state e h w v
+      unfolding outcomeOver
+      bad-sizes f = turned-back Range (rw (c, s, f))
+
+    module _ (s : slicesOk (length state) (length reading) (length last) (length v) ≡ true) where
+      through : over (length e) (length h) (length w) (length v) ≡ outcome (readState state) (readReading reading) (readLast last) b (length e) (length h) (length w)
+      unfolding outcomeOver
+      through = rw (c, s)
+
+      -- The judge's record, taken over to the bytes.
+      module _ (r : Reading) (l : LastDescriptor) (t : PredictorCorrector) (j : Judgment) (e′ h′ w′ : List Float) (state′ v′ : List ℕ) (n : ℕ)
+          (er : r ≡ readReading reading) (el : l ≡ readLast last) (et : t ≡ readState state) (p : Put j n state v state′ v′) where
+        taken : Judged (readState state) (readReading reading) (readLast last) b j e h w e′ h′ w′ → Answered state reading last b n e h w v state′ e′ h′ w′ v′
+        unfolding stateOver indexOver
+        taken d = record {
+          answer = p .answer ∙ rw (d .says, through);
+          bytes = p .bytes ∙ rw (d .state, d .says, through);
+          point = d .point ∙ rw through;
+          highs = d .highs ∙ rw through;
+          lows = d .lows ∙ rw through;
+          verdict = p .says ∙ rw (d .index, d .says, through);
+        }
+
+        pub judged : Judged t r l b j e h w e′ h′ w′ → Answered state reading last b n e h w v state′ e′ h′ w′ v′
+        judged d = taken (rw (← er, ← el, ← et) d)

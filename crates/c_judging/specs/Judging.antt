@@ -1,0 +1,100 @@
+-- Judging over C. The state, the reading, the last descriptor and the verdict are bytes; of the refusals that apply the smallest is answered, and nothing inside
+-- a slice of another length is looked at.
+use Prim.Native.Nat.{ℕ}
+use mathlib.Core.Path.{_≡_}
+use mathlib.Core.Bool.{Bool, true, cond, _&&_, _||_}
+use mathlib.Core.List.{List}
+use lib.Dec.{eqb, leb}
+use lib.IntN.{ℤ}
+use lib.ListN.{length, getD}
+use lib.Ieee.{Float}
+use Rattle.types.specs.Codes.{modeCode}
+use Rattle.types.specs.declared.Refusal.the-variants.{Range, Length}
+use Rattle.divector.specs.DiVector.{normalized}
+use Rattle.descriptor.specs.Checks.{sizesOk, rangeOk}
+use Rattle.descriptor.specs.Lent.{Lent}
+use Rattle.predictorcorrector.specs.declared.PredictorCorrector.{PredictorCorrector}
+use Rattle.detection.specs.Const.{zero32}
+use Rattle.detection.specs.Judging.{expected}
+use Rattle.detection.specs.Judged.{outcome, outcomeNumber, stateAfter, indexAfter, written}
+use Rattle.detection.specs.declared.Verdict.{Verdict}
+use Rattle.detection.specs.declared.Verdict.the-variants.{Quiet, Corrected, Raised, Skipped}
+use Rattle.detection.specs.declared.Outcome.{Outcome}
+use Rattle.detection.specs.declared.Outcome.the-variants.{Accepted, Refused}
+use Rattle.layout.specs.Numbers.{le4}
+use Rattle.layout.specs.Chain.{readState, encodeStateOver}
+use Rattle.layout.specs.Readings.{readReading, readLast, verdictBytes}
+
+-- The state's two yes/no bytes.
+unfoldable pub stateCodesOk : List ℕ → Bool
+stateCodesOk xs = cond (eqb (length xs) 1310) (leb (getD xs 124 0) 1 && leb (getD xs 149 0) 1) true
+
+-- Strategy, method and the yes/no of time augmentation.
+unfoldable pub readingCodesOk : List ℕ → Bool
+readingCodesOk xs = cond (eqb (length xs) 23) (leb (getD xs 8 0) 1 && (leb (getD xs 9 0) 5 && leb (getD xs 10 0) 1)) true
+
+-- Strategy and the yes/no of an anomaly; that of its attribution behind a yes.
+unfoldable pub lastCodesOk : List ℕ → Bool
+lastCodesOk xs = cond (eqb (length xs) 23) (leb (getD xs 0 0) 1 && (leb (getD xs 9 0) 1 && (eqb (getD xs 9 0) 0 || leb (getD xs 18 0) 1))) true
+
+unfoldable pub codesOk : (state reading last : List ℕ) → Bool
+codesOk state reading last = stateCodesOk state && (readingCodesOk reading && lastCodesOk last)
+
+unfoldable pub slicesOk : (state reading last verdict : ℕ) → Bool
+slicesOk state reading last verdict = eqb state 1310 && (eqb reading 23 && (eqb last 23 && eqb verdict 14))
+
+-- The reading's sizes, as far as the slices can be read.
+unfoldable pub sizesFit : (state reading : List ℕ) → Bool
+sizesFit state reading =
+    cond (eqb (length reading) 23)
+    (cond (eqb (length state) 1310) (rangeOk (le4 reading 0) (le4 reading 4) (le4 state 154)) (sizesOk (le4 reading 0) (le4 reading 4)))
+    true
+
+-- A verdict's bytes.
+unfoldable pub told : Verdict → ℤ → List ℕ
+told (Quiet t) index = verdictBytes 0 0 t zero32 index
+told (Corrected t m) index = verdictBytes 1 (modeCode m) t zero32 index
+told (Raised t g) index = verdictBytes 2 0 t g index
+told Skipped index = verdictBytes 3 0 zero32 zero32 index
+
+-- The bytes xs of a state that became s: a skipped reading leaves them as they are.
+unfoldable pub stored : Verdict → List ℕ → PredictorCorrector → List ℕ
+stored (Quiet t) xs s = encodeStateOver xs s
+stored (Corrected t m) xs s = encodeStateOver xs s
+stored (Raised t g) xs s = encodeStateOver xs s
+stored Skipped xs s = xs
+
+-- A refusal leaves every byte as it came.
+unfoldable pub stateLeft : Outcome → List ℕ → PredictorCorrector → List ℕ
+stateLeft (Accepted v) xs s = stored v xs s
+stateLeft (Refused why) xs s = xs
+
+unfoldable pub verdictLeft : Outcome → List ℕ → ℤ → List ℕ
+verdictLeft (Accepted v) xs index = told v index
+verdictLeft (Refused why) xs index = xs
+
+module _ (state reading last : List ℕ) (b : Lent) where
+  -- The outcome. The four numbers are the lengths of the slices that may be written: expected point, attribution, verdict.
+  unfoldable pub outcomeOver : (e h w v : ℕ) → Outcome
+  outcomeOver e h w v =
+      cond (codesOk state reading last)
+      (cond (slicesOk (length state) (length reading) (length last) v)
+      (outcome (readState state) (readReading reading) (readLast last) b e h w)
+      (cond (sizesFit state reading) (Refused Length) (Refused Range)))
+      (Refused Range)
+
+  -- The state after an outcome, and the relative index.
+  unfoldable pub stateOver : Outcome → PredictorCorrector
+  stateOver o = stateAfter (readState state) (readReading reading) (readLast last) b o
+
+  unfoldable pub indexOver : Outcome → ℤ
+  indexOver o = indexAfter (readState state) (readReading reading) (readLast last) b o
+
+  -- The contract: the answer n, and what stands in the slices afterwards.
+  pub record Answered (n : ℕ) (e h w : List Float) (v state′ : List ℕ) (e′ h′ w′ : List Float) (v′ : List ℕ) : Type 0 where
+    pub answer : n ≡ outcomeNumber (outcomeOver (length e) (length h) (length w) (length v))
+    pub bytes : state′ ≡ stateLeft (outcomeOver (length e) (length h) (length w) (length v)) state (stateOver (outcomeOver (length e) (length h) (length w) (length v)))
+    pub point : e′ ≡ written (outcomeOver (length e) (length h) (length w) (length v)) e (expected (readReading reading) (readLast last) b)
+    pub highs : h′ ≡ written (outcomeOver (length e) (length h) (length w) (length v)) h (normalized (readReading reading .score) (b .high) (b .low) (b .high))
+    pub lows : w′ ≡ written (outcomeOver (length e) (length h) (length w) (length v)) w (normalized (readReading reading .score) (b .high) (b .low) (b .low))
+    pub verdict : v′ ≡ verdictLeft (outcomeOver (length e) (length h) (length w) (length v)) v (indexOver (outcomeOver (length e) (length h) (length w) (length v)))
