@@ -7,64 +7,8 @@ use rcflib::trcf::predictorcorrector::State;
 use rcflib::trcf::types::{CorrectionMode, ScoringStrategy};
 
 use crate::bytes::Bytes;
+use crate::ours::c;
 use crate::readings::{Reading, Verdict};
-
-mod c {
-    #[link(name = "c_interface", kind = "static")]
-    unsafe extern "C" {
-        pub fn krcf_new(
-            discount: f64,
-            auto_adjust: u8,
-            base_dimension: usize,
-            out: *mut u8,
-            out_len: usize,
-        ) -> u8;
-        pub fn krcf_chain_set_z_factor(s: *mut u8, s_len: usize, factor: f32) -> u8;
-        pub fn krcf_chain_set_lower_threshold(s: *mut u8, s_len: usize, lower: f32) -> u8;
-        pub fn krcf_chain_set_initial_threshold(s: *mut u8, s_len: usize, initial: f32) -> u8;
-        pub fn krcf_chain_set_horizon(s: *mut u8, s_len: usize, horizon: f32) -> u8;
-        pub fn krcf_detect_and_modify(
-            state: *mut u8,
-            state_len: usize,
-            reading: *const u8,
-            reading_len: usize,
-            last: *const u8,
-            last_len: usize,
-            point: *const f32,
-            point_len: usize,
-            scale: *const f32,
-            scale_len: usize,
-            shift: *const f32,
-            shift_len: usize,
-            difference_deviations: *const f32,
-            difference_deviations_len: usize,
-            last_expected: *const f32,
-            last_expected_len: usize,
-            last_anomalous: *const f32,
-            last_anomalous_len: usize,
-            high: *const f64,
-            high_len: usize,
-            low: *const f64,
-            low_len: usize,
-            median: *const f32,
-            median_len: usize,
-            ideal_high: *const f64,
-            ideal_high_len: usize,
-            ideal_low: *const f64,
-            ideal_low_len: usize,
-            neighbours: *const f32,
-            neighbours_len: usize,
-            expected: *mut f32,
-            expected_len: usize,
-            out_high: *mut f64,
-            out_high_len: usize,
-            out_low: *mut f64,
-            out_low_len: usize,
-            verdict: *mut u8,
-            verdict_len: usize,
-        ) -> u8;
-    }
-}
 
 /// Lengths of a state, and of a verdict: its code in the order quiet, corrected, raised, skipped,
 /// the mode's code, the threshold, the grade, the relative index.
