@@ -1,0 +1,83 @@
+//! Builds the library's three archives where they are missing or older than their sources, and
+//! tells the linker where they are.
+
+use std::io;
+use std::path::{Path, PathBuf};
+use std::process::{Command, ExitCode};
+use std::time::SystemTime;
+
+const ARCHIVES: [&str; 3] = ["c_interface", "c_chain", "c_judging"];
+
+/// When a file, or the newest file below a folder, was last changed.
+fn changed(path: &Path) -> io::Result<SystemTime> {
+    let about = path.metadata()?;
+    let mut newest = about.modified()?;
+    if about.is_dir() {
+        for entry in path.read_dir()? {
+            newest = newest.max(changed(&entry?.path())?);
+        }
+    }
+    Ok(newest)
+}
+
+/// Proves and builds one archive. What `rt` prints is shown only where it fails.
+fn build(root: &Path, name: &str) -> Result<(), String> {
+    let run = Command::new("rt")
+        .args(["staticlib", name])
+        .current_dir(root)
+        .output();
+    match run {
+        Ok(done) if done.status.success() => Ok(()),
+        Ok(done) => Err(format!(
+            "`rt staticlib {name}` failed ({}):\n{}{}",
+            done.status,
+            String::from_utf8_lossy(&done.stdout),
+            String::from_utf8_lossy(&done.stderr),
+        )),
+        Err(why) => Err(format!(
+            "`rt staticlib {name}` could not be started: {why}. The Rattle kit must be on PATH."
+        )),
+    }
+}
+
+/// Sees to it that the archive is there and as new as the sources.
+fn provide(root: &Path, folder: &Path, name: &str, sources: SystemTime) -> Result<(), String> {
+    let archive = folder.join(format!("lib{name}.a"));
+    println!("cargo:rerun-if-changed={}", archive.display());
+    let fresh = |archive: &Path| changed(archive).is_ok_and(|made| made >= sources);
+    if fresh(&archive) {
+        return Ok(());
+    }
+    build(root, name)?;
+    if archive.exists() {
+        return Ok(());
+    }
+    Err(format!(
+        "`rt staticlib {name}` wrote no {}",
+        archive.display()
+    ))
+}
+
+fn run() -> Result<(), String> {
+    let here = std::env::var("CARGO_MANIFEST_DIR").map_err(|why| why.to_string())?;
+    let root = PathBuf::from(here).join("..");
+    let crates = root.join("crates");
+    let folder = root.join("target/staticlib");
+    println!("cargo:rerun-if-changed={}", crates.display());
+    let sources = changed(&crates).map_err(|why| format!("{}: {why}", crates.display()))?;
+    for name in ARCHIVES {
+        provide(&root, &folder, name, sources)?;
+    }
+    println!("cargo:rustc-link-search=native={}", folder.display());
+    Ok(())
+}
+
+fn main() -> ExitCode {
+    match run() {
+        Ok(()) => ExitCode::SUCCESS,
+        Err(why) => {
+            eprintln!("{why}");
+            ExitCode::FAILURE
+        }
+    }
+}

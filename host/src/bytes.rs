@@ -1,0 +1,67 @@
+//! Readings and verdicts as the C interface has them: little-endian, without gaps.
+
+use crate::reading::{LastDescriptor, Reading};
+
+pub const READING: usize = 23;
+pub const LAST: usize = 23;
+pub const VERDICT: usize = 14;
+
+/// A size in four bytes. One that does not fit becomes the largest, which is refused like it.
+fn size(n: usize) -> [u8; 4] {
+    u32::try_from(n).unwrap_or(u32::MAX).to_le_bytes()
+}
+
+fn put<const N: usize>(out: &mut [u8], at: usize, bytes: [u8; N]) {
+    out[at..at + N].copy_from_slice(&bytes);
+}
+
+fn take<const N: usize>(bytes: &[u8], at: usize) -> [u8; N] {
+    std::array::from_fn(|k| bytes[at + k])
+}
+
+pub fn reading(r: &Reading) -> [u8; READING] {
+    let mut out = [0; READING];
+    put(&mut out, 0, size(r.shingle_size));
+    put(&mut out, 4, size(r.base_dimension));
+    out[8] = r.scoring_strategy.code();
+    out[9] = r.transform_method.code();
+    out[10] = r.time_augmented.into();
+    put(&mut out, 11, size(r.values_seen));
+    put(&mut out, 15, r.score.to_le_bytes());
+    put(&mut out, 19, r.corrected_score.to_le_bytes());
+    out
+}
+
+pub fn last(l: &LastDescriptor) -> [u8; LAST] {
+    let mut out = [0; LAST];
+    out[0] = l.scoring_strategy.code();
+    put(&mut out, 1, l.score.to_le_bytes());
+    put(&mut out, 5, l.threshold.to_le_bytes());
+    if let Some(anomaly) = &l.last_anomaly {
+        out[9] = 1;
+        put(&mut out, 10, anomaly.relative_index.to_le_bytes());
+        put(&mut out, 14, size(anomaly.values_seen));
+        out[18] = anomaly.has_attribution.into();
+        put(&mut out, 19, anomaly.score.to_le_bytes());
+    }
+    out
+}
+
+/// A verdict's parts.
+pub struct Said {
+    pub kind: u8,
+    pub mode: u8,
+    pub threshold: f32,
+    pub grade: f32,
+    pub relative_index: i32,
+}
+
+pub fn said(verdict: &[u8; VERDICT]) -> Said {
+    Said {
+        kind: verdict[0],
+        mode: verdict[1],
+        threshold: f32::from_le_bytes(take(verdict, 2)),
+        grade: f32::from_le_bytes(take(verdict, 6)),
+        relative_index: i32::from_le_bytes(take(verdict, 10)),
+    }
+}

@@ -1,0 +1,43 @@
+//! A hospital's withdrawal watch: which drawers to recount.
+//!
+//! A random cut forest scores each withdrawal from the dispensing cabinets. A [`Watch`] turns the
+//! scores of one drawer into verdicts. The forest stays with the caller, who lends its results in a
+//! [`Reading`]; the decision itself is made by a library that is written in Rattle and proved.
+//!
+//! ```
+//! use withdrawal_watch::{LentAttribution, Reading, Verdict, Watch};
+//!
+//! let mut watch = Watch::new(0.01, false, 1)?;
+//! let even = LentAttribution { high: &[0.25; 4], low: &[0.0; 4] };
+//! let reading = Reading {
+//!     shingle_size: 4, base_dimension: 1, values_seen: 1, score: 1.25,
+//!     rcf_point: &[2.0, 1.0, 2.0, 2.0], median: &[2.0; 4],
+//!     scale: &[1.0], shift: &[0.0], difference_deviations: &[0.5],
+//!     attribution: even, expected_attribution: even, ..Reading::default()
+//! };
+//! assert_eq!(watch.judge(&reading)?, Verdict::Quiet { threshold: 1.5 });
+//! # Ok::<(), withdrawal_watch::Refusal>(())
+//! ```
+//!
+//! A call that cannot be carried out answers a [`Refusal`] and changes nothing. No input panics.
+
+#![deny(missing_docs)]
+#![deny(unsafe_code)]
+#![deny(unsafe_op_in_unsafe_fn)]
+
+mod bytes;
+#[allow(unsafe_code)]
+mod calls;
+#[allow(unsafe_code)]
+mod declarations;
+mod reading;
+mod refusal;
+mod types;
+mod verdict;
+mod watch;
+
+pub use reading::{LastAnomaly, LastDescriptor, LentAttribution, Reading};
+pub use refusal::Refusal;
+pub use types::{CorrectionMode, ScoringStrategy, TransformMethod};
+pub use verdict::{Attribution, Verdict};
+pub use watch::{Watch, STATE_BYTES};
