@@ -65,3 +65,71 @@ pub fn said(verdict: &[u8; VERDICT]) -> Said {
         relative_index: i32::from_le_bytes(take(verdict, 10)),
     }
 }
+
+#[cfg(test)]
+mod tests {
+    use super::*;
+    use crate::reading::LastAnomaly;
+    use crate::types::{ScoringStrategy, TransformMethod};
+
+    #[test]
+    fn a_reading_field_by_field() {
+        let made = reading(&Reading {
+            shingle_size: 0x0102,
+            base_dimension: 0x0304,
+            scoring_strategy: ScoringStrategy::Distance,
+            transform_method: TransformMethod::NormalizeDifference,
+            time_augmented: true,
+            values_seen: 0x05060708,
+            score: 1.0,
+            corrected_score: 2.0,
+            ..Reading::default()
+        });
+        let (sizes, rest) = made.split_at(8);
+        assert_eq!(sizes, [2, 1, 0, 0, 4, 3, 0, 0]);
+        assert_eq!(rest[..3], [1, 5, 1]);
+        assert_eq!(rest[3..7], [8, 7, 6, 5]);
+        assert_eq!(rest[7..], [0, 0, 0x80, 0x3f, 0, 0, 0, 0x40]);
+    }
+
+    #[test]
+    fn a_last_descriptor_field_by_field() {
+        let mut descriptor = LastDescriptor {
+            scoring_strategy: ScoringStrategy::Distance,
+            score: 1.0,
+            threshold: 2.0,
+            last_anomaly: None,
+        };
+        let start = [1, 0, 0, 0x80, 0x3f, 0, 0, 0, 0x40];
+        let made = last(&descriptor);
+        assert_eq!(made[..9], start);
+        assert_eq!(made[9..], [0; 14]);
+        descriptor.last_anomaly = Some(LastAnomaly {
+            relative_index: -2,
+            values_seen: 0x01020304,
+            has_attribution: true,
+            score: -2.0,
+            ..LastAnomaly::default()
+        });
+        let made = last(&descriptor);
+        assert_eq!(made[..9], start);
+        assert_eq!(made[9..14], [1, 0xfe, 0xff, 0xff, 0xff]);
+        assert_eq!(made[14..], [4, 3, 2, 1, 1, 0, 0, 0, 0xc0]);
+    }
+
+    #[test]
+    fn a_size_beyond_four_bytes_is_the_largest() {
+        assert_eq!(size(usize::MAX), [0xff; 4]);
+        assert_eq!(size(u32::MAX as usize), [0xff; 4]);
+    }
+
+    #[test]
+    fn a_verdict_field_by_field() {
+        let made = said(&[
+            2, 6, 0, 0, 0x80, 0x3f, 0, 0, 0, 0x40, 0xfe, 0xff, 0xff, 0xff,
+        ]);
+        assert_eq!((made.kind, made.mode), (2, 6));
+        assert_eq!((made.threshold, made.grade), (1.0, 2.0));
+        assert_eq!(made.relative_index, -2);
+    }
+}

@@ -2,44 +2,39 @@
 
 mod readings;
 
-use readings::{fresh, Owned};
-use withdrawal_watch::{Reading, Refusal, ScoringStrategy, Watch};
+use readings::{after_anomaly, anomaly, fresh, quiet, raised, with};
+use withdrawal_watch::{
+    LastAnomaly, LastDescriptor, LentAttribution, Reading, Refusal, ScoringStrategy, Watch,
+};
 
 /// A watch with some readings behind it refuses this one by `why`, keeps its state, and judges on
 /// as one that never saw it.
-fn refused(change: impl Fn(&mut Owned), why: Refusal) {
+fn refused(why: Refusal, reading: Reading) {
     for auto_adjust in [false, true] {
         let mut watch = fresh(auto_adjust);
-        for owned in [Owned::quiet(), Owned::raised(), Owned::quiet()] {
-            watch.judge(&owned.reading()).expect("accepted");
+        for before in [quiet(), raised(), quiet()] {
+            watch.judge(&before).expect("accepted");
         }
         let mut other = watch.clone();
-        let mut owned = Owned::raised().after_anomaly();
-        change(&mut owned);
-        assert_eq!(watch.judge(&owned.reading()), Err(why));
+        assert_eq!(watch.judge(&reading), Err(why));
         assert_eq!(watch.state_bytes(), other.state_bytes());
-        let next = Owned::raised();
-        let verdict = watch.judge(&next.reading());
+        let verdict = watch.judge(&raised());
         assert!(verdict.is_ok());
-        assert_eq!(verdict, other.judge(&next.reading()));
+        assert_eq!(verdict, other.judge(&raised()));
         assert_eq!(watch.state_bytes(), other.state_bytes());
     }
 }
 
 #[test]
 fn the_unchanged_reading_is_accepted() {
-    let mut watch = fresh(false);
-    let owned = Owned::raised().after_anomaly();
-    assert!(watch.judge(&owned.reading()).is_ok());
+    assert!(fresh(false).judge(&after_anomaly()).is_ok());
 }
 
 #[test]
 fn discount_1() {
     for discount in [1.0, -0.5, f64::NAN, f64::INFINITY] {
-        assert_eq!(
-            Watch::new(discount, false, 1).unwrap_err(),
-            Refusal::Discount
-        );
+        let made = Watch::new(discount, false, 1);
+        assert_eq!(made.unwrap_err(), Refusal::Discount);
     }
     assert!(Watch::new(0.0, false, 1).is_ok());
 }
@@ -49,73 +44,118 @@ fn range_2() {
     for base in [0, 17, usize::MAX] {
         assert_eq!(Watch::new(0.01, true, base).unwrap_err(), Refusal::Range);
     }
-    for size in [0, 65, 1 << 32, usize::MAX] {
-        refused(|r| r.shingle_size = size, Refusal::Range);
+    for shingle_size in [0, 65, (1 << 32) + 4, usize::MAX] {
+        let reading = Reading {
+            shingle_size,
+            ..after_anomaly()
+        };
+        refused(Refusal::Range, reading);
     }
-    // The last is 1 in its lower 32 bits, and 1 is the watch's own.
-    for size in [0, 2, 17, (1 << 32) + 1] {
-        refused(|r| r.base_dimension = size, Refusal::Range);
+    for base_dimension in [0, 2, 17, (1 << 32) + 1] {
+        let reading = Reading {
+            base_dimension,
+            ..after_anomaly()
+        };
+        refused(Refusal::Range, reading);
     }
+}
+
+/// A reading for each lent slice, with `narrow` or `wide` in its place.
+fn with_slice<'a>(narrow: &'a [f32], wide: &'a [f64]) -> Vec<Reading<'a>> {
+    let mut all = vec![after_anomaly(); 10];
+    all[0].rcf_point = narrow;
+    all[1].scale = narrow;
+    all[2].shift = narrow;
+    all[3].difference_deviations = narrow;
+    all[4].attribution.high = wide;
+    all[5].attribution.low = wide;
+    all[6].median = narrow;
+    all[7].expected_attribution.high = wide;
+    all[8].expected_attribution.low = wide;
+    all[9].neighbours = narrow;
+    let expected = LastAnomaly {
+        expected_rcf_point: narrow,
+        ..anomaly()
+    };
+    let anomalous = LastAnomaly {
+        anomalous_rcf_point: narrow,
+        ..anomaly()
+    };
+    all.extend([
+        with(expected, after_anomaly()),
+        with(anomalous, after_anomaly()),
+    ]);
+    all
 }
 
 #[test]
 fn length_3() {
-    let changes: [fn(&mut Owned); 9] = [
-        |r| r.point.push(2.0),
-        |r| r.point.clear(),
-        |r| r.row.push(0.5),
-        |r| r.high.truncate(3),
-        |r| r.low.push(0.0),
-        |r| r.median.truncate(3),
-        |r| r.neighbours = vec![2.0; 5],
-        |r| r.neighbours = vec![2.0; 257 * 4],
-        |r| r.shingle_size = 3,
-    ];
-    for change in changes {
-        refused(change, Refusal::Length);
+    for n in [2, 3, 5] {
+        for reading in with_slice(&vec![2.0; n], &vec![2.0; n]) {
+            refused(Refusal::Length, reading);
+        }
     }
-    refused(
-        |r| r.anomaly.as_mut().unwrap().expected.clear(),
-        Refusal::Length,
-    );
-    refused(
-        |r| r.anomaly.as_mut().unwrap().anomalous.push(2.0),
-        Refusal::Length,
-    );
+    let many = Reading {
+        neighbours: &[2.0; 257 * 4],
+        ..after_anomaly()
+    };
+    refused(Refusal::Length, many);
+    let shorter = Reading {
+        shingle_size: 3,
+        ..after_anomaly()
+    };
+    refused(Refusal::Length, shorter);
+}
+
+/// Readings with `x` for each of the numbers that come without a slice.
+fn with_number(x: f32) -> Vec<Reading<'static>> {
+    let mut all = vec![after_anomaly(); 4];
+    all[0].score = x;
+    all[1].corrected_score = x;
+    all[2].last_descriptor.score = x;
+    all[3].last_descriptor.threshold = x;
+    let score = LastAnomaly {
+        score: x,
+        ..anomaly()
+    };
+    all.push(with(score, after_anomaly()));
+    all
 }
 
 #[test]
 fn not_finite_4() {
     for x in [f32::NAN, f32::INFINITY, f32::NEG_INFINITY] {
-        refused(|r| r.score = x, Refusal::NotFinite);
-        refused(|r| r.corrected_score = x, Refusal::NotFinite);
-        refused(|r| r.point[0] = x, Refusal::NotFinite);
-        refused(|r| r.row[0] = x, Refusal::NotFinite);
-        refused(|r| r.high[3] = x.into(), Refusal::NotFinite);
-        refused(|r| r.low[0] = x.into(), Refusal::NotFinite);
-        refused(|r| r.median[2] = x, Refusal::NotFinite);
-        refused(
-            |r| r.neighbours = vec![2.0, 2.0, 2.0, x],
-            Refusal::NotFinite,
-        );
-        refused(|r| r.last_score = x, Refusal::NotFinite);
-        refused(
-            |r| r.anomaly.as_mut().unwrap().score = x,
-            Refusal::NotFinite,
-        );
+        for reading in with_number(x) {
+            refused(Refusal::NotFinite, reading);
+        }
+        // A row is 1 long, everything else 4.
+        let wide = [0.0, 0.0, 0.0, x.into()];
+        for (k, reading) in with_slice(&[2.0, 2.0, 2.0, x], &wide).iter().enumerate() {
+            if !(1..4).contains(&k) {
+                refused(Refusal::NotFinite, *reading);
+            }
+        }
+        for reading in &with_slice(&[x], &wide)[1..4] {
+            refused(Refusal::NotFinite, *reading);
+        }
     }
 }
 
 #[test]
 fn values_seen_5() {
-    for seen in [0, 40, 16_777_217, 1 << 32, (1 << 32) + 42, usize::MAX] {
-        refused(|r| r.values_seen = seen, Refusal::ValuesSeen);
+    for values_seen in [0, 40, 16_777_217, (1 << 32) + 42, usize::MAX] {
+        let reading = Reading {
+            values_seen,
+            ..after_anomaly()
+        };
+        refused(Refusal::ValuesSeen, reading);
     }
-    for seen in [42, 43, 1 << 32, usize::MAX] {
-        refused(
-            |r| r.anomaly.as_mut().unwrap().values_seen = seen,
-            Refusal::ValuesSeen,
-        );
+    for values_seen in [42, 43, 1 << 32, usize::MAX] {
+        let later = LastAnomaly {
+            values_seen,
+            ..anomaly()
+        };
+        refused(Refusal::ValuesSeen, with(later, after_anomaly()));
     }
 }
 
@@ -123,23 +163,20 @@ fn values_seen_5() {
 #[test]
 fn count_6() {
     let mut watch = Watch::new(0.0, false, 1).expect("a watch");
-    let zero = [0.0];
+    let none = LentAttribution {
+        high: &[0.0],
+        low: &[0.0],
+    };
     let mut reading = Reading {
         shingle_size: 1,
-        base_dimension: 1,
         scoring_strategy: ScoringStrategy::Distance,
-        values_seen: 1,
         score: 1.0,
         rcf_point: &[2.0],
-        scale: &[1.0],
-        shift: &[0.0],
-        difference_deviations: &[0.5],
+        attribution: none,
         median: &[2.0],
-        ..Reading::default()
+        expected_attribution: none,
+        ..raised()
     };
-    reading.attribution.high = &zero;
-    reading.attribution.low = &zero;
-    reading.expected_attribution = reading.attribution;
     for seen in 1..=16_777_216 {
         reading.values_seen = seen;
         assert!(watch.judge(&reading).is_ok(), "reading {seen}");
@@ -164,22 +201,23 @@ fn horizon_7() {
 /// Of several reasons the smallest number is given.
 #[test]
 fn smallest_number_first() {
-    let spoil = |steps: usize, r: &mut Owned| {
-        let changes: [fn(&mut Owned); 4] = [
-            |r| r.values_seen = 0,
-            |r| r.score = f32::NAN,
-            |r| r.median.clear(),
-            |r| r.shingle_size = 65,
-        ];
-        changes[..=steps].iter().for_each(|change| change(r));
+    let mut reading = after_anomaly();
+    reading.values_seen = 0;
+    refused(Refusal::ValuesSeen, reading);
+    reading.score = f32::NAN;
+    refused(Refusal::NotFinite, reading);
+    reading.median = &[];
+    refused(Refusal::Length, reading);
+    reading.shingle_size = 65;
+    refused(Refusal::Range, reading);
+}
+
+/// Behind a missing anomaly nothing is looked at.
+#[test]
+fn no_anomaly_is_no_reason() {
+    let reading = Reading {
+        last_descriptor: LastDescriptor::default(),
+        ..after_anomaly()
     };
-    let answers = [
-        Refusal::ValuesSeen,
-        Refusal::NotFinite,
-        Refusal::Length,
-        Refusal::Range,
-    ];
-    for (steps, why) in answers.into_iter().enumerate() {
-        refused(|r| spoil(steps, r), why);
-    }
+    assert!(fresh(false).judge(&reading).is_ok());
 }
