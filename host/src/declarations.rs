@@ -125,6 +125,53 @@ unsafe extern "C" {
         low_len: usize,
         value: f64,
     ) -> u8;
+    pub fn krcf_divide(
+        high: *mut f64,
+        high_len: usize,
+        low: *mut f64,
+        low_len: usize,
+        num: usize,
+    ) -> u8;
+    pub fn krcf_assign(
+        high: *mut f64,
+        high_len: usize,
+        low: *mut f64,
+        low_len: usize,
+        from_high: *const f64,
+        from_high_len: usize,
+        from_low: *const f64,
+        from_low_len: usize,
+    ) -> u8;
+    pub fn krcf_add_to(
+        high: *const f64,
+        high_len: usize,
+        low: *const f64,
+        low_len: usize,
+        other_high: *mut f64,
+        other_high_len: usize,
+        other_low: *mut f64,
+        other_low_len: usize,
+    ) -> u8;
+    pub fn krcf_add_to_scaled(
+        high: *const f64,
+        high_len: usize,
+        low: *const f64,
+        low_len: usize,
+        other_high: *mut f64,
+        other_high_len: usize,
+        other_low: *mut f64,
+        other_low_len: usize,
+        factor: f64,
+    ) -> u8;
+    pub fn krcf_high_low_sum(
+        high: *const f64,
+        high_len: usize,
+        low: *const f64,
+        low_len: usize,
+        index: usize,
+        out: *mut u8,
+        out_len: usize,
+    ) -> u8;
     pub fn krcf_max_gap_contribution(
         high: *const f64,
         high_len: usize,

@@ -10,7 +10,7 @@ use lib.Ieee.{Float}
 use Rattle.types.specs.Refusals.{number, answered}
 use Rattle.types.specs.declared.Refusal.{Refusal}
 use Rattle.types.specs.declared.Answer.{Answer}
-use Rattle.divector.specs.DiVector.{alike, Updated}
+use Rattle.divector.specs.DiVector.{Updated}
 use Rattle.divector.specs.declared.Number.{Number}
 use Rattle.divector.specs.declared.Number.the-variants as Numbers
 use Rattle.divector.specs.declared.Block.{Block}
@@ -35,15 +35,11 @@ module _ (n : ℕ) (xs ys : List ℕ) where
   put-refused h = simp h
 
 -- ---- vectors.
-both : (fits : Bool) (n : ℕ) (a : Answer) (h w hs ls hs′ ls′ : List Float) → n ≡ answered a → Updated fits hs ls hs′ ls′ a h w
-    → pair n h w ≡ cond fits (pair 0 hs′ ls′) (pair 3 hs ls)
-both true n a h w hs ls hs′ ls′ e u = λ i. record { answer = (e ∙ ap answered (u .answer)) i; highs = u .highs i; lows = u .lows i }
-both false n a h w hs ls hs′ ls′ e u = λ i. record { answer = (e ∙ ap answered (u .answer)) i; highs = u .highs i; lows = u .lows i }
-
-pub pair-changed : (n : ℕ) (a : Answer) (h w hs ls hs′ ls′ : List Float) → n ≡ answered a → Updated (alike hs ls) hs ls hs′ ls′ a h w
-    → pair n h w ≡ pairChanged hs ls hs′ ls′
+pub pair-changed : (fits : Bool) (n : ℕ) (a : Answer) (h w hs ls hs′ ls′ : List Float) → n ≡ answered a → Updated fits hs ls hs′ ls′ a h w
+    → pair n h w ≡ pairChanged fits hs ls hs′ ls′
 unfolding pairChanged
-pair-changed n a h w hs ls hs′ ls′ e u = both (alike hs ls) n a h w hs ls hs′ ls′ e u
+pair-changed true n a h w hs ls hs′ ls′ e u = λ i. record { answer = (e ∙ ap answered (u .answer)) i; highs = u .highs i; lows = u .lows i }
+pair-changed false n a h w hs ls hs′ ls′ e u = λ i. record { answer = (e ∙ ap answered (u .answer)) i; highs = u .highs i; lows = u .lows i }
 
 pub number-put : (m : Number) (out : List ℕ) (x : Float) (w : Left) → m ≡ Numbers.Value x → w ≡ putInto 8 out (f64Bytes x) → w ≡ numberInto m out
 unfolding numberInto

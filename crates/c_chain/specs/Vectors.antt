@@ -1,13 +1,12 @@
 -- The calls on attribution vectors over C.
 use Prim.Native.Nat.{ℕ}
-use mathlib.Core.Bool.{cond}
+use mathlib.Core.Bool.{Bool, cond}
 use mathlib.Core.List.{List}
 use lib.Dec.{eqb}
 use lib.ListN.{length}
 use lib.Ieee.{Float}
 use Rattle.types.specs.Refusals.{number}
 use Rattle.types.specs.declared.Refusal.the-variants.{Length}
-use Rattle.divector.specs.DiVector.{alike}
 use Rattle.divector.specs.declared.Number.{Number}
 use Rattle.divector.specs.declared.Number.the-variants as Numbers
 use Rattle.divector.specs.declared.Block.{Block}
@@ -24,9 +23,9 @@ pub record Pair : Type 0 where
 abbrev pub pair : ℕ → List Float → List Float → Pair
 pair n hs ls = record { answer = n; highs = hs; lows = ls }
 
--- hs and ls become hs′ and ls′; 3 where they differ in length.
-unfoldable pub pairChanged : List Float → List Float → List Float → List Float → Pair
-pairChanged hs ls hs′ ls′ = cond (alike hs ls) (pair 0 hs′ ls′) (pair (number Length) hs ls)
+-- hs and ls become hs′ and ls′ where the lengths fit; otherwise 3.
+unfoldable pub pairChanged : Bool → List Float → List Float → List Float → List Float → Pair
+pairChanged fits hs ls hs′ ls′ = cond fits (pair 0 hs′ ls′) (pair (number Length) hs ls)
 
 -- A number into a slice of 8 bytes.
 unfoldable pub numberInto : Number → List ℕ → Left

@@ -64,16 +64,70 @@ pub extern "C" fn krcf_total(high: &[f64], low: &[f64], out: &mut [u8]) -> u8
 
 #[no_mangle]
 pub extern "C" fn krcf_scale(high: &mut [f64], low: &mut [f64], factor: f64) -> u8
-    ensures { λ r. ⌜ pair r (now (high .exit)) (now (low .exit)) ≡ pairChanged (now (high .entry)) (now (low .entry)) (DiVector.scaled factor (now (high .entry))) (DiVector.scaled factor (now (low .entry))) ⌝ }
+    ensures { λ r. ⌜ pair r (now (high .exit)) (now (low .exit)) ≡ pairChanged (DiVector.alike (now (high .entry)) (now (low .entry))) (now (high .entry)) (now (low .entry)) (DiVector.scaled factor (now (high .entry))) (DiVector.scaled factor (now (low .entry))) ⌝ }
 {
     divector::scale(high, low, factor).number()
 }
 
 #[no_mangle]
 pub extern "C" fn krcf_normalize(high: &mut [f64], low: &mut [f64], value: f64) -> u8
-    ensures { λ r. ⌜ pair r (now (high .exit)) (now (low .exit)) ≡ pairChanged (now (high .entry)) (now (low .entry)) (DiVector.normalized value (now (high .entry)) (now (low .entry)) (now (high .entry))) (DiVector.normalized value (now (high .entry)) (now (low .entry)) (now (low .entry))) ⌝ }
+    ensures { λ r. ⌜ pair r (now (high .exit)) (now (low .exit)) ≡ pairChanged (DiVector.alike (now (high .entry)) (now (low .entry))) (now (high .entry)) (now (low .entry)) (DiVector.normalized value (now (high .entry)) (now (low .entry)) (now (high .entry))) (DiVector.normalized value (now (high .entry)) (now (low .entry)) (now (low .entry))) ⌝ }
 {
     divector::normalize(high, low, value).number()
+}
+
+#[no_mangle]
+pub extern "C" fn krcf_divide(high: &mut [f64], low: &mut [f64], num: usize) -> u8
+    ensures { λ r. ⌜ pair r (now (high .exit)) (now (low .exit)) ≡ pairChanged (DiVector.alike (now (high .entry)) (now (low .entry))) (now (high .entry)) (now (low .entry)) (DiVector.scaled (DiVector.reciprocal num) (now (high .entry))) (DiVector.scaled (DiVector.reciprocal num) (now (low .entry))) ⌝ }
+{
+    divector::divide(high, low, num).number()
+}
+
+#[no_mangle]
+pub extern "C" fn krcf_assign(
+    high: &mut [f64],
+    low: &mut [f64],
+    from_high: &[f64],
+    from_low: &[f64],
+) -> u8
+    ensures { λ r. ⌜ pair r (now (high .exit)) (now (low .exit)) ≡ pairChanged (DiVector.allAlike (now (high .entry)) (now (low .entry)) (now («from_high» .entry)) (now («from_low» .entry))) (now (high .entry)) (now (low .entry)) (now («from_high» .entry)) (now («from_low» .entry)) ⌝ }
+{
+    divector::assign(high, low, from_high, from_low).number()
+}
+
+#[no_mangle]
+pub extern "C" fn krcf_add_to(
+    high: &[f64],
+    low: &[f64],
+    other_high: &mut [f64],
+    other_low: &mut [f64],
+) -> u8
+    ensures { λ r. ⌜ pair r (now («other_high» .exit)) (now («other_low» .exit)) ≡ pairChanged (DiVector.allAlike (now (high .entry)) (now (low .entry)) (now («other_high» .entry)) (now («other_low» .entry))) (now («other_high» .entry)) (now («other_low» .entry)) (DiVector.added (now («other_high» .entry)) (now (high .entry))) (DiVector.added (now («other_low» .entry)) (now (low .entry))) ⌝ }
+{
+    divector::add_to(high, low, other_high, other_low).number()
+}
+
+#[no_mangle]
+pub extern "C" fn krcf_add_to_scaled(
+    high: &[f64],
+    low: &[f64],
+    other_high: &mut [f64],
+    other_low: &mut [f64],
+    factor: f64,
+) -> u8
+    ensures { λ r. ⌜ pair r (now («other_high» .exit)) (now («other_low» .exit)) ≡ pairChanged (DiVector.allAlike (now (high .entry)) (now (low .entry)) (now («other_high» .entry)) (now («other_low» .entry))) (now («other_high» .entry)) (now («other_low» .entry)) (DiVector.addedScaled factor (now («other_high» .entry)) (now (high .entry))) (DiVector.addedScaled factor (now («other_low» .entry)) (now (low .entry))) ⌝ }
+{
+    divector::add_to_scaled(high, low, other_high, other_low, factor).number()
+}
+
+#[no_mangle]
+pub extern "C" fn krcf_high_low_sum(high: &[f64], low: &[f64], index: usize, out: &mut [u8]) -> u8
+    ensures { λ r. ⌜ left r (now (out .exit)) ≡ numberInto (DiVector.highLowSum (now (high .entry)) (now (low .entry)) index) (now (out .entry)) ⌝ }
+{
+    match divector::high_low_sum(high, low, index) {
+        Number::Value(x) => put_f64(out, x),
+        Number::Refused(why) => why.number(),
+    }
 }
 
 #[no_mangle]

@@ -56,9 +56,13 @@ scaled factor xs = map (λ (x : Float). Ieee.mul binary64 x factor) xs
 abbrev pub Scale : List Float → List Float → Float → Answer → List Float → List Float → Type 0
 Scale hs ls factor = Updated (alike hs ls) hs ls (scaled factor hs) (scaled factor ls)
 
--- both sides scaled by 1.0 / num as f64
+-- 1.0 / num as f64
+abbrev pub reciprocal : ℕ → Float
+reciprocal num = Ieee.div binary64 one64 (Ieee.ofInt binary64 (pos num))
+
+-- both sides scaled by it
 abbrev pub Divide : List Float → List Float → ℕ → Answer → List Float → List Float → Type 0
-Divide hs ls num = Scale hs ls (Ieee.div binary64 one64 (Ieee.ofInt binary64 (pos num)))
+Divide hs ls num = Scale hs ls (reciprocal num)
 
 -- `iter_mut().zip(..)`: every x becomes f x y with the y at its place, as far as there is one
 unfoldable pub zipped : (Float → Float → Float) → List Float → List Float → List Float
