@@ -1,6 +1,6 @@
 -- Judging over C. The state, the reading, the last descriptor and the verdict are bytes; of the refusals that apply the smallest is answered, and nothing inside
 -- a slice of another length is looked at.
-use Prim.Native.Nat.{ℕ}
+use Prim.Native.Nat.{ℕ, _-_}
 use mathlib.Core.Path.{_≡_}
 use mathlib.Core.Bool.{Bool, true, cond, _&&_, _||_}
 use mathlib.Core.List.{List}
@@ -9,6 +9,7 @@ use lib.IntN.{ℤ}
 use lib.ListN.{length, getD}
 use lib.Ieee.{Float}
 use Rattle.types.specs.Codes.{modeCode}
+use Rattle.types.specs.Refusals.{number}
 use Rattle.types.specs.declared.Refusal.the-variants.{Range, Length}
 use Rattle.divector.specs.DiVector.{normalized}
 use Rattle.descriptor.specs.Checks.{sizesOk, rangeOk}
@@ -21,7 +22,8 @@ use Rattle.detection.specs.declared.Verdict.{Verdict}
 use Rattle.detection.specs.declared.Verdict.the-variants.{Quiet, Corrected, Raised, Skipped}
 use Rattle.detection.specs.declared.Outcome.{Outcome}
 use Rattle.detection.specs.declared.Outcome.the-variants.{Accepted, Refused}
-use Rattle.layout.specs.Numbers.{le4}
+use Rattle.corrector.specs.Corrector.{pointRefusal}
+use Rattle.layout.specs.Numbers.{le4, bytes8}
 use Rattle.layout.specs.Chain.{readState, encodeStateOver}
 use Rattle.layout.specs.Readings.{readReading, readLast, verdictBytes}
 
@@ -98,3 +100,11 @@ module _ (state reading last : List ℕ) (b : Lent) where
     pub highs : h′ ≡ written (outcomeOver (length e) (length h) (length w) (length v)) h (normalized (readReading reading .score) (b .high) (b .low) (b .high))
     pub lows : w′ ≡ written (outcomeOver (length e) (length h) (length w) (length v)) w (normalized (readReading reading .score) (b .high) (b .low) (b .low))
     pub verdict : v′ ≡ verdictLeft (outcomeOver (length e) (length h) (length w) (length v)) v (indexOver (outcomeOver (length e) (length h) (length w) (length v)))
+
+-- The newest row's place in the caller's own point: the sizes and the point's length are refused before the slice that takes the place.
+unfoldable pub newestAnswer : (shingle base point out : ℕ) → ℕ
+newestAnswer shingle base point out =
+    cond (eqb (pointRefusal shingle base point) 0) (cond (eqb out 8) 0 (number Length)) (pointRefusal shingle base point)
+
+unfoldable pub newestBytes : (shingle base point : ℕ) → List ℕ → List ℕ
+newestBytes shingle base point out = cond (eqb (newestAnswer shingle base point (length out)) 0) (bytes8 (point - base)) out

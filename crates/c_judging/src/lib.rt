@@ -8,6 +8,7 @@ use detection::Outcome;
 use detection::Verdict;
 use predictorcorrector::PredictorCorrector;
 ghost use mathlib.Core.Path.{_≡_};
+ghost use Prim.Native.Nat.{_-_};
 ghost use lib.ListN.{length};
 ghost use Rattle.descriptor.specs.Lent.{lent};
 ghost use Rattle.c_judging.specs.Judging as Judging;
@@ -177,4 +178,27 @@ pub extern "C" fn krcf_detect_and_modify(
         }
     }
     RANGE
+}
+
+// Where the newest row of a point starts, 8 bytes.
+#[no_mangle]
+pub extern "C" fn krcf_newest_row(
+    point: &[f32],
+    shingle_size: usize,
+    base_dimension: usize,
+    out: &mut [u8],
+) -> u8
+    ensures { λ r. ⌜ (r ≡ Judging.newestAnswer «shingle_size» «base_dimension» (length (now (point .entry))) (length (now (out .entry)))) × (now (out .exit) ≡ Judging.newestBytes «shingle_size» «base_dimension» (length (now (point .entry))) (now (out .entry))) ⌝ }
+{
+    let mut refusal = 0u8;
+    let row = corrector::newest_row(point, shingle_size, base_dimension, &mut refusal);
+    let start = point.len() - row.len();
+    if refusal == 0 {
+        if out.len() == 8 {
+            layout::write_u64(out, start as u64);
+            return 0;
+        }
+        return LENGTH;
+    }
+    refusal
 }
