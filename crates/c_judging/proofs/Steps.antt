@@ -29,7 +29,7 @@ use Rattle.detection.specs.declared.Outcome.the-variants.{Accepted, Refused}
 use Rattle.layout.specs.Numbers.{writtenOf, le4}
 use Rattle.layout.specs.Chain.{readState, decodeState, encodeStateOver}
 use Rattle.layout.specs.Readings.{readReading, readLast, decodeReading, verdictBytes}
-use Rattle.c_judging.specs.Judging.{codesOk, slicesOk, sizesFit, outcomeOver, stateOver, indexOver, Answered, stateLeft, verdictLeft, stored, told}
+use Rattle.c_judging.specs.Judging.{codesOk, slicesOk, sizesFit, outcomeOver, stateOver, indexOver, Answered, stateLeft, verdictLeft, changesState, stored, told}
 use Rattle.c_judging.specs.Steps.{Put}
 
 -- A slice of its length is written whole.
@@ -38,21 +38,13 @@ unfolding writtenOf
 whole n xs ys h = rw (eq-eqb (length xs) n h)
 
 module _ (v : Verdict) (xs zs : List ℕ) where
-  module _ (s : PredictorCorrector) (l : length xs ≡ 1310) (p : zs ≡ writtenOf 1310 xs (encodeStateOver xs s)) where
-    full : zs ≡ encodeStateOver xs s
-    full = p ∙ whole 1310 xs (encodeStateOver xs s) l
+  pub stored-new : (s : PredictorCorrector) → length xs ≡ 1310 → changesState v ≡ true → zs ≡ writtenOf 1310 xs (encodeStateOver xs s) → zs ≡ stored v xs s
+  unfolding stored
+  stored-new s l h p = p ∙ whole 1310 xs (encodeStateOver xs s) l ∙ rw h
 
-    pub stored-quiet : (t : Float) → v ≡ Quiet t → zs ≡ stored v xs s
-    unfolding stored
-    stored-quiet t e = full ∙ rw e
-
-    pub stored-corrected : (t : Float) (m : CorrectionMode) → v ≡ Corrected t m → zs ≡ stored v xs s
-    unfolding stored
-    stored-corrected t m e = full ∙ rw e
-
-    pub stored-raised : (t g : Float) → v ≡ Raised t g → zs ≡ stored v xs s
-    unfolding stored
-    stored-raised t g e = full ∙ rw e
+  pub stored-old : (s : PredictorCorrector) → changesState v ≡ false → xs ≡ stored v xs s
+  unfolding stored
+  stored-old s h = rw h
 
   module _ (i k : ℤ) (f : k ≡ i) (l : length xs ≡ 14) where
     pub told-quiet : (t : Float) → v ≡ Quiet t → zs ≡ writtenOf 14 xs (verdictBytes 0 0 t zero32 k) → zs ≡ told v i

@@ -2,7 +2,7 @@
 -- a slice of another length is looked at.
 use Prim.Native.Nat.{ℕ, _-_}
 use mathlib.Core.Path.{_≡_}
-use mathlib.Core.Bool.{Bool, true, cond, _&&_, _||_}
+use mathlib.Core.Bool.{Bool, true, false, cond, _&&_, _||_}
 use mathlib.Core.List.{List}
 use lib.Dec.{eqb, leb}
 use lib.IntN.{ℤ}
@@ -59,12 +59,16 @@ told (Corrected t m) index = verdictBytes 1 (modeCode m) t zero32 index
 told (Raised t g) index = verdictBytes 2 0 t g index
 told Skipped index = verdictBytes 3 0 zero32 zero32 index
 
+-- Every accepted reading but a skipped one changes the state.
+unfoldable pub changesState : Verdict → Bool
+changesState (Quiet t) = true
+changesState (Corrected t m) = true
+changesState (Raised t g) = true
+changesState Skipped = false
+
 -- The bytes xs of a state that became s: a skipped reading leaves them as they are.
 unfoldable pub stored : Verdict → List ℕ → PredictorCorrector → List ℕ
-stored (Quiet t) xs s = encodeStateOver xs s
-stored (Corrected t m) xs s = encodeStateOver xs s
-stored (Raised t g) xs s = encodeStateOver xs s
-stored Skipped xs s = xs
+stored v xs s = cond (changesState v) (encodeStateOver xs s) xs
 
 -- A refusal leaves every byte as it came.
 unfoldable pub stateLeft : Outcome → List ℕ → PredictorCorrector → List ℕ

@@ -85,16 +85,24 @@ fn put_verdict(out: &mut [u8], verdict: Verdict, relative_index: i32)
     }
 }
 
-// A skipped reading leaves the state's bytes as they are.
+// Every accepted reading but a skipped one.
+fn changes_state(verdict: Verdict) -> bool
+    ensures { λ r. ⌜ r ≡ Judging.changesState verdict ⌝ }
+{
+    match verdict {
+        Verdict::Quiet(_) => true,
+        Verdict::Corrected(_, _) => true,
+        Verdict::Raised(_, _) => true,
+        Verdict::Skipped => false,
+    }
+}
+
 fn put_state(state: &mut [u8], verdict: Verdict, after: PredictorCorrector)
     requires { ⌜ length (now state) ≡ 1310 ⌝ }
     ensures { λ _. ⌜ now (state .exit) ≡ Judging.stored verdict (now (state .entry)) after ⌝ }
 {
-    match verdict {
-        Verdict::Skipped => {}
-        Verdict::Quiet(_) => layout::write_state(state, after),
-        Verdict::Corrected(_, _) => layout::write_state(state, after),
-        Verdict::Raised(_, _) => layout::write_state(state, after),
+    if changes_state(verdict) {
+        layout::write_state(state, after);
     }
 }
 
