@@ -94,3 +94,24 @@ pub fn judge(state: &mut [u8], r: &Reading, out: Buffers) -> Result<(), Refusal>
     };
     Refusal::answered(number)
 }
+
+pub fn newest_row(
+    point: &[f32],
+    shingle_size: usize,
+    base_dimension: usize,
+) -> Result<usize, Refusal> {
+    let mut start = [0; 8];
+    // SAFETY: `point` is borrowed for reading, `start` alone, and each goes with its own length.
+    let number = unsafe {
+        c::krcf_newest_row(
+            point.as_ptr(),
+            point.len(),
+            shingle_size,
+            base_dimension,
+            start.as_mut_ptr(),
+            start.len(),
+        )
+    };
+    Refusal::answered(number)?;
+    Ok(u64::from_le_bytes(start) as usize)
+}

@@ -246,4 +246,12 @@ unsafe extern "C" {
         verdict: *mut u8,
         verdict_len: usize,
     ) -> u8;
+    pub fn krcf_newest_row(
+        point: *const f32,
+        point_len: usize,
+        shingle_size: usize,
+        base_dimension: usize,
+        out: *mut u8,
+        out_len: usize,
+    ) -> u8;
 }

@@ -36,7 +36,7 @@ mod types;
 mod verdict;
 mod watch;
 
-pub use reading::{LastAnomaly, LastDescriptor, LentAttribution, Reading};
+pub use reading::{newest_row, LastAnomaly, LastDescriptor, LentAttribution, Reading};
 pub use refusal::Refusal;
 pub use types::{CorrectionMode, ScoringStrategy, TransformMethod};
 pub use verdict::{Attribution, Verdict};

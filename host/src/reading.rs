@@ -1,5 +1,7 @@
 //! What the caller lends with a reading.
 
+use crate::calls;
+use crate::refusal::Refusal;
 use crate::types::{ScoringStrategy, TransformMethod};
 
 /// The forest's attribution of a score: how much each coordinate adds by being too high or too low.
@@ -101,4 +103,25 @@ impl Reading<'_> {
             0
         }
     }
+}
+
+/// The newest row of a shingled point, a part of the caller's own slice. Refused for sizes out of
+/// range (2) and a point that is not shingle times base long (3).
+///
+/// ```
+/// use withdrawal_watch::{newest_row, Refusal};
+///
+/// let point = [1.0, 2.0, 3.0, 4.0, 5.0, 6.0];
+/// assert_eq!(newest_row(&point, 3, 2)?, &[5.0, 6.0]);
+/// assert_eq!(newest_row(&point[1..], 3, 2).unwrap_err().number(), 3);
+/// assert_eq!(newest_row(&point, 0, 2).unwrap_err().number(), 2);
+/// # Ok::<(), Refusal>(())
+/// ```
+pub fn newest_row(
+    point: &[f32],
+    shingle_size: usize,
+    base_dimension: usize,
+) -> Result<&[f32], Refusal> {
+    let start = calls::newest_row(point, shingle_size, base_dimension)?;
+    Ok(&point[start..])
 }
