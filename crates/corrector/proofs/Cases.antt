@@ -1,4 +1,4 @@
--- Rows of document 01's drill sheet, and edges of the other calls, computed on the definitions.
+-- Edges of the calls beside document 01's drill sheet, computed on the definitions.
 use mathlib.Core.Path.{_≡_, refl}
 use mathlib.Core.Bool.{Bool, true, false}
 use mathlib.Core.List.{List, [], _∷_, map}
@@ -20,10 +20,10 @@ doubles = map (λ n. Ieee.ofInt binary64 (pos n))
 abbrev corrected : ℕ → ℤ → Bool → Bool → List Float
 corrected gap = applyBasicCorrector (numbers (1 ∷ 2 ∷ 3 ∷ 4 ∷ [])) gap 4 1 true (numbers (5 ∷ 6 ∷ 7 ∷ 8 ∷ [])) (numbers (5 ∷ 6 ∷ 7 ∷ 18 ∷ []))
 
--- Corrector, base 1, shingle 4. Differenced: gaps 1, 4, 5. Then an older anomaly, time augmentation alone, and neither.
+-- Corrector, base 1, shingle 4: an older anomaly, time augmentation alone, and neither.
 corrections :
-    (corrected 1 (pos 0) true false ∷ corrected 4 (pos 0) true false ∷ corrected 5 (pos 0) true false ∷ corrected 1 (negsuc 0) true true ∷ corrected 2 (pos 0) false true ∷ corrected 2 (pos 0) false false ∷ [])
-    ≡ map numbers ((6 ∷ 7 ∷ 8 ∷ 14 ∷ []) ∷ (11 ∷ 2 ∷ 3 ∷ 4 ∷ []) ∷ (1 ∷ 2 ∷ 3 ∷ 4 ∷ []) ∷ (6 ∷ 7 ∷ 8 ∷ 4 ∷ []) ∷ (7 ∷ 8 ∷ 13 ∷ 4 ∷ []) ∷ (7 ∷ 8 ∷ 3 ∷ 4 ∷ []) ∷ [])
+    (corrected 1 (negsuc 0) true true ∷ corrected 2 (pos 0) false true ∷ corrected 2 (pos 0) false false ∷ [])
+    ≡ map numbers ((6 ∷ 7 ∷ 8 ∷ 4 ∷ []) ∷ (7 ∷ 8 ∷ 13 ∷ 4 ∷ []) ∷ (7 ∷ 8 ∷ 3 ∷ 4 ∷ []) ∷ [])
 unfolding applyBasicCorrector Corrector.amended Corrector.amendedRow Corrector.shifted Corrector.forUpTo Ieee.ofInt Ieee.add Ieee.sub
 corrections = refl
 
@@ -60,10 +60,10 @@ triggers :
 unfolding trigger Corrector.triggerFits Corrector.exceeds Corrector.differentialRemainder Corrector.plusDifference Corrector.forUpTo Round.narrow Util.absf32 Ieee.ofInt Ieee.ofBits Ieee.add Ieee.sub Ieee.mul Ieee.div Ieee.lt
 triggers = refl
 
--- Shingle 64 and base 16 are accepted, 65 or 17 refused by 2, another length by 3.
-refusals : (pointRefusal 64 16 1024 ∷ pointRefusal 65 1 65 ∷ pointRefusal 1 17 17 ∷ pointRefusal 3 2 5 ∷ []) ≡ (0 ∷ 2 ∷ 2 ∷ 3 ∷ [])
+-- A point of another length.
+refusal : pointRefusal 3 2 5 ≡ 3
 unfolding pointRefusal
-refusals = refl
+refusal = refl
 
 newest : newestRow (numbers (1 ∷ 2 ∷ 3 ∷ 4 ∷ 5 ∷ 6 ∷ [])) 3 2 ≡ numbers (5 ∷ 6 ∷ [])
 unfolding newestRow pointRefusal

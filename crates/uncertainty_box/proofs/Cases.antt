@@ -1,4 +1,4 @@
--- Closed cases that hold the definitions to Rust, the drill sheet's rows among them: bit patterns in and out. Assumes nothing.
+-- Closed cases that hold the definitions to Rust, beside the drill sheet's rows: bit patterns in and out. Assumes nothing.
 use mathlib.Core.Path.{_≡_, refl}
 use mathlib.Core.Bool.{Bool, true, false}
 use mathlib.Core.List.{List, [], _∷_, map}
@@ -12,14 +12,6 @@ use Rattle.uncertainty_box.specs.Pass.{overLine, overAt, noiseStep, nois
 
 abbrev floats : List ℕ → List Float
 floats bs = map (ofBits binary32) bs
-
--- 1, 3, 6 from 0, base 1: 2.5, and differenced 2.
-abbrev deviation : Bool → ℕ
-deviation differenced = toBits binary32 (pathDeviation (floats (0x3F80_0000 ∷ 0x4040_0000 ∷ 0x40C0_0000 ∷ [])) 0 0 1 differenced)
-
-deviations : map deviation (false ∷ true ∷ []) ≡ 0x4020_0000 ∷ 0x4000_0000 ∷ []
-unfolding pathDeviation pathLoop pathMean pathStep absf32 ofBits toBits Ieee.add Ieee.sub Ieee.div Ieee.ofInt Ieee.lt
-deviations = refl
 
 -- A box of 0.5 around 1, scale 1: points at 0.5 and 1.5 are on its edges and within it, the next number beyond either edge is not, NaN is.
 abbrev inside : ℕ → Bool
