@@ -1,5 +1,4 @@
-//! Our C functions of the whole chain, and what they are handed. Linked only where our library has
-//! them (the feature `chain`, which `run` sets).
+//! Our C functions of the whole chain, and what they are handed.
 
 use rcflib::common::deviation::Deviation;
 use rcflib::trcf::basicthresholder::Numbers;
@@ -65,9 +64,7 @@ pub struct Handed {
 
 /// The places of `points` in the order of the C function's parameters.
 pub const POINT: usize = 0;
-pub const SCALE: usize = 1;
 pub const LAST_EXPECTED: usize = 4;
-pub const MEDIAN: usize = 6;
 pub const NEIGHBOURS: usize = 7;
 
 fn strategy(s: ScoringStrategy) -> u8 {

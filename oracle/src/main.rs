@@ -2,7 +2,6 @@
 
 mod bench;
 mod bytes;
-#[cfg(feature = "chain")]
 mod chain;
 mod ours;
 mod parts;

@@ -5,6 +5,8 @@ use crate::tally::Tally;
 pub const DISCOUNT: u8 = 1;
 pub const RANGE: u8 = 2;
 pub const LENGTH: u8 = 3;
+pub const NOT_FINITE: u8 = 4;
+pub const VALUES_SEEN: u8 = 5;
 pub const COUNT: u8 = 6;
 pub const HORIZON: u8 = 7;
 

@@ -1,5 +1,7 @@
 //! Floats that are likely to be got wrong, and mixtures of them with random ones.
 
+use std::sync::LazyLock;
+
 use crate::random::Random;
 
 /// The float whose pattern lies `by` further on, over the ends as patterns go.
@@ -114,4 +116,15 @@ pub fn any32(random: &mut Random, notable: &[f32]) -> f32 {
         2 => (8.0 * random.fraction() - 4.0) as f32,
         _ => random.below(64) as f32 - 32.0,
     }
+}
+
+/// The short lists, made once.
+pub fn list32() -> &'static [f32] {
+    static LIST: LazyLock<Vec<f32>> = LazyLock::new(notable32);
+    &LIST
+}
+
+pub fn list64() -> &'static [f64] {
+    static LIST: LazyLock<Vec<f64>> = LazyLock::new(notable64);
+    &LIST
 }

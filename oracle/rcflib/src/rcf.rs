@@ -3,19 +3,22 @@
 //! The signatures are rcf.rs's, as far as the chain calls it. A call beyond what was lent panics:
 //! then the chain and the reader of its rules disagree on which results a reading uses.
 
-use std::cell::{Cell, RefCell};
+use std::cell::RefCell;
+use std::collections::VecDeque;
 use std::marker::PhantomData;
+use std::mem::take;
 
 use crate::common::divector::DiVector;
 use crate::types::Result;
 
-/// What the forest lends to one judgment, each list in the order in which it is asked for.
+/// What the forest lends to one judgment, each list in the order in which it is asked for. A
+/// neighbour is its point between two numbers that the chain does not read.
 #[derive(Clone, Debug, Default)]
 pub struct Lent {
-    pub scores: Vec<f64>,
-    pub densities: Vec<DiVector>,
-    pub attributions: Vec<DiVector>,
-    pub neighbours: Vec<Vec<f32>>,
+    pub scores: VecDeque<f64>,
+    pub densities: VecDeque<DiVector>,
+    pub attributions: VecDeque<DiVector>,
+    pub neighbours: Vec<(f64, Vec<f32>, f64)>,
     pub median: Vec<f32>,
 }
 
@@ -47,11 +50,11 @@ pub fn of_total(score: f32) -> DiVector {
     }
 }
 
+/// Hands each result out once, as it was lent. `calls` is there where they are to be recorded.
 pub struct RCFLarge<Label, Attributes> {
     dimensions: usize,
-    lent: Lent,
-    handed: [Cell<usize>; 3],
-    calls: RefCell<Vec<Call>>,
+    lent: RefCell<Lent>,
+    calls: Option<RefCell<Vec<Call>>>,
     kind: PhantomData<(Label, Attributes)>,
 }
 
@@ -59,28 +62,35 @@ impl<Label, Attributes> RCFLarge<Label, Attributes> {
     pub fn lending(dimensions: usize, lent: Lent) -> Self {
         RCFLarge {
             dimensions,
-            lent,
-            handed: Default::default(),
-            calls: RefCell::default(),
+            lent: RefCell::new(lent),
+            calls: Some(RefCell::default()),
             kind: PhantomData,
         }
     }
 
-    /// The calls so far, in their order.
-    pub fn calls(&self) -> Vec<Call> {
-        self.calls.borrow().clone()
+    /// One that records nothing, for timing.
+    pub fn unwatched(dimensions: usize, lent: Lent) -> Self {
+        RCFLarge {
+            calls: None,
+            ..RCFLarge::lending(dimensions, lent)
+        }
     }
 
-    fn record(&self, call: Call) {
-        self.calls.borrow_mut().push(call);
+    /// The calls that were recorded, in their order.
+    pub fn calls(self) -> Vec<Call> {
+        self.calls.map_or(vec![], RefCell::into_inner)
     }
 
-    /// The next one of a list's results.
-    fn next<'a, T>(&self, list: &'a [T], kind: usize) -> &'a T {
-        let at = self.handed[kind].get();
-        self.handed[kind].set(at + 1);
-        &list[at]
+    fn record(&self, call: impl FnOnce() -> Call) {
+        if let Some(calls) = &self.calls {
+            calls.borrow_mut().push(call());
+        }
     }
+}
+
+/// The next one of a list's results.
+fn next<T>(list: &mut VecDeque<T>) -> T {
+    list.pop_front().expect("a result that was lent")
 }
 
 pub trait AugmentedRCF<Label, Attributes> {
@@ -109,18 +119,18 @@ impl<Label, Attributes> AugmentedRCF<Label, Attributes> for RCFLarge<Label, Attr
     }
 
     fn score(&self, point: &[f32]) -> Result<f64> {
-        self.record(Call::Score(point.to_vec()));
-        Ok(*self.next(&self.lent.scores, 0))
+        self.record(|| Call::Score(point.to_vec()));
+        Ok(next(&mut self.lent.borrow_mut().scores))
     }
 
     fn attribution(&self, point: &[f32]) -> Result<DiVector> {
-        self.record(Call::Attribution(point.to_vec()));
-        Ok(self.next(&self.lent.attributions, 1).clone())
+        self.record(|| Call::Attribution(point.to_vec()));
+        Ok(next(&mut self.lent.borrow_mut().attributions))
     }
 
     fn density_interpolant(&self, point: &[f32]) -> Result<InterpolationMeasure> {
-        self.record(Call::Density(point.to_vec()));
-        let distance = self.next(&self.lent.densities, 2).clone();
+        self.record(|| Call::Density(point.to_vec()));
+        let distance = next(&mut self.lent.borrow_mut().densities);
         Ok(InterpolationMeasure { distance })
     }
 
@@ -129,9 +139,8 @@ impl<Label, Attributes> AugmentedRCF<Label, Attributes> for RCFLarge<Label, Attr
         point: &[f32],
         _percentile: usize,
     ) -> Result<Vec<(f64, Vec<f32>, f64)>> {
-        self.record(Call::Neighbours(point.to_vec()));
-        let points = self.lent.neighbours.iter();
-        Ok(points.map(|p| (0.0, p.clone(), 0.0)).collect())
+        self.record(|| Call::Neighbours(point.to_vec()));
+        Ok(take(&mut self.lent.borrow_mut().neighbours))
     }
 
     fn conditional_field(
@@ -142,8 +151,8 @@ impl<Label, Attributes> AugmentedRCF<Label, Attributes> for RCFLarge<Label, Attr
         _project: bool,
         _max_number: usize,
     ) -> Result<SampleSummary> {
-        self.record(Call::Field(positions.to_vec(), point.to_vec()));
-        let median = self.lent.median.clone();
+        self.record(|| Call::Field(positions.to_vec(), point.to_vec()));
+        let median = take(&mut self.lent.borrow_mut().median);
         Ok(SampleSummary { median })
     }
 }

@@ -1,5 +1,6 @@
 //! Times ours against the Rust, in one run and on the same inputs.
 
+mod judging;
 mod numbers;
 mod timing;
 
@@ -8,4 +9,5 @@ use crate::random::Random;
 pub fn run(random: &mut Random) {
     timing::heading();
     numbers::run(random);
+    judging::run(random);
 }

@@ -6,7 +6,7 @@ use std::time::Instant;
 const ROUNDS: usize = 500;
 
 /// The time of one call in ns, from a pass over all inputs.
-fn pass(calls: usize, work: impl FnOnce()) -> f64 {
+pub fn pass(calls: usize, work: impl FnOnce()) -> f64 {
     let start = Instant::now();
     work();
     start.elapsed().as_nanos() as f64 / calls as f64
@@ -40,7 +40,7 @@ pub fn chained<A: Copy, B: Copy>(
 
 pub fn heading() {
     println!("best of {ROUNDS} rounds, ns a call");
-    println!("{:<28} {:>9} {:>9} {:>9}", "", "ours", "rust", "ratio");
+    println!("{:<34} {:>9} {:>9} {:>9}", "", "ours", "rust", "ratio");
 }
 
 /// Prints the best times of the two sides.
@@ -50,5 +50,5 @@ pub fn against(what: &str, ours: impl Fn() -> f64, rust: impl Fn() -> f64) {
         a = a.min(ours());
         b = b.min(rust());
     }
-    println!("{what:<28} {a:>9.2} {b:>9.2} {:>9.2}", a / b);
+    println!("{what:<34} {a:>9.2} {b:>9.2} {:>9.2}", a / b);
 }

@@ -7,10 +7,10 @@ use rcflib::common::divector::DiVector;
 use rcflib::rcf::Call;
 use rcflib::trcf::basicthresholder::{BasicThresholder, Numbers};
 use rcflib::trcf::predictorcorrector::{PredictorCorrector, State};
-use rcflib::trcf::types::{CorrectionMode, ScoringStrategy, TransformMethod};
+use rcflib::trcf::types::{CorrectionMode, ScoringStrategy};
 
 use crate::random::Random;
-use crate::readings::{verdict, Reading, Verdict};
+use crate::readings::{verdict, Reading, Verdict, METHODS};
 use crate::tally::Tally;
 
 const SCRIPT: &str = "crates/nine_exits/stdin";
@@ -26,15 +26,6 @@ const TITLE: usize = 40;
 const ROOM: usize = 8;
 
 const MOST: u32 = 16_777_215;
-
-const METHODS: [TransformMethod; 6] = [
-    TransformMethod::NONE,
-    TransformMethod::WEIGHTED,
-    TransformMethod::DIFFERENCE,
-    TransformMethod::SUBTRACT_MA,
-    TransformMethod::NORMALIZE,
-    TransformMethod::NORMALIZE_DIFFERENCE,
-];
 
 /// One reading of the script.
 struct Text<'a>(&'a str);

@@ -1,27 +1,43 @@
 //! detect_and_modify: sequences of readings through every exit under both strategies, each side with
-//! its own state, the four setters, and every refusal of a reading.
+//! its own state, the four setters, and readings that one or two damages have refused.
+
+use std::collections::BTreeSet;
 
 use rcflib::common::descriptor::Descriptor;
 use rcflib::trcf::predictorcorrector::PredictorCorrector;
 
 use crate::chain::{self, said, state_of, Handed};
 use crate::random::Random;
-use crate::readings::exits::{exit, Exits};
+use crate::readings::damage::{spoil, NUMBERS};
+use crate::readings::exits::{exit, Exits, SKIPPED};
 use crate::readings::making::Maker;
-use crate::readings::{verdict, Reading};
+use crate::readings::{states, table, verdict, Reading};
 use crate::refusals::{COUNT, DISCOUNT, HORIZON, LENGTH, RANGE};
 use crate::tally::Tally;
 use crate::values;
 
-const SEQUENCES: u64 = 100_000;
-const READINGS: u64 = 40;
+const SEQUENCES: u64 = 30_000;
+const READINGS: u64 = 50;
 
-const NOT_FINITE: u8 = 4;
-const VALUES_SEEN: u8 = 5;
+/// How often each exit has to come up for each strategy, with auto adjust and without.
+const LEAST: u64 = 2_000;
+
+/// What came up: exits, single refusals and pairs of them, sizes and numbers of neighbours.
+#[derive(Default)]
+struct Seen {
+    exits: Exits,
+    accepted: u64,
+    single: [u64; 5],
+    pairs: [[u64; 5]; 5],
+    used_up: u64,
+    shingles: BTreeSet<usize>,
+    bases: BTreeSet<usize>,
+    crowds: BTreeSet<usize>,
+}
 
 /// Judges a reading on both sides and compares verdict, state and every buffer. Hands back the
 /// Rust's result with its exit.
-fn judge(
+pub fn judge(
     tally: &mut Tally,
     state: &mut Vec<u8>,
     rust: &mut PredictorCorrector,
@@ -31,34 +47,49 @@ fn judge(
     let mut after = before.clone();
     let number = after.judge();
     let (result, calls) = reading.judge(rust);
+    let way = exit(&result, &calls);
     let case = |what: &str| format!("{what}: {reading:?}");
-    let ours = (number, said(&after.verdict).0);
-    tally.compare(&ours, &(0, verdict(&result)), || case("verdict"));
-    let ours = state_of(&after.state);
-    tally.compare(&ours, &rust.state(), || case("state"));
+    let (ours, index) = said(&after.verdict);
+    tally.compare(&(number, ours), &(0, verdict(&result)), || case("verdict"));
     let raised = result.expected_rcf_point.is_some();
-    let index = if raised { result.relative_index } else { 0 };
-    tally.compare(&said(&after.verdict).1, &index, || case("relative index"));
+    let rust_index = if raised { result.relative_index } else { 0 };
+    tally.compare(&index, &rust_index, || case("relative index"));
+    compare_states(tally, &before.state, &after.state, rust, (way, reading));
     let expected = result.expected_rcf_point.as_ref();
     let expected = expected.unwrap_or(&before.expected);
     tally.compare(&after.expected, expected, || case("expected point"));
-    let high = result.attribution.as_ref().map(|a| &a.high);
-    tally.compare(&after.out_high, high.unwrap_or(&before.out_high), || {
-        case("attribution, high")
-    });
-    let low = result.attribution.as_ref().map(|a| &a.low);
-    tally.compare(&after.out_low, low.unwrap_or(&before.out_low), || {
-        case("attribution, low")
-    });
+    let attribution = result.attribution.as_ref();
+    let high = attribution.map_or(&before.out_high, |a| &a.high);
+    tally.compare(&after.out_high, high, || case("attribution, high"));
+    let low = attribution.map_or(&before.out_low, |a| &a.low);
+    tally.compare(&after.out_low, low, || case("attribution, low"));
     *state = after.state;
-    let way = exit(&result, &calls);
     (result, way)
+}
+
+/// The state field by field, then its bytes: a skipped reading leaves all of them, another one those
+/// of entries that do not exist.
+fn compare_states(
+    tally: &mut Tally,
+    before: &[u8],
+    after: &[u8],
+    rust: &PredictorCorrector,
+    (way, reading): (usize, &Reading),
+) {
+    let state = rust.state();
+    let case = || format!("state: {reading:?}");
+    tally.compare(&state_of(after), &state, case);
+    let mut bytes = before.to_vec();
+    if way != SKIPPED {
+        states::put(&state, reading.base, &mut bytes);
+    }
+    tally.compare(after, &bytes[..], case);
 }
 
 /// One of the setters on both sides, with a float that may be refused.
 fn set(tally: &mut Tally, random: &mut Random, state: &mut [u8], rust: &mut PredictorCorrector) {
     let x = match random.below(8) {
-        0 => values::any32(random, &values::notable32()),
+        0 => values::any32(random, values::list32()),
         _ => random.fraction() as f32,
     };
     let before = state.to_vec();
@@ -107,106 +138,16 @@ fn new(tally: &mut Tally, discount: f64, adjust: u8, base: usize, len: usize) ->
         tally.compare(&(number, out.clone()), &(refusal, before), case);
     } else {
         let rust = PredictorCorrector::new(discount, adjust == 1, base).expect("a discount");
-        let ours = (number, state_of(&out));
-        tally.compare(&ours, &(0, rust.state()), case);
+        let mut bytes = vec![0; len];
+        states::put(&rust.state(), base, &mut bytes);
+        tally.compare(&(number, state_of(&out)), &(0, rust.state()), case);
+        tally.compare(&out, &bytes, case);
     }
     out
 }
 
-fn put(bytes: &mut [u8], at: usize, n: u32) {
-    bytes[at..at + 4].copy_from_slice(&n.to_le_bytes());
-}
-
-/// A change that makes an accepted judgment a refused one, with its number.
-fn spoiled(random: &mut Random, h: &mut Handed) -> u8 {
-    match random.below(8) {
-        0 | 1 => out_of_range(random, h),
-        2 | 3 => longer(random, h),
-        4 | 5 => unbounded(random, h),
-        6 => out_of_time(random, h),
-        _ => {
-            let at = random.of(&[4, 48, 84, 120, chain::RUN]);
-            put(&mut h.state, at, random.of(&[16_777_216, u32::MAX]));
-            COUNT
-        }
-    }
-}
-
-/// A size or a code beyond its range.
-fn out_of_range(random: &mut Random, h: &mut Handed) -> u8 {
-    let above = random.of(&[2, 3, 255]);
-    match random.below(10) {
-        0 => put(&mut h.reading, 0, random.of(&[0, 65, u32::MAX])),
-        1 => put(&mut h.reading, 4, random.of(&[0, 17, u32::MAX])),
-        2 => put(&mut h.state, chain::BASE, random.of(&[0, 17, u32::MAX])),
-        3 => h.reading[8] = above,
-        4 => h.reading[9] = 6 + random.below(250) as u8,
-        5 => h.reading[10] = above,
-        6 => h.last[0] = above,
-        7 => h.last[9] = above,
-        8 => h.state[chain::ADJUST] = above,
-        _ => h.state[124] = above,
-    }
-    RANGE
-}
-
-/// A number of values seen that is 0, too large or not later than the last anomaly's.
-fn out_of_time(random: &mut Random, h: &mut Handed) -> u8 {
-    let seen = u32::from_le_bytes([h.last[14], h.last[15], h.last[16], h.last[17]]);
-    let earlier = random.below(seen as u64 + 1) as u32;
-    let n = random.of(&[0, 16_777_217, u32::MAX, earlier]);
-    put(&mut h.reading, 11, n);
-    VALUES_SEEN
-}
-
-/// One of the buffers one element longer.
-fn longer(random: &mut Random, h: &mut Handed) -> u8 {
-    let anomaly = h.last[9] == 1;
-    match random.below(17) {
-        k @ 0..=7 => {
-            let k = k as usize;
-            let read = !(chain::LAST_EXPECTED..chain::MEDIAN).contains(&k) || anomaly;
-            // Points of one number each: one more neighbour is a whole one.
-            let whole = k == chain::NEIGHBOURS && h.points[chain::POINT].len() == 1;
-            h.points[if read && !whole { k } else { chain::SCALE }].push(1.0);
-        }
-        k @ 8..=11 => h.vectors[k as usize - 8].push(1.0),
-        12 => h.expected.push(1.0),
-        13 => h.out_high.push(1.0),
-        14 => h.out_low.push(1.0),
-        15 => h.verdict.push(0),
-        _ => h.state.push(0),
-    }
-    LENGTH
-}
-
-/// A float that is not finite in one of the lent lists, in the reading or in the last descriptor.
-fn unbounded(random: &mut Random, h: &mut Handed) -> u8 {
-    let bad = random.of(&[f32::NAN, f32::INFINITY, f32::NEG_INFINITY]);
-    let k = random.below(15) as usize;
-    if k >= 12 {
-        let bytes = match k {
-            12 => &mut h.reading[15..19],
-            13 => &mut h.last[1..5],
-            _ => &mut h.last[5..9],
-        };
-        bytes.copy_from_slice(&bad.to_le_bytes());
-    } else if k < 8 {
-        let k = if h.points[k].is_empty() { 0 } else { k };
-        let at = random.below(h.points[k].len() as u64) as usize;
-        h.points[k][at] = bad;
-    } else {
-        let list = &mut h.vectors[k - 8];
-        let at = random.below(list.len() as u64) as usize;
-        list[at] = bad as f64;
-    }
-    NOT_FINITE
-}
-
-/// One thing spoiled: its number, and nothing written.
-fn refusal(tally: &mut Tally, random: &mut Random, state: &[u8], reading: &Reading) {
-    let mut h = Handed::new(state, reading);
-    let number = spoiled(random, &mut h);
+/// A refused judgment: its number, and nothing written.
+pub fn refused(tally: &mut Tally, mut h: Handed, number: u8) {
     let before = h.clone();
     let answer = h.judge();
     let case = || format!("refusal {number} of {before:?}");
@@ -218,23 +159,92 @@ fn refusal(tally: &mut Tally, random: &mut Random, state: &[u8], reading: &Readi
     tally.compare(&h.verdict, &before.verdict, case);
 }
 
-fn sequence(tally: &mut Tally, random: &mut Random, exits: &mut Exits) {
+/// One or two things spoiled: the smaller number is given.
+fn damaged(tally: &mut Tally, random: &mut Random, mut h: Handed, seen: &mut Seen) {
+    let a = random.below(5) as usize;
+    let b = random.below(6) as usize;
+    let (least, most) = (a.min(b), a.max(b));
+    if most < 5 {
+        spoil(random, &mut h, NUMBERS[most]);
+    }
+    spoil(random, &mut h, NUMBERS[least]);
+    // Two of a kind may undo each other.
+    if least == most && table::refusal(&h) != NUMBERS[least] {
+        return;
+    }
+    if most < 5 {
+        seen.pairs[least][most] += 1;
+    } else {
+        seen.single[least] += 1;
+    }
+    tally.compare(&table::refusal(&h), &NUMBERS[least], || {
+        format!("the table's number of {h:?}")
+    });
+    refused(tally, h, NUMBERS[least]);
+}
+
+fn sequence(tally: &mut Tally, random: &mut Random, seen: &mut Seen) {
     let mut maker = Maker::new(random);
     let mut rust = maker.chain();
-    let adjust = maker.auto_adjust as u8;
-    let mut state = new(tally, maker.discount, adjust, maker.base, chain::STATE);
+    let (adjust, base) = (maker.auto_adjust, maker.base);
+    let mut state = new(tally, maker.discount, adjust as u8, base, chain::STATE);
+    if random.once_in(10) {
+        let any = states::arbitrary(random, adjust, base);
+        state = states::bytes(random, &any, base);
+        rust = PredictorCorrector::of_state(any);
+    }
+    seen.shingles.insert(maker.shingle);
+    seen.bases.insert(base);
     for _ in 0..READINGS {
         if random.once_in(40) {
             set(tally, random, &mut state, &mut rust);
         }
-        let reading = maker.next(random);
-        if random.once_in(4) {
-            refusal(tally, random, &state, &reading);
+        let reading = maker.next(random, &rust);
+        seen.crowds.insert(reading.neighbours.len());
+        let handed = Handed::new(&state, &reading);
+        let number = table::refusal(&handed);
+        if number != 0 {
+            // The last reading has used up a count.
+            tally.compare(&number, &COUNT, || "a refused reading".to_string());
+            refused(tally, handed, number);
+            seen.used_up += 1;
+            return;
         }
+        damaged(tally, random, handed, seen);
         let (result, way) = judge(tally, &mut state, &mut rust, &reading);
-        exits.count(&reading, way);
+        seen.accepted += 1;
+        seen.exits.count(&reading, adjust, way);
         maker.judged(&reading, &result);
     }
+}
+
+fn report(tally: &mut Tally, seen: &Seen) {
+    println!(
+        "    accepted {}, by exit, strategy and auto adjust:",
+        seen.accepted
+    );
+    seen.exits.report(tally, LEAST);
+    for (k, number) in NUMBERS.iter().enumerate() {
+        let pairs = NUMBERS[k..].iter().zip(&seen.pairs[k][k..]);
+        let pairs: Vec<String> = pairs.map(|(b, n)| format!("with {b}: {n}")).collect();
+        println!(
+            "    refused {number}: alone {}, {}",
+            seen.single[k],
+            pairs.join(", ")
+        );
+        let least = seen.pairs[k][k..].iter().min().expect("a pair");
+        tally.compare(&(*least >= LEAST && seen.single[k] >= LEAST), &true, || {
+            format!("damages that came up too seldom with {number}")
+        });
+    }
+    println!(
+        "    refused 6 by a count that readings have used up: {}",
+        seen.used_up
+    );
+    let whole = (seen.shingles.len(), (seen.bases.len(), seen.crowds.len()));
+    tally.compare(&whole, &(64, (16, 257)), || {
+        "shingles, bases and numbers of neighbours that came up".to_string()
+    });
 }
 
 pub fn compare(tally: &mut Tally, random: &mut Random) {
@@ -247,9 +257,9 @@ pub fn compare(tally: &mut Tally, random: &mut Random) {
             }
         }
     }
-    let mut exits = Exits::default();
+    let mut seen = Seen::default();
     for _ in 0..SEQUENCES {
-        sequence(tally, random, &mut exits);
+        sequence(tally, random, &mut seen);
     }
-    exits.report(tally);
+    report(tally, &seen);
 }

@@ -4,7 +4,6 @@ mod conversions;
 mod deviation;
 mod exits;
 mod floor;
-#[cfg(feature = "chain")]
 mod judging;
 mod narrow;
 mod root;
@@ -34,6 +33,5 @@ pub const PARTS: &[Part] = &[
     part("thresholder", thresholder::compare),
     part("standin", standin::compare),
     part("exits", exits::compare),
-    #[cfg(feature = "chain")]
     part("judging", judging::compare),
 ];

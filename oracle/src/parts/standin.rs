@@ -50,7 +50,7 @@ fn sequence(tally: &mut Tally, random: &mut Random, exits: &mut Exits) {
     let mut maker = Maker::new(random);
     let mut chain = maker.chain();
     for _ in 0..READINGS {
-        let reading = maker.next(random);
+        let reading = maker.next(random, &chain);
         let mut copy = PredictorCorrector::of_state(chain.state());
         let (result, calls) = reading.judge(&mut chain);
         let (again, _) = reading.judge(&mut copy);
@@ -63,7 +63,7 @@ fn sequence(tally: &mut Tally, random: &mut Random, exits: &mut Exits) {
         tally.compare(&allowed.starts_with(&made), &true, || {
             format!("calls {made} where {allowed} are allowed")
         });
-        exits.count(&reading, exit(&result, &calls));
+        exits.count(&reading, maker.auto_adjust, exit(&result, &calls));
         maker.judged(&reading, &result);
     }
 }
@@ -73,5 +73,5 @@ pub fn compare(tally: &mut Tally, random: &mut Random) {
     for _ in 0..SEQUENCES {
         sequence(tally, random, &mut exits);
     }
-    exits.report(tally);
+    exits.report(tally, 1);
 }

@@ -20,54 +20,59 @@ const NAMES: [&str; 9] = [
     "raised",
 ];
 
+/// Their places.
+pub const SKIPPED: usize = 0;
+pub const QUIET: usize = 1;
+pub const GRADE: usize = 2;
+pub const NOISE: usize = 3;
+pub const FIELD: usize = 4;
+pub const TRIGGER: usize = 5;
+pub const FORECAST: usize = 6;
+pub const DRIFT: usize = 7;
+pub const RAISED: usize = 8;
+
 /// Which exit a judgment took. Of the two ANOMALY_IN_SHINGLE only the later asks for an attribution.
 pub fn exit(result: &Descriptor, calls: &[Call]) -> usize {
     let triggered = calls.iter().any(|c| matches!(c, Call::Attribution(_)));
     match verdict(result) {
-        Verdict::Skipped => 0,
-        Verdict::Quiet(_) => 1,
-        Verdict::Raised(..) => 8,
+        Verdict::Skipped => SKIPPED,
+        Verdict::Quiet(_) => QUIET,
+        Verdict::Raised(..) => RAISED,
         Verdict::Corrected(_, mode) => match mode {
-            CorrectionMode::NOISE => 3,
-            CorrectionMode::CONDITIONAL_FORECAST => 4,
-            CorrectionMode::FORECAST => 6,
-            CorrectionMode::DATA_DRIFT => 7,
-            _ if triggered => 5,
-            _ => 2,
+            CorrectionMode::NOISE => NOISE,
+            CorrectionMode::CONDITIONAL_FORECAST => FIELD,
+            CorrectionMode::FORECAST => FORECAST,
+            CorrectionMode::DATA_DRIFT => DRIFT,
+            _ if triggered => TRIGGER,
+            _ => GRADE,
         },
     }
 }
 
-/// Counts by strategy.
+/// How often each exit was taken, by strategy (height, DISTANCE) and auto adjust (off, on).
 #[derive(Default)]
-pub struct Exits {
-    height: [u64; 9],
-    distance: [u64; 9],
-}
+pub struct Exits([[[u64; 9]; 2]; 2]);
 
 impl Exits {
-    pub fn count(&mut self, reading: &Reading, exit: usize) {
-        let list = if reading.is_height() {
-            &mut self.height
-        } else {
-            &mut self.distance
-        };
-        list[exit] += 1;
+    pub fn count(&mut self, reading: &Reading, auto_adjust: bool, exit: usize) {
+        self.0[!reading.is_height() as usize][auto_adjust as usize][exit] += 1;
     }
 
-    /// Prints the counts; one that is 0 counts as a case that differs.
-    pub fn report(&self, tally: &mut Tally) {
-        let both = [
-            ("EXPECTED_INVERSE_HEIGHT", &self.height),
-            ("DISTANCE", &self.distance),
-        ];
-        for (name, list) in both {
-            let pairs = NAMES.iter().zip(list);
-            let each: Vec<String> = pairs.map(|(exit, n)| format!("{exit} {n}")).collect();
-            println!("    {name}: {}", each.join(", "));
-            tally.compare(&list.iter().all(|&n| n > 0), &true, || {
-                format!("an exit that never came up under {name}")
-            });
+    /// Prints the counts. One below `least` counts as a case that differs, but for the two exits
+    /// that only auto adjust has.
+    pub fn report(&self, tally: &mut Tally, least: u64) {
+        for (k, name) in NAMES.iter().enumerate() {
+            let mut cells = Vec::new();
+            for (strategy, counts) in ["height", "DISTANCE"].iter().zip(&self.0) {
+                for (adjust, list) in ["off", "on"].iter().zip(counts) {
+                    cells.push(format!("{strategy}, {adjust} {}", list[k]));
+                    let owed = *adjust == "on" || !matches!(k, FIELD | DRIFT);
+                    tally.compare(&(list[k] >= least || !owed), &true, || {
+                        format!("{name} under {strategy}, auto adjust {adjust}: {}", list[k])
+                    });
+                }
+            }
+            println!("    {name:<32} {}", cells.join("; "));
         }
     }
 }

@@ -1,7 +1,10 @@
 //! Readings with all that is lent to them, and how the Rust judges them.
 
+pub mod damage;
 pub mod exits;
 pub mod making;
+pub mod states;
+pub mod table;
 
 use rcflib::common::descriptor::Descriptor;
 use rcflib::common::divector::DiVector;
@@ -9,7 +12,19 @@ use rcflib::rcf::{of_total, Call, Lent, RCFLarge};
 use rcflib::trcf::predictorcorrector::PredictorCorrector;
 use rcflib::trcf::types::{CorrectionMode, ScoringStrategy, TransformMethod};
 
+use crate::random::Random;
 use crate::same::Same;
+use crate::values;
+
+/// The methods in the order of their codes.
+pub const METHODS: [TransformMethod; 6] = [
+    TransformMethod::NONE,
+    TransformMethod::WEIGHTED,
+    TransformMethod::DIFFERENCE,
+    TransformMethod::SUBTRACT_MA,
+    TransformMethod::NORMALIZE,
+    TransformMethod::NORMALIZE_DIFFERENCE,
+];
 
 /// One reading. Of `last` the chain reads score, threshold, strategy and the last anomaly.
 #[derive(Clone, Debug)]
@@ -50,27 +65,68 @@ impl Reading {
     }
 
     /// The forest's results in the order of the calls.
-    fn lent(&self) -> Lent {
+    pub fn lent(&self) -> Lent {
+        let neighbours = self.neighbours.iter().map(|p| (0.0, p.clone(), 0.0));
         let mut lent = Lent {
-            neighbours: self.neighbours.clone(),
+            neighbours: neighbours.collect(),
             median: self.median.clone(),
             ..Lent::default()
         };
         if self.is_height() {
-            lent.scores = vec![self.score as f64, self.corrected_score as f64];
-            lent.attributions.push(self.attribution.clone());
+            lent.scores = [self.score as f64, self.corrected_score as f64].into();
+            lent.attributions.push_back(self.attribution.clone());
         } else {
-            lent.densities.push(of_total(self.score));
+            lent.densities.push_back(of_total(self.score));
             if self.corrects() {
-                lent.densities.push(of_total(self.corrected_score));
+                lent.densities.push_back(of_total(self.corrected_score));
             }
-            lent.densities.push(self.attribution.clone());
+            lent.densities.push_back(self.attribution.clone());
         }
-        lent.attributions.push(self.expected_attribution.clone());
+        lent.attributions
+            .push_back(self.expected_attribution.clone());
         lent
     }
 
-    fn descriptor(&self) -> Descriptor {
+    /// Puts any finite floats into some of the lists and numbers.
+    pub fn strew(&mut self, random: &mut Random) {
+        let mut singles: Vec<&mut [f32]> = vec![
+            &mut self.point,
+            &mut self.scale,
+            &mut self.shift,
+            &mut self.deviations,
+            &mut self.median,
+            std::slice::from_mut(&mut self.score),
+            std::slice::from_mut(&mut self.corrected_score),
+            std::slice::from_mut(&mut self.last.score),
+            std::slice::from_mut(&mut self.last.threshold),
+        ];
+        singles.extend(self.neighbours.iter_mut().map(|p| &mut p[..]));
+        if let Some(a) = &mut self.last.last_anomaly {
+            singles.push(&mut a.expected_rcf_point);
+            singles.push(&mut a.anomalous_rcf_point);
+            singles.push(std::slice::from_mut(&mut a.score));
+        }
+        for list in singles {
+            strew(
+                random,
+                list,
+                |r| values::any32(r, values::list32()),
+                f32::is_finite,
+            );
+        }
+        for v in [&mut self.attribution, &mut self.expected_attribution] {
+            for list in [&mut v.high, &mut v.low] {
+                strew(
+                    random,
+                    list,
+                    |r| values::any64(r, values::list64()),
+                    f64::is_finite,
+                );
+            }
+        }
+    }
+
+    pub fn descriptor(&self) -> Descriptor {
         Descriptor {
             rcf_point: Some(self.point.clone()),
             values_seen: self.values_seen,
@@ -92,6 +148,24 @@ impl Reading {
             .detect_and_modify(&mut result, &self.last, self.shingle, &forest)
             .expect("the stand-in forest refuses nothing");
         (result, forest.calls())
+    }
+}
+
+/// Every eighth list gets other floats at about half of its places.
+fn strew<T: Copy>(
+    random: &mut Random,
+    list: &mut [T],
+    any: impl Fn(&mut Random) -> T,
+    finite: impl Fn(T) -> bool,
+) {
+    if !random.once_in(8) {
+        return;
+    }
+    for x in list {
+        let other = any(random);
+        if finite(other) && random.once_in(2) {
+            *x = other;
+        }
     }
 }
 

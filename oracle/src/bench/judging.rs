@@ -1,0 +1,173 @@
+//! Judging. Ours is the C function on bytes and slices: entry checks, reading the state and writing
+//! it are in its time. The Rust's is detect_and_modify on its own records, over a stand-in forest
+//! that moves prepared results out and records nothing. Preparing is timed on neither side.
+
+use std::hint::black_box;
+
+use rcflib::common::descriptor::Descriptor;
+use rcflib::common::divector::DiVector;
+use rcflib::rcf::RCFLarge;
+use rcflib::trcf::predictorcorrector::PredictorCorrector;
+use rcflib::trcf::types::{ScoringStrategy, TransformMethod};
+
+use super::timing::{against, pass};
+use crate::chain::{said, Handed, STATE};
+use crate::random::Random;
+use crate::readings::exits::{exit, FORECAST, QUIET, RAISED};
+use crate::readings::{states, verdict, Reading};
+use crate::same::Same;
+
+/// Shingle and base of D 1, 8, 64 and 1024.
+const SIZES: [(usize, usize); 4] = [(1, 1), (8, 1), (16, 4), (64, 16)];
+
+/// Calm scores counted before.
+const COUNTED: usize = 30;
+
+/// One row of the table.
+#[derive(Clone, Copy)]
+struct Row {
+    size: (usize, usize),
+    strategy: ScoringStrategy,
+    raised: bool,
+    neighbours: usize,
+}
+
+impl Row {
+    /// The exit that the row's reading takes. A point of one number is its own expected point.
+    fn exit(&self) -> usize {
+        match (self.raised, self.size) {
+            (false, _) => QUIET,
+            (true, (1, 1)) => FORECAST,
+            _ => RAISED,
+        }
+    }
+
+    fn name(&self) -> String {
+        let strategy = match self.strategy {
+            ScoringStrategy::DISTANCE => "DISTANCE",
+            _ => "height",
+        };
+        let exit = match self.exit() {
+            QUIET => "quiet",
+            FORECAST => "forecast",
+            _ => "raised",
+        };
+        let d = self.size.0 * self.size.1;
+        format!("{strategy}, {exit}, D {d}, {} nbrs", self.neighbours)
+    }
+
+    /// A reading with the given score, whose last row stands out and lies far from its neighbours.
+    fn reading(&self, random: &mut Random, score: f32) -> Reading {
+        let (shingle, base) = self.size;
+        let n = shingle * base;
+        let mut list = |n: usize, middle: f32| -> Vec<f32> {
+            (0..n).map(|_| middle + random.fraction() as f32).collect()
+        };
+        let mut high = vec![0.001; n];
+        high[n - 1] = 5.0;
+        Reading {
+            shingle,
+            base,
+            strategy: self.strategy,
+            method: TransformMethod::NORMALIZE,
+            time_augmented: false,
+            values_seen: 1000,
+            point: list(n, 1.0),
+            scale: vec![1.0; base],
+            shift: vec![0.0; base],
+            deviations: vec![0.1; base],
+            score,
+            corrected_score: score,
+            attribution: DiVector {
+                high,
+                low: vec![0.001; n],
+            },
+            expected_attribution: DiVector {
+                high: vec![0.001; n],
+                low: vec![0.001; n],
+            },
+            median: list(n, -9.0),
+            neighbours: (0..self.neighbours).map(|_| list(n, 20.0)).collect(),
+            last: Descriptor {
+                scoring_strategy: self.strategy,
+                ..Descriptor::default()
+            },
+        }
+    }
+
+    /// The state before: auto adjust where there are neighbours to look at.
+    fn chain(&self, random: &mut Random) -> PredictorCorrector {
+        let adjust = self.neighbours > 0;
+        let made = PredictorCorrector::new(0.01, adjust, self.size.1);
+        let mut chain = made.expect("a discount below 1");
+        for _ in 0..COUNTED {
+            let score = 1.0 + 0.1 * random.fraction() as f32;
+            self.reading(random, score).judge(&mut chain);
+        }
+        chain
+    }
+
+    fn run(&self, random: &mut Random) {
+        let chain = self.chain(random);
+        let score = if self.raised { 5.0 } else { 1.02 };
+        let reading = self.reading(random, score);
+        let d = reading.point.len();
+        let mut state = vec![0; STATE];
+        states::put(&chain.state(), self.size.1, &mut state);
+        let handed = Handed::new(&state, &reading);
+        self.check(&reading, &chain, handed.clone());
+        let calls = if d > 64 { 16 } else { 128 };
+        let ours = || {
+            let mut batch = vec![handed.clone(); calls];
+            pass(calls, || {
+                for h in &mut batch {
+                    black_box(h.judge());
+                }
+            })
+        };
+        let one = || {
+            let forest = RCFLarge::<u64, u64>::unwatched(d, reading.lent());
+            (chain.clone(), reading.descriptor(), forest)
+        };
+        let rust = || {
+            let mut batch: Vec<_> = (0..calls).map(|_| one()).collect();
+            pass(calls, || {
+                for (chain, result, forest) in &mut batch {
+                    let done =
+                        chain.detect_and_modify(result, &reading.last, reading.shingle, forest);
+                    let _ = black_box(done);
+                }
+            })
+        };
+        against(&self.name(), ours, rust);
+    }
+
+    /// Both sides take the row's exit and say the same.
+    fn check(&self, reading: &Reading, chain: &PredictorCorrector, mut handed: Handed) {
+        let (result, calls) = reading.judge(&mut chain.clone());
+        assert_eq!(exit(&result, &calls), self.exit(), "{}", self.name());
+        assert_eq!(handed.judge(), 0, "{}", self.name());
+        assert!(said(&handed.verdict).0.same(&verdict(&result)));
+    }
+}
+
+pub fn run(random: &mut Random) {
+    for strategy in [
+        ScoringStrategy::DISTANCE,
+        ScoringStrategy::EXPECTED_INVERSE_HEIGHT,
+    ] {
+        for raised in [false, true] {
+            for neighbours in [0, 50] {
+                for size in SIZES {
+                    let row = Row {
+                        size,
+                        strategy,
+                        raised,
+                        neighbours,
+                    };
+                    row.run(random);
+                }
+            }
+        }
+    }
+}
