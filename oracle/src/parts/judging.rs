@@ -36,14 +36,13 @@ struct Seen {
 }
 
 /// Judges a reading on both sides and compares verdict, state and every buffer. Hands back the
-/// Rust's result with its exit.
+/// state's bytes and the Rust's result with its exit.
 pub fn judge(
     tally: &mut Tally,
-    state: &mut Vec<u8>,
+    before: &Handed,
     rust: &mut PredictorCorrector,
     reading: &Reading,
-) -> (Descriptor, usize) {
-    let before = Handed::new(state, reading);
+) -> (Vec<u8>, Descriptor, usize) {
     let mut after = before.clone();
     let number = after.judge();
     let (result, calls) = reading.judge(rust);
@@ -63,8 +62,7 @@ pub fn judge(
     tally.compare(&after.out_high, high, || case("attribution, high"));
     let low = attribution.map_or(&before.out_low, |a| &a.low);
     tally.compare(&after.out_low, low, || case("attribution, low"));
-    *state = after.state;
-    (result, way)
+    (after.state, result, way)
 }
 
 /// The state field by field, then its bytes: a skipped reading leaves all of them, another one those
@@ -210,8 +208,9 @@ fn sequence(tally: &mut Tally, random: &mut Random, seen: &mut Seen) {
             seen.used_up += 1;
             return;
         }
-        damaged(tally, random, handed, seen);
-        let (result, way) = judge(tally, &mut state, &mut rust, &reading);
+        damaged(tally, random, handed.clone(), seen);
+        let (after, result, way) = judge(tally, &handed, &mut rust, &reading);
+        state = after;
         seen.accepted += 1;
         seen.exits.count(&reading, adjust, way);
         maker.judged(&reading, &result);

@@ -1,5 +1,6 @@
 //! The parts of the comparison. A new one is a file here and a line in the list.
 
+mod bytes;
 mod conversions;
 mod deviation;
 mod exits;
@@ -34,4 +35,5 @@ pub const PARTS: &[Part] = &[
     part("standin", standin::compare),
     part("exits", exits::compare),
     part("judging", judging::compare),
+    part("bytes", bytes::compare),
 ];

@@ -289,7 +289,7 @@ impl Maker {
 }
 
 /// What the chain does not read of an anomaly.
-fn no_anomaly() -> AnomalyInformation {
+pub fn no_anomaly() -> AnomalyInformation {
     AnomalyInformation {
         expected_rcf_point: vec![],
         anomalous_rcf_point: vec![],

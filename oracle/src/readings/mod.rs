@@ -1,6 +1,7 @@
 //! Readings with all that is lent to them, and how the Rust judges them.
 
 pub mod damage;
+pub mod decoded;
 pub mod exits;
 pub mod making;
 pub mod states;
