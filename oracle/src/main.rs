@@ -14,6 +14,7 @@ mod statistics;
 mod tally;
 mod thresholders;
 mod values;
+mod vectors;
 
 use std::process::ExitCode;
 

@@ -9,6 +9,7 @@ pub const NOT_FINITE: u8 = 4;
 pub const VALUES_SEEN: u8 = 5;
 pub const COUNT: u8 = 6;
 pub const HORIZON: u8 = 7;
+pub const BLOCKS: u8 = 8;
 
 /// A call on a buffer of a length that is refused, with the given number, the buffer and the bytes
 /// around it left as they were.

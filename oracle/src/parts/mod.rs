@@ -11,6 +11,7 @@ mod root;
 mod standin;
 mod thresholder;
 mod util;
+mod vectors;
 
 use crate::random::Random;
 use crate::tally::Tally;
@@ -32,6 +33,7 @@ pub const PARTS: &[Part] = &[
     part("util", util::compare),
     part("deviation", deviation::compare),
     part("thresholder", thresholder::compare),
+    part("vectors", vectors::compare),
     part("standin", standin::compare),
     part("exits", exits::compare),
     part("judging", judging::compare),
