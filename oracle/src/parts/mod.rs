@@ -3,6 +3,7 @@
 mod bytes;
 mod conversions;
 mod deviation;
+mod drill;
 mod exits;
 mod floor;
 mod judging;
@@ -35,6 +36,7 @@ pub const PARTS: &[Part] = &[
     part("thresholder", thresholder::compare),
     part("vectors", vectors::compare),
     part("standin", standin::compare),
+    part("drill", drill::compare),
     part("exits", exits::compare),
     part("judging", judging::compare),
     part("bytes", bytes::compare),

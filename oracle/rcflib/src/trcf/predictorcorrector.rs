@@ -35,3 +35,10 @@ impl PredictorCorrector {
         }
     }
 }
+
+impl PredictorCorrector {
+    /// The path deviation, which is private.
+    pub fn path_deviation(point: &[f32], base_dimension: usize, differenced: bool) -> f32 {
+        Self::calculate_path_deviation(point, 0, 0, base_dimension, differenced)
+    }
+}
