@@ -1,8 +1,10 @@
 //! Compares our library with the Rust, bit for bit. See `run` for its use.
 
 mod bench;
+mod big;
 mod bytes;
 mod chain;
+mod ledger;
 mod ours;
 mod parts;
 mod random;

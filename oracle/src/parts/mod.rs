@@ -2,6 +2,7 @@
 
 mod bytes;
 mod conversions;
+mod demand3;
 mod deviation;
 mod drill;
 mod exits;
@@ -40,4 +41,5 @@ pub const PARTS: &[Part] = &[
     part("exits", exits::compare),
     part("judging", judging::compare),
     part("bytes", bytes::compare),
+    part("demand3", demand3::compare),
 ];
