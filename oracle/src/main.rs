@@ -16,6 +16,7 @@ mod statistics;
 mod tally;
 mod thresholders;
 mod values;
+mod vector_sample;
 mod vectors;
 
 use std::process::ExitCode;
@@ -66,6 +67,7 @@ fn run(name: &str, seed: u64) -> u64 {
     }
     if name == "sample" {
         sample::write(&mut Random::new(seed)).expect("a sample written");
+        vector_sample::write(&mut Random::new(seed)).expect("vector calls written");
         return 0;
     }
     let part = PARTS.iter().find(|p| p.name == name).expect("a known part");

@@ -13,7 +13,7 @@ mod root;
 mod standin;
 mod thresholder;
 mod util;
-mod vectors;
+pub mod vectors;
 
 use crate::random::Random;
 use crate::tally::Tally;

@@ -83,7 +83,7 @@ fn gap(random: &mut Random, n: usize) -> usize {
 }
 
 /// The Rust's block; what it panics or wraps on is refused (8) or starts at block 0.
-fn block(v: &DiVector, base: usize, gap: usize) -> Result<usize, u8> {
+pub fn block(v: &DiVector, base: usize, gap: usize) -> Result<usize, u8> {
     if v.dimensions() == 0 {
         return Err(BLOCKS);
     }
