@@ -29,11 +29,67 @@ macro_rules! asking {
 
 changing! {
     scale = krcf_scale(factor: f64);
+    divide = krcf_divide(num: usize);
     normalize = krcf_normalize(value: f64);
 }
 
 asking! {
     total = krcf_total();
+    high_low_sum = krcf_high_low_sum(index: usize);
     max_gap_contribution = krcf_max_gap_contribution(base: usize, gap: usize);
     max_contribution = krcf_max_contribution(base: usize);
+}
+
+/// A vector's high and low, to be changed.
+type Changed<'a> = (&'a mut [f64], &'a mut [f64]);
+
+pub fn assign((high, low): Changed, from_high: &[f64], from_low: &[f64]) -> u8 {
+    unsafe {
+        c::krcf_assign(
+            high.as_mut_ptr(),
+            high.len(),
+            low.as_mut_ptr(),
+            low.len(),
+            from_high.as_ptr(),
+            from_high.len(),
+            from_low.as_ptr(),
+            from_low.len(),
+        )
+    }
+}
+
+pub fn add_to(high: &[f64], low: &[f64], (other_high, other_low): Changed) -> u8 {
+    unsafe {
+        c::krcf_add_to(
+            high.as_ptr(),
+            high.len(),
+            low.as_ptr(),
+            low.len(),
+            other_high.as_mut_ptr(),
+            other_high.len(),
+            other_low.as_mut_ptr(),
+            other_low.len(),
+        )
+    }
+}
+
+pub fn add_to_scaled(
+    high: &[f64],
+    low: &[f64],
+    (other_high, other_low): Changed,
+    factor: f64,
+) -> u8 {
+    unsafe {
+        c::krcf_add_to_scaled(
+            high.as_ptr(),
+            high.len(),
+            low.as_ptr(),
+            low.len(),
+            other_high.as_mut_ptr(),
+            other_high.len(),
+            other_low.as_mut_ptr(),
+            other_low.len(),
+            factor,
+        )
+    }
 }

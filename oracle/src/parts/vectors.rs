@@ -112,6 +112,7 @@ fn ask(tally: &mut Tally, random: &mut Random, v: &DiVector) {
     // A zero total is equal to a zero total, whatever their signs.
     let ours = (answer, f64::get(&out) + 0.0);
     tally.compare(&ours, &(0, v.total() + 0.0), || format!("total of {v:?}"));
+    element(tally, random, v);
     let (base, gap) = (base(random, n), gap(random, n));
     let mut out = [0xa5; 8];
     let answer = vectors::max_gap_contribution(&v.high, &v.low, base, gap, &mut out);
@@ -123,6 +124,65 @@ fn ask(tally: &mut Tally, random: &mut Random, v: &DiVector) {
     compare_block(tally, (answer, out), block(v, base, n), case);
 }
 
+/// One element's sum; beyond the end the Rust panics, and 3 refuses it.
+fn element(tally: &mut Tally, random: &mut Random, v: &DiVector) {
+    let n = v.dimensions();
+    let any = random.below(n as u64 + 1) as usize;
+    let index = random.of(&[any, any, any, n, n + 1, usize::MAX]);
+    let mut out = [0xa5; 8];
+    let answer = vectors::high_low_sum(&v.high, &v.low, index, &mut out);
+    let case = || format!("element {index} of {v:?}");
+    if index < n {
+        let ours = (answer, f64::get(&out));
+        tally.compare(&ours, &(0, v.high_low_sum(index)), case);
+    } else {
+        tally.compare(&(answer, out), &(LENGTH, [0xa5; 8]), case);
+    }
+}
+
+/// Two vectors of one length.
+fn join(tally: &mut Tally, random: &mut Random, v: &DiVector) {
+    let n = v.dimensions();
+    let other = DiVector {
+        high: list(random, n),
+        low: list(random, n),
+    };
+    let x = values::any64(random, values::list64());
+    let case = |what: &str| format!("{what} {x:e} of {v:?} and {other:?}");
+    let (mut ours, mut rust) = (v.clone(), v.clone());
+    let answer = vectors::assign((&mut ours.high, &mut ours.low), &other.high, &other.low);
+    rust.assign(&other);
+    tally.compare(&(answer, ours), &(0, rust), || case("assign"));
+    let (mut ours, mut rust) = (other.clone(), other.clone());
+    let answer = vectors::add_to(&v.high, &v.low, (&mut ours.high, &mut ours.low));
+    v.add_to(&mut rust);
+    tally.compare(&(answer, ours), &(0, rust), || case("add_to"));
+    let (mut ours, mut rust) = (other.clone(), other.clone());
+    let answer = vectors::add_to_scaled(&v.high, &v.low, (&mut ours.high, &mut ours.low), x);
+    v.add_to_scaled(&mut rust, x);
+    tally.compare(&(answer, ours), &(0, rust), || case("add_to_scaled"));
+}
+
+/// Two vectors with one of the four lists of another length: 3, and nothing written.
+fn apart(tally: &mut Tally, random: &mut Random) {
+    let n = length(random);
+    let mut lists: [Vec<f64>; 4] = std::array::from_fn(|_| list(random, n));
+    let k = random.below(4) as usize;
+    lists[k].resize(
+        random.of(&[n + 1, n + 7, n.checked_sub(1).unwrap_or(2)]),
+        1.0,
+    );
+    let before = lists.clone();
+    let [a, b, c, d] = &mut lists;
+    let assigned = vectors::assign((a, b), c, d);
+    let added = vectors::add_to(a, b, (c, d));
+    let scaled = vectors::add_to_scaled(a, b, (c, d), 2.0);
+    let ours = ([assigned, added, scaled], lists);
+    tally.compare(&ours, &([LENGTH; 3], before), || {
+        format!("list {k} not of {n}")
+    });
+}
+
 fn change(tally: &mut Tally, random: &mut Random, v: &DiVector) {
     let x = values::any64(random, values::list64());
     let (mut ours, mut rust) = (v.clone(), v.clone());
@@ -130,6 +190,13 @@ fn change(tally: &mut Tally, random: &mut Random, v: &DiVector) {
     rust.scale(x);
     tally.compare(&(answer, ours), &(0, rust), || {
         format!("scale {x:e} of {v:?}")
+    });
+    let num = random.of(&[0, 1, 2, 3, 50, 1 << 53, usize::MAX]);
+    let (mut ours, mut rust) = (v.clone(), v.clone());
+    let answer = vectors::divide(&mut ours.high, &mut ours.low, num);
+    rust.divide(num);
+    tally.compare(&(answer, ours), &(0, rust), || {
+        format!("divide by {num} of {v:?}")
     });
     let (mut ours, mut rust) = (v.clone(), v.clone());
     let answer = vectors::normalize(&mut ours.high, &mut ours.low, x);
@@ -159,8 +226,9 @@ fn lengths(tally: &mut Tally, random: &mut Random) {
     let blank = vec![0xa5; room];
     let mut v = before.clone();
     let (base, gap) = (base(random, n), gap(random, n));
-    let calls: [fn(&DiVector, usize, usize, &mut [u8]) -> u8; 3] = [
+    let calls: [fn(&DiVector, usize, usize, &mut [u8]) -> u8; 4] = [
         |v, _, _, out| vectors::total(&v.high, &v.low, out),
+        |v, b, _, out| vectors::high_low_sum(&v.high, &v.low, b, out),
         |v, b, g, out| vectors::max_gap_contribution(&v.high, &v.low, b, g, out),
         |v, b, _, out| vectors::max_contribution(&v.high, &v.low, b, out),
     ];
@@ -172,10 +240,13 @@ fn lengths(tally: &mut Tally, random: &mut Random) {
         });
     }
     if n != m {
-        let scaled = vectors::scale(&mut v.high, &mut v.low, 2.0);
-        let normalized = vectors::normalize(&mut v.high, &mut v.low, 2.0);
-        let ours = ((scaled, normalized), v);
-        tally.compare(&ours, &((LENGTH, LENGTH), before), || {
+        let (high, low) = (&mut v.high, &mut v.low);
+        let answers = [
+            vectors::scale(high, low, 2.0),
+            vectors::divide(high, low, 2),
+            vectors::normalize(high, low, 2.0),
+        ];
+        tally.compare(&(answers, v), &([LENGTH; 3], before), || {
             format!("lengths {n}, {m}")
         });
     }
@@ -191,6 +262,8 @@ pub fn compare(tally: &mut Tally, random: &mut Random) {
         };
         ask(tally, random, &v);
         change(tally, random, &v);
+        join(tally, random, &v);
+        apart(tally, random);
         lengths(tally, random);
     }
 }
