@@ -48,6 +48,19 @@ setters! {
     set_horizon = krcf_chain_set_horizon;
 }
 
+/// Calls a C function on slices that are written, read, and written, each as its start and length.
+macro_rules! on_slices {
+    ($c:path, [$($first:expr),*], [$($read:expr),*], [$($last:expr),*]) => {
+        unsafe {
+            $c(
+                $($first.as_mut_ptr(), $first.len(),)*
+                $($read.as_ptr(), $read.len(),)*
+                $($last.as_mut_ptr(), $last.len(),)*
+            )
+        }
+    };
+}
+
 /// All that one judgment is handed: the buffers that are read, and those that it may write.
 #[derive(Clone, Debug)]
 pub struct Handed {
@@ -138,48 +151,27 @@ impl Handed {
         let [point, scale, shift, deviations, last_expected, last_anomalous, median, neighbours] =
             &self.points;
         let [high, low, ideal_high, ideal_low] = &self.vectors;
-        unsafe {
-            c::krcf_detect_and_modify(
-                self.state.as_mut_ptr(),
-                self.state.len(),
-                self.reading.as_ptr(),
-                self.reading.len(),
-                self.last.as_ptr(),
-                self.last.len(),
-                point.as_ptr(),
-                point.len(),
-                scale.as_ptr(),
-                scale.len(),
-                shift.as_ptr(),
-                shift.len(),
-                deviations.as_ptr(),
-                deviations.len(),
-                last_expected.as_ptr(),
-                last_expected.len(),
-                last_anomalous.as_ptr(),
-                last_anomalous.len(),
-                high.as_ptr(),
-                high.len(),
-                low.as_ptr(),
-                low.len(),
-                median.as_ptr(),
-                median.len(),
-                ideal_high.as_ptr(),
-                ideal_high.len(),
-                ideal_low.as_ptr(),
-                ideal_low.len(),
-                neighbours.as_ptr(),
-                neighbours.len(),
-                self.expected.as_mut_ptr(),
-                self.expected.len(),
-                self.out_high.as_mut_ptr(),
-                self.out_high.len(),
-                self.out_low.as_mut_ptr(),
-                self.out_low.len(),
-                self.verdict.as_mut_ptr(),
-                self.verdict.len(),
-            )
-        }
+        on_slices!(
+            c::krcf_detect_and_modify,
+            [self.state],
+            [
+                self.reading,
+                self.last,
+                point,
+                scale,
+                shift,
+                deviations,
+                last_expected,
+                last_anomalous,
+                high,
+                low,
+                median,
+                ideal_high,
+                ideal_low,
+                neighbours
+            ],
+            [self.expected, self.out_high, self.out_low, self.verdict]
+        )
     }
 }
 

@@ -206,25 +206,18 @@ fn change(tally: &mut Tally, random: &mut Random, v: &DiVector) {
     });
 }
 
-/// High and low of two lengths, and answers of another length than 8: refused by 3, before 8.
+/// Answers of another length than 8, or high and low of two lengths: refused by 3, before 8.
 fn lengths(tally: &mut Tally, random: &mut Random) {
     let (n, m) = (length(random), length(random));
-    let before = DiVector {
+    let mut v = DiVector {
         high: list(random, n),
         low: list(random, m),
     };
-    let room = if n == m {
-        let other = random.below(16) as usize;
-        if other == 8 {
-            9
-        } else {
-            other
-        }
-    } else {
-        random.of(&[8, 8, 0, 7, 9])
+    let room = match random.of(&[8, 0, 7, 9, 16]) {
+        8 if n == m => 1,
+        room => room,
     };
-    let blank = vec![0xa5; room];
-    let mut v = before.clone();
+    let case = || format!("lengths {n}, {m}, {room}");
     let (base, gap) = (base(random, n), gap(random, n));
     let calls: [fn(&DiVector, usize, usize, &mut [u8]) -> u8; 4] = [
         |v, _, _, out| vectors::total(&v.high, &v.low, out),
@@ -233,22 +226,19 @@ fn lengths(tally: &mut Tally, random: &mut Random) {
         |v, b, _, out| vectors::max_contribution(&v.high, &v.low, b, out),
     ];
     for call in calls {
-        let mut out = blank.clone();
+        let mut out = vec![0xa5; room];
         let answer = call(&v, base, gap, &mut out);
-        tally.compare(&(answer, out), &(LENGTH, blank.clone()), || {
-            format!("lengths {n}, {m}, {room}")
-        });
+        tally.compare(&(answer, out), &(LENGTH, vec![0xa5; room]), case);
     }
     if n != m {
+        let before = v.clone();
         let (high, low) = (&mut v.high, &mut v.low);
         let answers = [
             vectors::scale(high, low, 2.0),
             vectors::divide(high, low, 2),
             vectors::normalize(high, low, 2.0),
         ];
-        tally.compare(&(answers, v), &([LENGTH; 3], before), || {
-            format!("lengths {n}, {m}")
-        });
+        tally.compare(&(answers, v), &([LENGTH; 3], before), case);
     }
 }
 
