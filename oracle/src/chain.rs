@@ -197,6 +197,21 @@ pub fn said(bytes: &[u8]) -> (Verdict, i32) {
     (verdict, i32::get(&bytes[10..]))
 }
 
+/// The bytes of a verdict: what it does not carry is 0.
+pub fn verdict_bytes(verdict: Verdict, relative_index: i32) -> Vec<u8> {
+    let (kind, mode, threshold, grade) = match verdict {
+        Verdict::Quiet(t) => (0, CorrectionMode::NONE, t, 0.0),
+        Verdict::Corrected(t, mode) => (1, mode, t, 0.0),
+        Verdict::Raised(t, grade) => (2, CorrectionMode::NONE, t, grade),
+        Verdict::Skipped => (3, CorrectionMode::NONE, 0.0, 0.0),
+    };
+    let mut out = vec![kind, mode as u8];
+    out.extend(threshold.plain().bytes());
+    out.extend(grade.plain().bytes());
+    out.extend(relative_index.bytes());
+    out
+}
+
 /// A state's bytes as the Rust's state. Its lists have as many statistics as the Rust's would.
 pub fn state_of(bytes: &[u8]) -> State {
     let word = |at: usize| i32::get(&bytes[at..]) as u32 as usize;

@@ -1,7 +1,7 @@
 //! Demand 3's ledger over whole numbers. Sum, squares and weight are counted in steps of 2^-256, each
-//! as a pair that the exact fraction lies between: a discounted step rounds one down and the other
-//! up, so each score adds at most one step to how far they are apart, and with discount 0 they are
-//! equal. No root is taken: a number is held against the threshold by squares.
+//! as a pair that the exact fraction lies between: with a discount one is rounded down and the other
+//! up, so each score puts them at most two steps further apart; with discount 0 they are equal. No
+//! root is taken: a number is held against the threshold by squares.
 
 use std::cmp::Ordering;
 

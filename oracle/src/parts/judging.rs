@@ -6,7 +6,7 @@ use std::collections::BTreeSet;
 use rcflib::common::descriptor::Descriptor;
 use rcflib::trcf::predictorcorrector::PredictorCorrector;
 
-use crate::chain::{self, said, state_of, Handed};
+use crate::chain::{self, said, state_of, verdict_bytes, Handed};
 use crate::random::Random;
 use crate::readings::damage::{spoil, NUMBERS};
 use crate::readings::exits::{exit, Exits, SKIPPED};
@@ -53,6 +53,8 @@ pub fn judge(
     let raised = result.expected_rcf_point.is_some();
     let rust_index = if raised { result.relative_index } else { 0 };
     tally.compare(&index, &rust_index, || case("relative index"));
+    let bytes = verdict_bytes(verdict(&result), rust_index);
+    tally.compare(&after.verdict, &bytes, || case("verdict's bytes"));
     compare_states(tally, &before.state, &after.state, rust, (way, reading));
     let expected = result.expected_rcf_point.as_ref();
     let expected = expected.unwrap_or(&before.expected);

@@ -228,6 +228,7 @@ impl Maker {
         let (point, median, neighbours) = self.places(random, aim);
         let attribution = vector(random, point.len());
         let small = random.of(&[0.0, 0.01, 0.5]);
+        let noise = random.of(&[0.1, 0.1, 0.0]);
         let mut reading = Reading {
             shingle: self.shingle,
             base: self.base,
@@ -237,7 +238,7 @@ impl Maker {
             values_seen: self.seen,
             scale: list(random, self.base, 1.0, small),
             shift: list(random, self.base, 0.0, small),
-            deviations: list(random, self.base, 0.1, small),
+            deviations: list(random, self.base, noise, small),
             score: self.score(random, aim, line),
             corrected_score: self.corrected(random, aim, line),
             expected_attribution: match aim {
@@ -250,8 +251,32 @@ impl Maker {
             neighbours,
             last: self.before(random, aim),
         };
+        if random.once_in(4) {
+            self.edge(random, aim, line, &mut reading);
+        }
         self.stray(random, &mut reading);
         reading
+    }
+
+    /// Puts a reading at the edge of the noise test, or of one of the trigger's two.
+    fn edge(&self, random: &mut Random, aim: usize, line: f32, reading: &mut Reading) {
+        let n = reading.point.len();
+        let difference = reading.gap() * self.base;
+        let few = values::few(random) as i32;
+        let by = match (aim, &reading.last.last_anomaly) {
+            (NOISE, _) => 1e-3,
+            (TRIGGER, Some(a)) if random.once_in(2) => 0.3 * a.score.abs(),
+            (TRIGGER, Some(_)) => line * difference as f32 / n as f32,
+            _ => return,
+        };
+        let by = values::step32(by, few);
+        if aim == NOISE {
+            reading.point.fill(by);
+        } else if by.is_finite() {
+            reading.attribution.low[n - 1] = 0.0;
+            reading.expected_attribution = reading.attribution.clone();
+            reading.expected_attribution.low[n - 1] = by as f64;
+        }
     }
 
     /// Now and then the other strategy, and in a wild sequence any finite floats.
