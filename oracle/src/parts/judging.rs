@@ -258,6 +258,9 @@ pub fn compare(tally: &mut Tally, random: &mut Random) {
             }
         }
     }
+    for len in 0..=2700 {
+        new(tally, 0.5, 1, 4, len);
+    }
     let mut seen = Seen::default();
     for _ in 0..SEQUENCES {
         sequence(tally, random, &mut seen);
