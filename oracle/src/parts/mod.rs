@@ -9,6 +9,7 @@ mod exits;
 mod floor;
 mod judging;
 mod narrow;
+mod newest;
 mod root;
 mod standin;
 mod thresholder;
@@ -36,6 +37,7 @@ pub const PARTS: &[Part] = &[
     part("deviation", deviation::compare),
     part("thresholder", thresholder::compare),
     part("vectors", vectors::compare),
+    part("newest", newest::compare),
     part("standin", standin::compare),
     part("drill", drill::compare),
     part("exits", exits::compare),
