@@ -52,6 +52,22 @@ unfolding countedRun
 no-auto-run s r l threshold point noise x h =
     no-auto-rows s r l threshold (drop (length point - r .«base_dimension») point) (drop (length point - r .«base_dimension») x) noise h
 
+and-flat : (a c d e : Bool) → (((a && c) && d) && e) ≡ (a && (c && (d && e)))
+and-flat true true d e = refl
+and-flat true false d e = refl
+and-flat false c d e = refl
+
+-- The candidate branch by what its calls answer.
+pub rows-are : (s : PredictorCorrector) (r : Reading) (l : LastDescriptor) (threshold : Float) (xs ys noise : List Float) (c : Bool) (t : PredictorCorrector) (d : Bool)
+    → c ≡ isCandidate r l (s .«run_length») threshold → t ≡ candidateWith c s xs ys
+    → d ≡ (((c && s .«auto_adjust») && ltb 2 (s .«run_length»)) && driftWithin (r .«base_dimension») (t .«deviations_actual») (t .«deviations_expected») xs ys noise)
+    → _≡_ {A = Counted} (record { drift = d; state = t }) (countedRows s r l threshold xs ys noise)
+unfolding countedRows isDrift
+rows-are s r l threshold xs ys noise c t d k q e =
+    let p = q ∙ ap (λ (x : Bool). candidateWith x s xs ys) k in
+    let o = e ∙ and-flat c (s .«auto_adjust») (ltb 2 (s .«run_length»)) _ ∙ ap₂ (λ (x : Bool) (u : PredictorCorrector). isDrift x s u (r .«base_dimension») xs ys noise) k p in
+    λ i. record { drift = o i; state = p i }
+
 -- Not data drift.
 NotDrift : Verdict → Type 0
 NotDrift (Quiet t) = Unit

@@ -2,26 +2,24 @@
 use mathlib.Core.Path.{_≡_, refl, sym, ap, _∙_, subst}
 use mathlib.Core.Bool.{Bool, true, false, cond, _&&_}
 use mathlib.Core.List.{List}
-use Prim.Native.Nat.{ℕ, zero, suc, _+_, _-_, _*_, _/_, _%_, _≤_, _<_}
-use native.Mathlib.Nat.{mul-le-mul-right, le-trans, le-of-eq, one-mul, mul-div-cancel, mul-mod-left, mul-pos, add-mul}
+use Prim.Native.Nat.{ℕ, _+_, _-_, _*_, _/_, _%_, _≤_, _<_}
+use native.Mathlib.Nat.{mul-le-mul-right, le-trans, le-of-eq, mul-div-cancel, mul-mod-left, mul-pos}
 use native.Mathlib.Omega.{arith}
 use lib.Dec.{leb, ltb, eqb}
 use lib.ListN.{length}
 use lib.Ieee.{Float}
 use borrow.Author.Tests.{leb-true, ltb-true, eqb-true}
 use Rattle.types.specs.declared.Refusal.the-variants.{Range, Length, NotFinite, ValuesSeen, Count}
-use Rattle.types.specs.declared.Answer.{Answer}
 use Rattle.types.specs.declared.Answer.the-variants.{Done, Refused}
-use Rattle.divector.specs.DiVector.{maxGapContribution, winner, firstBlock}
+use Rattle.divector.specs.DiVector.{maxGapContribution}
 use Rattle.divector.proofs.Laws as DiVectorLaws
-use Rattle.corrector.specs.Steps.{Expecting, Correcting}
-use Rattle.descriptor.specs.Checks.{sizesOk, dimension, rangeOk, pointsOk, rowsOk, neighboursOk, lastPointsOk, lengthsOk, finiteOk, isLater, seenOk, answerOf}
+use Rattle.descriptor.specs.Checks.{sizesOk, dimension, rangeOk, pointsOk, rowsOk, neighboursOk, lengthsOk, finiteOk, isLater, seenOk, answerOf}
 use Rattle.descriptor.specs.Lent.{Lent}
 use Rattle.descriptor.specs.declared.Reading.{Reading}
 use Rattle.descriptor.specs.declared.LastDescriptor.{LastDescriptor}
-use Rattle.descriptor.proofs.Bounds.{both, Sizes, sizes, product-fits, dimension-is, base-inside, last-points}
+use Rattle.descriptor.proofs.Bounds.{both, sizes, product-fits, dimension-is, base-inside, last-points}
 use Rattle.detection.specs.Judging.{gapOf, blockOf, gap, block, start}
-use Rattle.detection.specs.Steps.{Fitting, Writing}
+use Rattle.detection.specs.Steps.{Correctable, Branching, Writing, passing, late, branch}
 
 -- The tests that passed, of an answer that is no refusal.
 record Passed (a c d e f : Bool) : Type 0 where
@@ -151,8 +149,8 @@ module _ (r : Reading) (l : LastDescriptor) (b : Lent) (stateBase e h w : ℕ) (
   unfolding start
   inside = le-trans (row-inside (block r l b) (r .«shingle_size») (r .«base_dimension») block-below) (le-of-eq (sym (lengths .of .of-point ∙ product)))
 
-  pub fitting : Fitting r l b
-  fitting =
+  pub branching : Branching r l b
+  branching =
       let z = sizes (r .«shingle_size») (r .«base_dimension») sized in
       let n = lengths in
       let k = block-below in
@@ -165,13 +163,6 @@ module _ (r : Reading) (l : LastDescriptor) (b : Lent) (stateBase e h w : ℕ) (
         point-most = subst (λ (x : ℕ). x ≤ 1024) (sym (long ∙ product)) (product-fits (r .«shingle_size») (r .«base_dimension») sized);
         base-within = subst (λ (x : ℕ). r .«base_dimension» ≤ x) (sym (long ∙ product)) (base-inside (r .«shingle_size») (r .«base_dimension») (z .shingle-least));
         noise-long = n .noise;
-        correcting = record {
-          sizes = record { some = z .shingle-least; few = z .shingle-most; wide = z .base-least; narrow = z .base-most; long = long ∙ product };
-          later = gapped;
-          out-long = refl;
-          expected-long = λ q. n .last q .0 ∙ sym long;
-          anomalous-long = λ q. n .last q .1 ∙ sym long;
-        };
         expecting = record {
           high-long = n .of .of-high ∙ sym long;
           low-long = n .of .of-low ∙ sym long;
@@ -183,6 +174,38 @@ module _ (r : Reading) (l : LastDescriptor) (b : Lent) (stateBase e h w : ℕ) (
         };
         block-small = omega arith;
       }
+
+  correctable : Correctable r l b
+  correctable =
+      let z = sizes (r .«shingle_size») (r .«base_dimension») sized in
+      let n = lengths in
+      let long = n .of .of-point in
+      record {
+        point-most = branching .point-most;
+        correcting = record {
+          sizes = record { some = z .shingle-least; few = z .shingle-most; wide = z .base-least; narrow = z .base-most; long = long ∙ product };
+          later = gap-above (r .«values_seen») (l .«has_anomaly») (l .anomaly .«values_seen») (tests .seen);
+          out-long = refl;
+          expected-long = λ q. n .last q .0 ∙ sym long;
+          anomalous-long = λ q. n .last q .1 ∙ sym long;
+        };
+      }
+
+  -- The same for the stages that are lent some of the buffers.
+  pub for-noise : Correctable r l (passing (b .point) (b .scale) (b .shift) (b .«difference_deviations») (b .«last_expected») (b .«last_anomalous»))
+  for-noise = let f = correctable in record { point-most = f .point-most; correcting = f .correcting }
+
+  pub for-late : Branching r l (late (b .point) (b .scale) (b .shift) (b .«difference_deviations») (b .high) (b .low) (b .median) (b .«ideal_high») (b .«ideal_low») (b .neighbours))
+  unfolding start block gap
+  for-late =
+      let f = branching in
+      record { shingle-most = f .shingle-most; base-least = f .base-least; base-most = f .base-most; point-most = f .point-most; base-within = f .base-within; noise-long = f .noise-long; expecting = f .expecting; block-small = f .block-small }
+
+  pub for-branch : Branching r l (branch (b .point) (b .«difference_deviations») (b .high) (b .low) (b .median))
+  unfolding start block gap
+  for-branch =
+      let f = branching in
+      record { shingle-most = f .shingle-most; base-least = f .base-least; base-most = f .base-most; point-most = f .point-most; base-within = f .base-within; noise-long = f .noise-long; expecting = f .expecting; block-small = f .block-small }
 
   pub writing : Writing b e h w
   writing =

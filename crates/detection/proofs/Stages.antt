@@ -8,6 +8,10 @@ use lib.ListN.{length, replicate}
 use lib.Ieee as Ieee
 use lib.Ieee.{Float, binary32}
 use Rattle.types.specs.Codes.{isDifferenced}
+use Rattle.types.specs.declared.Answer.{Answer}
+use Rattle.types.specs.declared.Answer.the-variants as Answers
+use Rattle.types.specs.declared.Refusal.{Refusal}
+use Rattle.types.specs.declared.CorrectionMode.{CorrectionMode}
 use Rattle.types.specs.declared.CorrectionMode.the-variants.{NOISE, «ANOMALY_IN_SHINGLE», «CONDITIONAL_FORECAST», FORECAST}
 use Rattle.basicthresholder.specs.declared.BasicThresholder.{BasicThresholder}
 use Rattle.basicthresholder.specs.declared.Graded.{Graded}
@@ -15,11 +19,16 @@ use Rattle.divector.specs.DiVector.{maxGapContribution}
 use Rattle.uncertainty_box.specs.Box.{uncertaintyBox, withinUnertaintyBox, explainedByConditionalField}
 use Rattle.uncertainty_box.specs.Pass.{centeredTransformPass}
 use Rattle.corrector.specs.Corrector.{applyBasicCorrector, expectedPoint, trigger}
+use Rattle.descriptor.specs.Checks.{answerOf}
 use Rattle.descriptor.specs.Lent.{Lent}
 use Rattle.descriptor.specs.declared.Reading.{Reading}
 use Rattle.descriptor.specs.declared.LastDescriptor.{LastDescriptor}
 use Rattle.detection.specs.Const.{zero32}
 use Rattle.detection.specs.Judging.{gapOf, isRecent, blockOf, gap, recent, opening, correctedPoint, noisePass, block, start, box, explained, expected, triggered, withinBox, lateVerdict, gradedVerdict, openVerdict}
+use Rattle.detection.specs.Steps.{passing, late, passed, openOf, openOutcome}
+use Rattle.detection.specs.declared.Passed.{Passed}
+use Rattle.detection.specs.declared.Passed.the-variants.{Ended, Working}
+use Rattle.detection.specs.declared.Outcome.the-variants.{Accepted, Refused}
 use Rattle.detection.specs.declared.Verdict.{Verdict}
 use Rattle.detection.specs.declared.Verdict.the-variants.{Quiet, Corrected, Raised, Skipped}
 
@@ -88,33 +97,86 @@ module _ (r : Reading) (l : LastDescriptor) (b : Lent) where
     unfolding lateVerdict
     late-raised h k q = rw (h, k, q)
 
-  -- ---- the exits past an opening grade above 0
-  module _ (t : BasicThresholder) (auto : Bool) (threshold grade : Float) where
-    pub graded-corrected : (recent r l b && Ieee.eq (opening t r (r .«corrected_score») .grade) zero32) ≡ true → Corrected threshold «ANOMALY_IN_SHINGLE» ≡ gradedVerdict r l b t auto threshold grade
-    unfolding gradedVerdict
-    graded-corrected h = rw h
+  -- ---- the exits up to the noise pass
+  module _ (t : BasicThresholder) (grade : Float) where
+    pub passed-quiet : (recent r l b && Ieee.eq (opening t r (r .«corrected_score») .grade) zero32) ≡ true → Ended «ANOMALY_IN_SHINGLE» ≡ passed r l b t grade
+    unfolding passed
+    passed-quiet h = rw h
 
-    pub graded-noise : (f : Float) → f ≡ noisePass r l b → (recent r l b && Ieee.eq (opening t r (r .«corrected_score») .grade) zero32) ≡ false → Ieee.eq (Ieee.mul binary32 grade f) zero32 ≡ true
-        → Corrected threshold NOISE ≡ gradedVerdict r l b t auto threshold grade
-    unfolding gradedVerdict
-    graded-noise f e h k = rw (h, rw e at k)
+    pub passed-noise : (f : Float) → f ≡ noisePass r l b → (recent r l b && Ieee.eq (opening t r (r .«corrected_score») .grade) zero32) ≡ false → Ieee.eq (Ieee.mul binary32 grade f) zero32 ≡ true
+        → Ended NOISE ≡ passed r l b t grade
+    unfolding passed
+    passed-noise f e h k = rw (h, rw e at k)
 
-    pub graded-late : (f : Float) (v : Verdict) → f ≡ noisePass r l b → (recent r l b && Ieee.eq (opening t r (r .«corrected_score») .grade) zero32) ≡ false → Ieee.eq (Ieee.mul binary32 grade f) zero32 ≡ false
-        → v ≡ lateVerdict r l b auto threshold (Ieee.mul binary32 grade f) → v ≡ gradedVerdict r l b t auto threshold grade
-    unfolding gradedVerdict
-    graded-late f v e h k q = q ∙ ap (λ (x : Float). lateVerdict r l b auto threshold (Ieee.mul binary32 grade x)) e ∙ rw (h, rw e at k)
+    pub passed-working : (f : Float) → f ≡ noisePass r l b → (recent r l b && Ieee.eq (opening t r (r .«corrected_score») .grade) zero32) ≡ false → Ieee.eq (Ieee.mul binary32 grade f) zero32 ≡ false
+        → Working (Ieee.mul binary32 grade f) ≡ passed r l b t grade
+    unfolding passed
+    passed-working f e h k = ap (λ (x : Float). Working (Ieee.mul binary32 grade x)) e ∙ rw (h, rw e at k)
 
-  -- ---- all exits but the candidate branch's
+  -- ---- every exit but the candidate branch's
   module _ (t : BasicThresholder) (auto : Bool) where
-    pub open-skipped : Ieee.eq (r .score) zero32 ≡ true → Skipped ≡ openVerdict r l b t auto
-    unfolding openVerdict
-    open-skipped h = rw h
+    -- The verdict past the noise pass.
+    pastNoise : Float → Passed → Verdict
+    pastNoise threshold (Ended m) = Corrected threshold m
+    pastNoise threshold (Working w) = lateVerdict r l b auto threshold w
 
-    pub open-quiet : (g : Graded) → g ≡ opening t r (r .score) → Ieee.eq (r .score) zero32 ≡ false → Ieee.eq (g .grade) zero32 ≡ true → Quiet (g .threshold) ≡ openVerdict r l b t auto
-    unfolding openVerdict
-    open-quiet g e h k = ap (λ (o : Graded). Quiet (o .threshold)) e ∙ rw (h, rw e at k)
+    past-noise : (threshold : Float) (p q : Bool) (m n : CorrectionMode) (w : Float)
+        → pastNoise threshold (cond p (Ended m) (cond q (Ended n) (Working w))) ≡ cond p (Corrected threshold m) (cond q (Corrected threshold n) (lateVerdict r l b auto threshold w))
+    unfolding pastNoise
+    past-noise threshold true q m n w = refl
+    past-noise threshold false true m n w = refl
+    past-noise threshold false false m n w = refl
 
-    pub open-graded : (g : Graded) (v : Verdict) → g ≡ opening t r (r .score) → Ieee.eq (r .score) zero32 ≡ false → Ieee.eq (g .grade) zero32 ≡ false
-        → v ≡ gradedVerdict r l b t auto (g .threshold) (g .grade) → v ≡ openVerdict r l b t auto
-    unfolding openVerdict
-    open-graded g v e h k q = q ∙ ap (λ (o : Graded). gradedVerdict r l b t auto (o .threshold) (o .grade)) e ∙ rw (h, rw e at k)
+    graded-is : (threshold grade : Float) → pastNoise threshold (passed r l b t grade) ≡ gradedVerdict r l b t auto threshold grade
+    unfolding gradedVerdict passed
+    graded-is threshold grade =
+        past-noise threshold (recent r l b && Ieee.eq (opening t r (r .«corrected_score») .grade) zero32) (Ieee.eq (Ieee.mul binary32 grade (noisePass r l b)) zero32) «ANOMALY_IN_SHINGLE» NOISE (Ieee.mul binary32 grade (noisePass r l b))
+
+    module _ (base e h w : ℕ) (ok : Bool) (a : Answer) (said : a ≡ answerOf r l b base e h w ok) where
+      open-is : openOf r l b t auto a ≡ openOutcome r l b t auto base e h w ok
+      unfolding openOutcome
+      open-is = ap (openOf r l b t auto) said
+
+      pub open-refused : (why : Refusal) → a ≡ Answers.Refused why → Refused why ≡ openOutcome r l b t auto base e h w ok
+      unfolding openOf
+      open-refused why k = ap (openOf r l b t auto) (sym k) ∙ open-is
+
+      open-done : a ≡ Answers.Done → Accepted (openVerdict r l b t auto) ≡ openOutcome r l b t auto base e h w ok
+      unfolding openOf
+      open-done k = ap (openOf r l b t auto) (sym k) ∙ open-is
+
+      pub open-skipped : a ≡ Answers.Done → Ieee.eq (r .score) zero32 ≡ true → Accepted Skipped ≡ openOutcome r l b t auto base e h w ok
+      unfolding openVerdict
+      open-skipped d k = ap Accepted (rw k) ∙ open-done d
+
+      pub open-quiet : a ≡ Answers.Done → Ieee.eq (r .score) zero32 ≡ false → (g : Graded) → g ≡ opening t r (r .score) → Ieee.eq (g .grade) zero32 ≡ true
+          → Accepted (Quiet (g .threshold)) ≡ openOutcome r l b t auto base e h w ok
+      unfolding openVerdict
+      open-quiet d k g q z = ap Accepted (ap (λ (o : Graded). Quiet (o .threshold)) q ∙ rw (k, rw q at z)) ∙ open-done d
+
+      open-graded : a ≡ Answers.Done → Ieee.eq (r .score) zero32 ≡ false → (g : Graded) → g ≡ opening t r (r .score) → Ieee.eq (g .grade) zero32 ≡ false
+          → Accepted (pastNoise (g .threshold) (passed r l b t (g .grade))) ≡ openOutcome r l b t auto base e h w ok
+      unfolding openVerdict
+      open-graded d k g q z =
+          ap Accepted (graded-is (g .threshold) (g .grade) ∙ ap (λ (o : Graded). gradedVerdict r l b t auto (o .threshold) (o .grade)) q ∙ rw (k, rw q at z)) ∙ open-done d
+
+      pub open-ended : a ≡ Answers.Done → Ieee.eq (r .score) zero32 ≡ false → (g : Graded) → g ≡ opening t r (r .score) → Ieee.eq (g .grade) zero32 ≡ false
+          → (p : Passed) (m : CorrectionMode) → p ≡ passed r l b t (g .grade) → p ≡ Ended m → Accepted (Corrected (g .threshold) m) ≡ openOutcome r l b t auto base e h w ok
+      unfolding pastNoise
+      open-ended d k g q z p m x y = ap (λ (n : Passed). Accepted (pastNoise (g .threshold) n)) (sym y ∙ x) ∙ open-graded d k g q z
+
+      pub open-late : a ≡ Answers.Done → Ieee.eq (r .score) zero32 ≡ false → (g : Graded) → g ≡ opening t r (r .score) → Ieee.eq (g .grade) zero32 ≡ false
+          → (p : Passed) (f : Float) → p ≡ passed r l b t (g .grade) → p ≡ Working f → (v : Verdict) → v ≡ lateVerdict r l b auto (g .threshold) f
+          → Accepted v ≡ openOutcome r l b t auto base e h w ok
+      unfolding pastNoise
+      open-late d k g q z p f x y v o = ap Accepted o ∙ ap (λ (n : Passed). Accepted (pastNoise (g .threshold) n)) (sym y ∙ x) ∙ open-graded d k g q z
+
+  -- ---- a stage that is lent some of the buffers
+  pub passed-lent : (t : BasicThresholder) (grade : Float) → passed r l (passing (b .point) (b .scale) (b .shift) (b .«difference_deviations») (b .«last_expected») (b .«last_anomalous»)) t grade ≡ passed r l b t grade
+  unfolding passed recent gap noisePass correctedPoint
+  passed-lent t grade = refl
+
+  pub late-lent : (auto : Bool) (threshold working : Float)
+      → lateVerdict r l (late (b .point) (b .scale) (b .shift) (b .«difference_deviations») (b .high) (b .low) (b .median) (b .«ideal_high») (b .«ideal_low») (b .neighbours)) auto threshold working ≡ lateVerdict r l b auto threshold working
+  unfolding lateVerdict explained box start block gap triggered withinBox expected
+  late-lent auto threshold working = refl

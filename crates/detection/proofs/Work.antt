@@ -1,21 +1,21 @@
 -- Parts of local work arrays that a call wrote, and what the leaves' contracts give where the lengths fit. Assumes nothing.
-use mathlib.Core.Path.{_≡_, refl, sym, ap, ap₂, _∙_, subst}
-use mathlib.Core.Bool.{Bool, true, false, cond, not, _||_, _&&_}
+use mathlib.Core.Path.{_≡_, refl, sym, ap, ap₂, _∙_}
+use mathlib.Core.Bool.{Bool, true, false, cond, not, _||_}
 use mathlib.Core.List.{List, [], _∷_, _++_}
 use Prim.Native.Nat.{ℕ, zero, suc, _+_, _-_, _≤_, _<_}
 use native.Mathlib.Nat.{le-of-suc-le-suc, not-suc-le-zero}
 use native.Mathlib.Omega.{arith}
-use lib.Dec.{ltb, leb}
+use lib.Dec.{ltb}
 use lib.IntN.{ℤ}
 use native.Mathlib.Numerals.{add-one}
-use lib.ListN.{length, getD, take, drop, replicate, length-append, length-drop, length-take}
-use lib.Seq.{take-at, drop-at, take-all, drop-append-le}
+use lib.ListN.{length, getD, take, drop, replicate, length-drop}
+use lib.Seq.{take-at, take-all, drop-append-le}
 use borrow.Author.Tests.{leb-false, lt-ltb}
 use lib.Ieee.{Float, nan}
 use Rattle.deviation.specs.Const.{zero64}
 use Rattle.deviation.specs.Statistics.{fresh}
 use Rattle.deviation.specs.declared.Deviation.{Deviation}
-use Rattle.corrector.specs.Corrector.{correctorFits, applyBasicCorrector, expectedFits, expectedPoint}
+use Rattle.corrector.specs.Corrector.{correctorFits, applyBasicCorrector, expectedFits}
 use Rattle.corrector.specs.Steps.{Correcting, Expecting}
 use Rattle.corrector.proofs.Kept.{corrects, expects}
 use Rattle.detection.specs.Judging.{isRecent, nearMeans, driftWithin}
@@ -39,6 +39,10 @@ pub expected-is : (high low position base point median : ℕ) (out x y : List Fl
     → x ≡ cond (expectedFits high low position base point median (length out)) y out → x ≡ y
 expected-is high low position base point median out x y l f q =
     q ∙ ap (λ (t : Bool). cond t y out) (ap (expectedFits high low position base point median) l ∙ expects high low position base point median point f)
+
+pub not-true : (t : Bool) → not t ≡ true → t ≡ false
+not-true true h = sym h
+not-true false h = refl
 
 -- Nothing is corrected where the last anomaly is not recent.
 pub not-recent : (point : List Float) (gap shingle base : ℕ) (h : Bool) (e a : List Float) (i : ℤ) (u t : Bool) → isRecent h gap shingle ≡ false

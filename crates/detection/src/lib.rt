@@ -218,48 +218,7 @@ fn sixteen() -> [f32; 16]
     [0.0f32; 16]
 }
 
-// The noise pass of the corrected point.
-fn corrected_pass(
-    r: Reading,
-    l: LastDescriptor,
-    gap: usize,
-    point: &[f32],
-    scale: &[f32],
-    shift: &[f32],
-    difference_deviations: &[f32],
-    last_expected: &[f32],
-    last_anomalous: &[f32],
-) -> f32
-    requires { ⌜ length (now point) ≤ 1024 ⌝ ∗ ⌜ CorrectorSteps.Correcting (length (now point)) gap (r .«shingle_size») (r .«base_dimension») (l .«has_anomaly») (length (now «last_expected»)) (length (now «last_anomalous»)) (length (now point)) ⌝ }
-    ensures { λ f. ⌜ f ≡ Pass.centeredTransformPass (r .«base_dimension») (now (scale .entry)) (now (shift .entry)) (now («difference_deviations» .entry)) (Corrector.applyBasicCorrector (now (point .entry)) gap (r .«shingle_size») (r .«base_dimension») (l .«has_anomaly») (now («last_expected» .entry)) (now («last_anomalous» .entry)) (l .anomaly .«relative_index») (isDifferenced (r .«transform_method»)) (r .«time_augmented»)) ⌝ }
-{
-    let method = r.transform_method;
-    let anomaly = l.anomaly;
-    let d = point.len();
-    let mut work = zeros();
-    corrector::apply_basic_corrector(
-        point,
-        gap,
-        r.shingle_size,
-        r.base_dimension,
-        l.has_anomaly,
-        last_expected,
-        last_anomalous,
-        anomaly.relative_index,
-        method.is_differenced(),
-        r.time_augmented,
-        &mut work[..d],
-    );
-    uncertainty_box::centered_transform_pass(
-        r.base_dimension,
-        scale,
-        shift,
-        difference_deviations,
-        &work[..d],
-    )
-}
-
-// The same without a copy where nothing is corrected.
+// The noise pass of the corrected point; without a copy where nothing is corrected.
 fn noise_pass(
     r: Reading,
     l: LastDescriptor,
@@ -274,26 +233,34 @@ fn noise_pass(
     requires { ⌜ length (now point) ≤ 1024 ⌝ ∗ ⌜ CorrectorSteps.Correcting (length (now point)) gap (r .«shingle_size») (r .«base_dimension») (l .«has_anomaly») (length (now «last_expected»)) (length (now «last_anomalous»)) (length (now point)) ⌝ }
     ensures { λ f. ⌜ f ≡ Pass.centeredTransformPass (r .«base_dimension») (now (scale .entry)) (now (shift .entry)) (now («difference_deviations» .entry)) (Corrector.applyBasicCorrector (now (point .entry)) gap (r .«shingle_size») (r .«base_dimension») (l .«has_anomaly») (now («last_expected» .entry)) (now («last_anomalous» .entry)) (l .anomaly .«relative_index») (isDifferenced (r .«transform_method»)) (r .«time_augmented»)) ⌝ }
 {
-    if is_recent(l.has_anomaly, gap, r.shingle_size) {
-        return corrected_pass(
-            r,
-            l,
-            gap,
-            point,
+    let base = r.base_dimension;
+    if !is_recent(l.has_anomaly, gap, r.shingle_size) {
+        return uncertainty_box::centered_transform_pass(
+            base,
             scale,
             shift,
             difference_deviations,
-            last_expected,
-            last_anomalous,
+            point,
         );
     }
-    uncertainty_box::centered_transform_pass(
-        r.base_dimension,
-        scale,
-        shift,
-        difference_deviations,
+    let method = r.transform_method;
+    let anomaly = l.anomaly;
+    let d = point.len();
+    let mut work = zeros();
+    corrector::apply_basic_corrector(
         point,
-    )
+        gap,
+        r.shingle_size,
+        base,
+        l.has_anomaly,
+        last_expected,
+        last_anomalous,
+        anomaly.relative_index,
+        method.is_differenced(),
+        r.time_augmented,
+        &mut work[..d],
+    );
+    uncertainty_box::centered_transform_pass(base, scale, shift, difference_deviations, &work[..d])
 }
 
 // The uncertainty box in the first `base` places.
@@ -420,15 +387,12 @@ fn late_verdict(
     auto_adjust: bool,
     r: Reading,
     l: LastDescriptor,
-    gap: usize,
     threshold: f32,
     working: f32,
     point: &[f32],
     scale: &[f32],
     shift: &[f32],
     difference_deviations: &[f32],
-    last_expected: &[f32],
-    last_anomalous: &[f32],
     high: &[f64],
     low: &[f64],
     median: &[f32],
@@ -436,13 +400,14 @@ fn late_verdict(
     ideal_low: &[f64],
     neighbours: &[f32],
 ) -> Verdict
-    requires { ⌜ Steps.Fitting r l (lent (now point) (now scale) (now shift) (now «difference_deviations») (now «last_expected») (now «last_anomalous») (now high) (now low) (now median) (now «ideal_high») (now «ideal_low») (now neighbours)) ⌝ ∗ ⌜ gap ≡ Judging.gap r l (lent (now point) (now scale) (now shift) (now «difference_deviations») (now «last_expected») (now «last_anomalous») (now high) (now low) (now median) (now «ideal_high») (now «ideal_low») (now neighbours)) ⌝ }
-    ensures { λ v. ⌜ v ≡ Judging.lateVerdict r l (lent (now (point .entry)) (now (scale .entry)) (now (shift .entry)) (now («difference_deviations» .entry)) (now («last_expected» .entry)) (now («last_anomalous» .entry)) (now (high .entry)) (now (low .entry)) (now (median .entry)) (now («ideal_high» .entry)) (now («ideal_low» .entry)) (now (neighbours .entry))) «auto_adjust» threshold working ⌝ }
+    requires { ⌜ Steps.Branching r l (Steps.late (now point) (now scale) (now shift) (now «difference_deviations») (now high) (now low) (now median) (now «ideal_high») (now «ideal_low») (now neighbours)) ⌝ }
+    ensures { λ v. ⌜ v ≡ Judging.lateVerdict r l (Steps.late (now (point .entry)) (now (scale .entry)) (now (shift .entry)) (now («difference_deviations» .entry)) (now (high .entry)) (now (low .entry)) (now (median .entry)) (now («ideal_high» .entry)) (now («ideal_low» .entry)) (now (neighbours .entry))) «auto_adjust» threshold working ⌝ }
 {
     let base = r.base_dimension;
     let method = r.transform_method;
+    let anomaly = l.anomaly;
+    let gap = gap_of(r.values_seen, l.has_anomaly, anomaly.values_seen);
     let start = start_of(high, low, base, gap);
-    let differenced = method.is_differenced();
     let edges = box_of(
         point,
         start,
@@ -450,7 +415,7 @@ fn late_verdict(
         scale,
         shift,
         difference_deviations,
-        differenced,
+        method.is_differenced(),
     );
     if auto_explained(auto_adjust, &edges[..base], point, start, scale, neighbours) {
         return Verdict::Corrected(threshold, CorrectionMode::CONDITIONAL_FORECAST);
@@ -464,13 +429,16 @@ fn late_verdict(
     Verdict::Raised(threshold, working)
 }
 
-// The exits past an opening grade above 0.
-fn graded_verdict(
+// Up to the noise pass: the mode of an exit, or the working grade.
+enum Passed {
+    Ended(CorrectionMode),
+    Working(f32),
+}
+
+fn noise_exit(
     t: BasicThresholder,
-    auto_adjust: bool,
     r: Reading,
     l: LastDescriptor,
-    threshold: f32,
     grade: f32,
     point: &[f32],
     scale: &[f32],
@@ -478,20 +446,14 @@ fn graded_verdict(
     difference_deviations: &[f32],
     last_expected: &[f32],
     last_anomalous: &[f32],
-    high: &[f64],
-    low: &[f64],
-    median: &[f32],
-    ideal_high: &[f64],
-    ideal_low: &[f64],
-    neighbours: &[f32],
-) -> Verdict
-    requires { ⌜ Steps.Fitting r l (lent (now point) (now scale) (now shift) (now «difference_deviations») (now «last_expected») (now «last_anomalous») (now high) (now low) (now median) (now «ideal_high») (now «ideal_low») (now neighbours)) ⌝ }
-    ensures { λ v. ⌜ v ≡ Judging.gradedVerdict r l (lent (now (point .entry)) (now (scale .entry)) (now (shift .entry)) (now («difference_deviations» .entry)) (now («last_expected» .entry)) (now («last_anomalous» .entry)) (now (high .entry)) (now (low .entry)) (now (median .entry)) (now («ideal_high» .entry)) (now («ideal_low» .entry)) (now (neighbours .entry))) t «auto_adjust» threshold grade ⌝ }
+) -> Passed
+    requires { ⌜ Steps.Correctable r l (Steps.passing (now point) (now scale) (now shift) (now «difference_deviations») (now «last_expected») (now «last_anomalous»)) ⌝ }
+    ensures { λ p. ⌜ p ≡ Steps.passed r l (Steps.passing (now (point .entry)) (now (scale .entry)) (now (shift .entry)) (now («difference_deviations» .entry)) (now («last_expected» .entry)) (now («last_anomalous» .entry))) t grade ⌝ }
 {
     let anomaly = l.anomaly;
     let gap = gap_of(r.values_seen, l.has_anomaly, anomaly.values_seen);
     if corrected_quiet(t, r, is_recent(l.has_anomaly, gap, r.shingle_size)) {
-        return Verdict::Corrected(threshold, CorrectionMode::ANOMALY_IN_SHINGLE);
+        return Passed::Ended(CorrectionMode::ANOMALY_IN_SHINGLE);
     }
     let working = grade
         * noise_pass(
@@ -506,34 +468,17 @@ fn graded_verdict(
             last_anomalous,
         );
     if working == 0.0 {
-        return Verdict::Corrected(threshold, CorrectionMode::NOISE);
+        return Passed::Ended(CorrectionMode::NOISE);
     }
-    late_verdict(
-        auto_adjust,
-        r,
-        l,
-        gap,
-        threshold,
-        working,
-        point,
-        scale,
-        shift,
-        difference_deviations,
-        last_expected,
-        last_anomalous,
-        high,
-        low,
-        median,
-        ideal_high,
-        ideal_low,
-        neighbours,
-    )
+    Passed::Working(working)
 }
 
-// Every exit but the candidate branch's.
-fn open_verdict(
+// The entry checks, then every exit but the candidate branch's. The last three numbers are the lengths of the buffers to write.
+fn open_outcome(
     t: BasicThresholder,
     auto_adjust: bool,
+    counts_ok: bool,
+    base: usize,
     r: Reading,
     l: LastDescriptor,
     point: &[f32],
@@ -548,24 +493,15 @@ fn open_verdict(
     ideal_high: &[f64],
     ideal_low: &[f64],
     neighbours: &[f32],
-) -> Verdict
-    requires { ⌜ Steps.Fitting r l (lent (now point) (now scale) (now shift) (now «difference_deviations») (now «last_expected») (now «last_anomalous») (now high) (now low) (now median) (now «ideal_high») (now «ideal_low») (now neighbours)) ⌝ }
-    ensures { λ v. ⌜ v ≡ Judging.openVerdict r l (lent (now (point .entry)) (now (scale .entry)) (now (shift .entry)) (now («difference_deviations» .entry)) (now («last_expected» .entry)) (now («last_anomalous» .entry)) (now (high .entry)) (now (low .entry)) (now (median .entry)) (now («ideal_high» .entry)) (now («ideal_low» .entry)) (now (neighbours .entry))) t «auto_adjust» ⌝ }
+    expected: usize,
+    out_high: usize,
+    out_low: usize,
+) -> Outcome
+    ensures { λ o. ⌜ o ≡ Steps.openOutcome r l (lent (now (point .entry)) (now (scale .entry)) (now (shift .entry)) (now («difference_deviations» .entry)) (now («last_expected» .entry)) (now («last_anomalous» .entry)) (now (high .entry)) (now (low .entry)) (now (median .entry)) (now («ideal_high» .entry)) (now («ideal_low» .entry)) (now (neighbours .entry))) t «auto_adjust» base expected «out_high» «out_low» «counts_ok» ⌝ }
 {
-    if r.score == 0.0 {
-        return Verdict::Skipped;
-    }
-    let opened = opening(t, r, r.score);
-    if opened.grade == 0.0 {
-        return Verdict::Quiet(opened.threshold);
-    }
-    graded_verdict(
-        t,
-        auto_adjust,
+    let answer = descriptor::answer(
         r,
         l,
-        opened.threshold,
-        opened.grade,
         point,
         scale,
         shift,
@@ -578,11 +514,60 @@ fn open_verdict(
         ideal_high,
         ideal_low,
         neighbours,
-    )
+        base,
+        expected,
+        out_high,
+        out_low,
+        counts_ok,
+    );
+    if let Answer::Refused(why) = answer {
+        return Outcome::Refused(why);
+    }
+    if r.score == 0.0 {
+        return Outcome::Accepted(Verdict::Skipped);
+    }
+    let opened = opening(t, r, r.score);
+    let threshold = opened.threshold;
+    if opened.grade == 0.0 {
+        return Outcome::Accepted(Verdict::Quiet(threshold));
+    }
+    let passed = noise_exit(
+        t,
+        r,
+        l,
+        opened.grade,
+        point,
+        scale,
+        shift,
+        difference_deviations,
+        last_expected,
+        last_anomalous,
+    );
+    match passed {
+        Passed::Ended(mode) => Outcome::Accepted(Verdict::Corrected(threshold, mode)),
+        Passed::Working(working) => Outcome::Accepted(late_verdict(
+            auto_adjust,
+            r,
+            l,
+            threshold,
+            working,
+            point,
+            scale,
+            shift,
+            difference_deviations,
+            high,
+            low,
+            median,
+            ideal_high,
+            ideal_low,
+            neighbours,
+        )),
+    }
 }
 
-// The drift test of the last coordinate, which alone decides.
-fn drift_within(
+// The drift test of the last coordinate, which alone decides, where it is due.
+fn is_drift(
+    due: bool,
     base: usize,
     actual: [Deviation; 16],
     expected: [Deviation; 16],
@@ -591,40 +576,17 @@ fn drift_within(
     noise: &[f32],
 ) -> bool
     requires { ⌜ 1 ≤ base ⌝ ∗ ⌜ base ≤ 16 ⌝ ∗ ⌜ base ≤ length (now newest) ⌝ ∗ ⌜ base ≤ length (now «newest_expected») ⌝ ∗ ⌜ base ≤ length (now noise) ⌝ }
-    ensures { λ r. ⌜ r ≡ Judging.driftWithin base actual expected (now (newest .entry)) (now («newest_expected» .entry)) (now (noise .entry)) ⌝ }
+    ensures { λ r. ⌜ r ≡ (due && Judging.driftWithin base actual expected (now (newest .entry)) (now («newest_expected» .entry)) (now (noise .entry))) ⌝ }
 {
-    let y = base - 1;
-    near_means(
-        actual[y],
-        expected[y],
-        newest[y],
-        newest_expected[y],
-        noise[y],
-    )
-}
-
-fn is_drift(
-    candidate: bool,
-    s: PredictorCorrector,
-    counted: PredictorCorrector,
-    base: usize,
-    newest: &[f32],
-    newest_expected: &[f32],
-    noise: &[f32],
-) -> bool
-    requires { ⌜ 1 ≤ base ⌝ ∗ ⌜ base ≤ 16 ⌝ ∗ ⌜ base ≤ length (now newest) ⌝ ∗ ⌜ base ≤ length (now «newest_expected») ⌝ ∗ ⌜ base ≤ length (now noise) ⌝ }
-    ensures { λ r. ⌜ r ≡ Judging.isDrift candidate s counted base (now (newest .entry)) (now («newest_expected» .entry)) (now (noise .entry)) ⌝ }
-{
-    if candidate {
-        if s.auto_adjust {
-            if 2 < s.run_length {
-                let actual = counted.deviations_actual;
-                let expected = counted.deviations_expected;
-                return drift_within(base, actual, expected, newest, newest_expected, noise);
-            }
-            return false;
-        }
-        return false;
+    if due {
+        let y = base - 1;
+        return near_means(
+            actual[y],
+            expected[y],
+            newest[y],
+            newest_expected[y],
+            noise[y],
+        );
     }
     false
 }
@@ -649,40 +611,18 @@ fn count_rows(
 {
     let candidate = is_candidate(r, l, s.run_length, threshold);
     let state = candidate_with(candidate, s, newest, newest_expected);
-    let base = r.base_dimension;
-    let drift = is_drift(candidate, s, state, base, newest, newest_expected, noise);
+    let actual = state.deviations_actual;
+    let expected = state.deviations_expected;
+    let drift = is_drift(
+        candidate & s.auto_adjust & (2 < s.run_length),
+        r.base_dimension,
+        actual,
+        expected,
+        newest,
+        newest_expected,
+        noise,
+    );
     Counted { drift, state }
-}
-
-fn counted_run(
-    s: PredictorCorrector,
-    r: Reading,
-    l: LastDescriptor,
-    start: usize,
-    threshold: f32,
-    point: &[f32],
-    difference_deviations: &[f32],
-    high: &[f64],
-    low: &[f64],
-    median: &[f32],
-) -> Counted
-    requires { ⌜ Steps.Rows r (length (now point)) (length (now «difference_deviations»)) ⌝ ∗ ⌜ CorrectorSteps.Expecting (length (now high)) (length (now low)) start (r .«base_dimension») (length (now point)) (length (now median)) (length (now point)) ⌝ }
-    ensures { λ c. ⌜ c ≡ Steps.countedRun s r l threshold (now (point .entry)) (now («difference_deviations» .entry)) (Corrector.expectedPoint (now (high .entry)) (now (low .entry)) start (r .«base_dimension») (now (point .entry)) (now (median .entry))) ⌝ }
-{
-    let d = point.len();
-    let base = r.base_dimension;
-    let newest = d - base;
-    let mut work = zeros();
-    corrector::expected_point(high, low, start, base, point, median, &mut work[..d]);
-    count_rows(
-        s,
-        r,
-        l,
-        threshold,
-        &point[newest..],
-        &work[newest..d],
-        difference_deviations,
-    )
 }
 
 // Without auto adjust no row is counted, and nothing is data drift.
@@ -701,24 +641,26 @@ fn candidate_run(
     requires { ⌜ Steps.Rows r (length (now point)) (length (now «difference_deviations»)) ⌝ ∗ ⌜ CorrectorSteps.Expecting (length (now high)) (length (now low)) start (r .«base_dimension») (length (now point)) (length (now median)) (length (now point)) ⌝ }
     ensures { λ c. ⌜ c ≡ Steps.countedRun s r l threshold (now (point .entry)) (now («difference_deviations» .entry)) (Corrector.expectedPoint (now (high .entry)) (now (low .entry)) start (r .«base_dimension») (now (point .entry)) (now (median .entry))) ⌝ }
 {
-    if s.auto_adjust {
-        return counted_run(
-            s,
-            r,
-            l,
-            start,
-            threshold,
-            point,
-            difference_deviations,
-            high,
-            low,
-            median,
-        );
+    if !s.auto_adjust {
+        return Counted {
+            drift: false,
+            state: s,
+        };
     }
-    Counted {
-        drift: false,
-        state: s,
-    }
+    let d = point.len();
+    let base = r.base_dimension;
+    let newest = d - base;
+    let mut work = zeros();
+    corrector::expected_point(high, low, start, base, point, median, &mut work[..d]);
+    count_rows(
+        s,
+        r,
+        l,
+        threshold,
+        &point[newest..],
+        &work[newest..d],
+        difference_deviations,
+    )
 }
 
 fn block_start(block: usize, base: usize) -> usize
@@ -736,10 +678,25 @@ fn relative_index(block: usize, shingle_size: usize) -> i32
     (block as i32) - (shingle_size as i32) + 1
 }
 
-// Past the last test: the buffers are written, and the reading is one more of the run.
+fn is_raised(outcome: Outcome) -> bool
+    ensures { λ r. ⌜ r ≡ Steps.isRaised outcome ⌝ }
+{
+    match outcome {
+        Outcome::Refused(_) => false,
+        Outcome::Accepted(verdict) => match verdict {
+            Verdict::Quiet(_) => false,
+            Verdict::Corrected(_, _) => false,
+            Verdict::Raised(_, _) => true,
+            Verdict::Skipped => false,
+        },
+    }
+}
+
+// Writes the three buffers of a raised reading and answers its relative index; of any other 0, and the buffers are left alone.
 fn write_raised(
+    outcome: Outcome,
     r: Reading,
-    start: usize,
+    block: usize,
     point: &[f32],
     high: &[f64],
     low: &[f64],
@@ -747,21 +704,52 @@ fn write_raised(
     expected: &mut [f32],
     out_high: &mut [f64],
     out_low: &mut [f64],
-)
-    requires { ⌜ CorrectorSteps.Expecting (length (now high)) (length (now low)) start (r .«base_dimension») (length (now point)) (length (now median)) (length (now expected)) ⌝ ∗ ⌜ DiVector.oneLength (length (now high)) (length (now low)) (length (now «out_high»)) (length (now «out_low»)) ≡ true ⌝ }
-    ensures { λ _. ⌜ Steps.Written r start (now (point .entry)) (now (high .entry)) (now (low .entry)) (now (median .entry)) (now (expected .exit)) (now («out_high» .exit)) (now («out_low» .exit)) ⌝ }
+) -> i32
+    requires { ⌜ Steps.RaisedFits (Steps.isRaised outcome) r block (length (now point)) (length (now high)) (length (now low)) (length (now median)) (length (now expected)) (length (now «out_high»)) (length (now «out_low»)) ⌝ }
+    ensures { λ i. ⌜ Steps.Written (Steps.isRaised outcome) r block (now (point .entry)) (now (high .entry)) (now (low .entry)) (now (median .entry)) i (now (expected .entry)) (now («out_high» .entry)) (now («out_low» .entry)) (now (expected .exit)) (now («out_high» .exit)) (now («out_low» .exit)) ⌝ }
 {
-    corrector::expected_point(high, low, start, r.base_dimension, point, median, expected);
-    divector::normalize_into(
-        high,
-        low,
-        std::num::f32_to_f64_with_nan(r.score),
-        out_high,
-        out_low,
-    );
+    if is_raised(outcome) {
+        let base = r.base_dimension;
+        let start = block_start(block, base);
+        corrector::expected_point(high, low, start, base, point, median, expected);
+        divector::normalize_into(
+            high,
+            low,
+            std::num::f32_to_f64_with_nan(r.score),
+            out_high,
+            out_low,
+        );
+        return relative_index(block, r.shingle_size);
+    }
+    0
 }
 
-// A reading that the exits so far raise: data drift, or raised, which alone writes the buffers.
+// The outcome, the block that contributes most where the candidate branch was reached, and the state.
+struct Settled {
+    outcome: Outcome,
+    block: usize,
+    state: PredictorCorrector,
+}
+
+// The last exit: data drift, or raised and one more of the run.
+fn last_verdict(drift: bool, threshold: f32, grade: f32) -> Verdict
+    ensures { λ v. ⌜ v ≡ Steps.lastVerdict drift threshold grade ⌝ }
+{
+    if drift {
+        return Verdict::Corrected(threshold, CorrectionMode::DATA_DRIFT);
+    }
+    Verdict::Raised(threshold, grade)
+}
+
+fn run_after(counted: Counted) -> PredictorCorrector
+    ensures { λ s. ⌜ s ≡ Steps.runAfter (counted .drift) (counted .state) ⌝ }
+{
+    if counted.drift {
+        return counted.state;
+    }
+    counted.state.run_grown()
+}
+
 fn raise(
     s: PredictorCorrector,
     r: Reading,
@@ -769,36 +757,23 @@ fn raise(
     threshold: f32,
     grade: f32,
     point: &[f32],
-    scale: &[f32],
-    shift: &[f32],
     difference_deviations: &[f32],
-    last_expected: &[f32],
-    last_anomalous: &[f32],
     high: &[f64],
     low: &[f64],
     median: &[f32],
-    ideal_high: &[f64],
-    ideal_low: &[f64],
-    neighbours: &[f32],
-    expected: &mut [f32],
-    out_high: &mut [f64],
-    out_low: &mut [f64],
-) -> Judgment
-    requires { ⌜ Steps.Fitting r l (lent (now point) (now scale) (now shift) (now «difference_deviations») (now «last_expected») (now «last_anomalous») (now high) (now low) (now median) (now «ideal_high») (now «ideal_low») (now neighbours)) ⌝ ∗ ⌜ Steps.Writing (lent (now point) (now scale) (now shift) (now «difference_deviations») (now «last_expected») (now «last_anomalous») (now high) (now low) (now median) (now «ideal_high») (now «ideal_low») (now neighbours)) (length (now expected)) (length (now «out_high»)) (length (now «out_low»)) ⌝ }
-    ensures { λ j. ⌜ Steps.Settled s r l (lent (now (point .entry)) (now (scale .entry)) (now (shift .entry)) (now («difference_deviations» .entry)) (now («last_expected» .entry)) (now («last_anomalous» .entry)) (now (high .entry)) (now (low .entry)) (now (median .entry)) (now («ideal_high» .entry)) (now («ideal_low» .entry)) (now (neighbours .entry))) (Judging.raisedOr r l (lent (now (point .entry)) (now (scale .entry)) (now (shift .entry)) (now («difference_deviations» .entry)) (now («last_expected» .entry)) (now («last_anomalous» .entry)) (now (high .entry)) (now (low .entry)) (now (median .entry)) (now («ideal_high» .entry)) (now («ideal_low» .entry)) (now (neighbours .entry))) s threshold grade) j (now (expected .entry)) (now («out_high» .entry)) (now («out_low» .entry)) (now (expected .exit)) (now («out_high» .exit)) (now («out_low» .exit)) ⌝ }
+) -> Settled
+    requires { ⌜ Steps.Branching r l (Steps.branch (now point) (now «difference_deviations») (now high) (now low) (now median)) ⌝ }
+    ensures { λ x. ⌜ x ≡ Steps.raisedOf s r l (Steps.branch (now (point .entry)) (now («difference_deviations» .entry)) (now (high .entry)) (now (low .entry)) (now (median .entry))) threshold grade ⌝ }
 {
     let base = r.base_dimension;
-    let shingle = r.shingle_size;
     let anomaly = l.anomaly;
     let gap = gap_of(r.values_seen, l.has_anomaly, anomaly.values_seen);
     let block = block_of(divector::max_gap_contribution(high, low, base, gap));
-    let start = block_start(block, base);
-    let used = corrected_score(r, l);
     let counted = candidate_run(
         s,
         r,
         l,
-        start,
+        block_start(block, base),
         threshold,
         point,
         difference_deviations,
@@ -806,110 +781,63 @@ fn raise(
         low,
         median,
     );
-    if counted.drift {
-        return Judgment {
-            outcome: Outcome::Accepted(Verdict::Corrected(threshold, CorrectionMode::DATA_DRIFT)),
-            relative_index: 0,
-            state: entered(counted.state, r, l, used),
-        };
-    }
-    write_raised(
-        r,
-        start,
-        point,
-        high,
-        low,
-        median,
-        expected,
-        out_high,
-        out_low,
-    );
-    Judgment {
-        outcome: Outcome::Accepted(Verdict::Raised(threshold, grade)),
-        relative_index: relative_index(block, shingle),
-        state: entered(counted.state.run_grown(), r, l, used),
+    let verdict = last_verdict(counted.drift, threshold, grade);
+    Settled {
+        outcome: Outcome::Accepted(verdict),
+        block,
+        state: entered(run_after(counted), r, l, corrected_score(r, l)),
     }
 }
 
-// An accepted reading.
-fn judge(
+// The candidate branch, and the state that an outcome leaves.
+fn settle_outcome(
     s: PredictorCorrector,
     r: Reading,
     l: LastDescriptor,
+    found: Outcome,
     point: &[f32],
-    scale: &[f32],
-    shift: &[f32],
     difference_deviations: &[f32],
-    last_expected: &[f32],
-    last_anomalous: &[f32],
     high: &[f64],
     low: &[f64],
     median: &[f32],
-    ideal_high: &[f64],
-    ideal_low: &[f64],
-    neighbours: &[f32],
-    expected: &mut [f32],
-    out_high: &mut [f64],
-    out_low: &mut [f64],
-) -> Judgment
-    requires { ⌜ Steps.Fitting r l (lent (now point) (now scale) (now shift) (now «difference_deviations») (now «last_expected») (now «last_anomalous») (now high) (now low) (now median) (now «ideal_high») (now «ideal_low») (now neighbours)) ⌝ ∗ ⌜ Steps.Writing (lent (now point) (now scale) (now shift) (now «difference_deviations») (now «last_expected») (now «last_anomalous») (now high) (now low) (now median) (now «ideal_high») (now «ideal_low») (now neighbours)) (length (now expected)) (length (now «out_high»)) (length (now «out_low»)) ⌝ }
-    ensures { λ j. ⌜ Steps.Settled s r l (lent (now (point .entry)) (now (scale .entry)) (now (shift .entry)) (now («difference_deviations» .entry)) (now («last_expected» .entry)) (now («last_anomalous» .entry)) (now (high .entry)) (now (low .entry)) (now (median .entry)) (now («ideal_high» .entry)) (now («ideal_low» .entry)) (now (neighbours .entry))) (Judging.verdict r l (lent (now (point .entry)) (now (scale .entry)) (now (shift .entry)) (now («difference_deviations» .entry)) (now («last_expected» .entry)) (now («last_anomalous» .entry)) (now (high .entry)) (now (low .entry)) (now (median .entry)) (now («ideal_high» .entry)) (now («ideal_low» .entry)) (now (neighbours .entry))) s) j (now (expected .entry)) (now («out_high» .entry)) (now («out_low» .entry)) (now (expected .exit)) (now («out_high» .exit)) (now («out_low» .exit)) ⌝ }
+) -> Settled
+    requires { ⌜ Steps.AcceptedFits found r l (Steps.branch (now point) (now «difference_deviations») (now high) (now low) (now median)) ⌝ }
+    ensures { λ x. ⌜ x ≡ Steps.settledOf s r l (Steps.branch (now (point .entry)) (now («difference_deviations» .entry)) (now (high .entry)) (now (low .entry)) (now (median .entry))) found ⌝ }
 {
-    let verdict = open_verdict(
-        s.basic_thresholder,
-        s.auto_adjust,
-        r,
-        l,
-        point,
-        scale,
-        shift,
-        difference_deviations,
-        last_expected,
-        last_anomalous,
-        high,
-        low,
-        median,
-        ideal_high,
-        ideal_low,
-        neighbours,
-    );
-    match verdict {
-        Verdict::Quiet(_) => Judgment {
-            outcome: Outcome::Accepted(verdict),
-            relative_index: 0,
-            state: entered(s.run_ended(), r, l, r.score),
-        },
-        Verdict::Corrected(_, _) => Judgment {
-            outcome: Outcome::Accepted(verdict),
-            relative_index: 0,
-            state: entered(s.auto_adjusted(point), r, l, corrected_score(r, l)),
-        },
-        Verdict::Raised(threshold, grade) => raise(
-            s,
-            r,
-            l,
-            threshold,
-            grade,
-            point,
-            scale,
-            shift,
-            difference_deviations,
-            last_expected,
-            last_anomalous,
-            high,
-            low,
-            median,
-            ideal_high,
-            ideal_low,
-            neighbours,
-            expected,
-            out_high,
-            out_low,
-        ),
-        Verdict::Skipped => Judgment {
-            outcome: Outcome::Accepted(verdict),
-            relative_index: 0,
+    match found {
+        Outcome::Refused(_) => Settled {
+            outcome: found,
+            block: 0,
             state: s,
+        },
+        Outcome::Accepted(verdict) => match verdict {
+            Verdict::Quiet(_) => Settled {
+                outcome: found,
+                block: 0,
+                state: entered(s.run_ended(), r, l, r.score),
+            },
+            Verdict::Corrected(_, _) => Settled {
+                outcome: found,
+                block: 0,
+                state: entered(s.auto_adjusted(point), r, l, corrected_score(r, l)),
+            },
+            Verdict::Raised(threshold, grade) => raise(
+                s,
+                r,
+                l,
+                threshold,
+                grade,
+                point,
+                difference_deviations,
+                high,
+                low,
+                median,
+            ),
+            Verdict::Skipped => Settled {
+                outcome: found,
+                block: 0,
+                state: s,
+            },
         },
     }
 }
@@ -939,7 +867,11 @@ pub fn detect_and_modify(
     ensures { λ j. ⌜ Judged.Judged s r l (lent (now (point .entry)) (now (scale .entry)) (now (shift .entry)) (now («difference_deviations» .entry)) (now («last_expected» .entry)) (now («last_anomalous» .entry)) (now (high .entry)) (now (low .entry)) (now (median .entry)) (now («ideal_high» .entry)) (now («ideal_low» .entry)) (now (neighbours .entry))) j (now (expected .entry)) (now («out_high» .entry)) (now («out_low» .entry)) (now (expected .exit)) (now («out_high» .exit)) (now («out_low» .exit)) ⌝ }
 {
     let base = s.base_dimension as usize;
-    let answer = descriptor::answer(
+    let found = open_outcome(
+        s.basic_thresholder,
+        s.auto_adjust,
+        s.counts_ok(),
+        base,
         r,
         l,
         point,
@@ -954,37 +886,37 @@ pub fn detect_and_modify(
         ideal_high,
         ideal_low,
         neighbours,
-        base,
         expected.len(),
         out_high.len(),
         out_low.len(),
-        s.counts_ok(),
     );
-    match answer {
-        Answer::Done => judge(
-            s,
+    let settled = settle_outcome(
+        s,
+        r,
+        l,
+        found,
+        point,
+        difference_deviations,
+        high,
+        low,
+        median,
+    );
+    let outcome = settled.outcome;
+    let state = settled.state;
+    Judgment {
+        outcome,
+        relative_index: write_raised(
+            outcome,
             r,
-            l,
+            settled.block,
             point,
-            scale,
-            shift,
-            difference_deviations,
-            last_expected,
-            last_anomalous,
             high,
             low,
             median,
-            ideal_high,
-            ideal_low,
-            neighbours,
             expected,
             out_high,
             out_low,
         ),
-        Answer::Refused(why) => Judgment {
-            outcome: Outcome::Refused(why),
-            relative_index: 0,
-            state: s,
-        },
+        state,
     }
 }

@@ -1,10 +1,8 @@
-use mathlib.Core.Path.{_≡_, _∙_, ap, sym, refl}
-use mathlib.Core.List.{List}
+use mathlib.Core.Path.{_≡_, _∙_, ap}
 use native.Mathlib.Omega.{arith}
 use denote.Ref.{now}
 use lib.ListN.{length, length-take, take}
 use lib.Seq.{length-take-le}
-use lib.Ieee.{Float}
 use Rattle.uncertainty_box.specs.Box.{uncertaintyBox}
 use Rattle.detection.specs.Const.{zero32}
 use Rattle.detection.proofs.Work.{front-is, take-replicate}

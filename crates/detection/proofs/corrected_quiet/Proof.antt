@@ -1,4 +1,3 @@
-use mathlib.Core.Path.{_∙_, ap}
 use borrow.Author.Needs.{needs}
 use Rattle.detection.proofs.corrected_quiet.Statement.{statement}
 use Rattle.detection.proofs.corrected_quiet.Tie as tie

@@ -1,12 +1,12 @@
-use mathlib.Core.Path.{_≡_, _∙_, ap, sym, refl}
+use mathlib.Core.Path.{_∙_, ap, refl}
 use mathlib.Core.Bool.{Bool}
 use denote.Ref.{now}
 use lib.ListN.{length}
-use Rattle.descriptor.specs.Lent.{Lent, lent}
-use Rattle.descriptor.specs.Checks.{answerOf}
-use Rattle.predictorcorrector.specs.State.{stateCountsOk}
-use Rattle.detection.proofs.Entry.{fitting, writing}
-use Rattle.detection.proofs.Settle.{done-judged, refused-judged}
+use mir.Syntax.{w32}
+use mir.ValLaws.{toZ-ofZ}
+use Rattle.descriptor.specs.Lent.{lent}
+use Rattle.detection.specs.Steps.{openOutcome}
+use Rattle.detection.proofs.Settle.{settle-fits, settled-is, write-fits, judged}
 use borrow.Author.Needs.{needs}
 use Rattle.detection.proofs.detect_and_modify.Statement.{statement}
 use Rattle.detection.proofs.detect_and_modify.Tie as tie
@@ -17,22 +17,22 @@ cast-base c = search needs
 counts-ok-requires : tie.Need-counts-ok-requires
 counts-ok-requires c κs = search needs
 
-answer-requires : tie.Need-answer-requires
-answer-requires c κs = search needs
+open-outcome-requires : tie.Need-open-outcome-requires
+open-outcome-requires c κs = search needs
 
-enum-told : tie.Need-enum-told
-enum-told c = search needs
+settle-outcome-requires : tie.Need-settle-outcome-requires
+settle-outcome-requires c κs =
+    let b = lent (now (c .before .before .before .before .before .before .before .before .before .before .before .before .before .before .before .before .before .before .args .point)) (now (c .before .before .before .before .before .before .before .before .before .before .before .before .before .before .before .before .before .before .args .scale)) (now (c .before .before .before .before .before .before .before .before .before .before .before .before .before .before .before .before .before .before .args .shift)) (now (c .before .before .before .before .before .before .before .before .before .before .before .before .before .before .before .before .before .before .args .difference-deviations)) (now (c .before .before .before .before .before .before .before .before .before .before .before .before .before .before .before .before .before .before .args .last-expected)) (now (c .before .before .before .before .before .before .before .before .before .before .before .before .before .before .before .before .before .before .args .last-anomalous)) (now (c .before .before .before .before .before .before .before .before .before .before .before .before .before .before .before .before .before .before .args .high)) (now (c .before .before .before .before .before .before .before .before .before .before .before .before .before .before .before .before .before .before .args .low)) (now (c .before .before .before .before .before .before .before .before .before .before .before .before .before .before .before .before .before .before .args .median)) (now (c .before .before .before .before .before .before .before .before .before .before .before .before .before .before .before .before .before .before .args .ideal-high)) (now (c .before .before .before .before .before .before .before .before .before .before .before .before .before .before .before .before .before .before .args .ideal-low)) (now (c .before .before .before .before .before .before .before .before .before .before .before .before .before .before .before .before .before .before .args .neighbours)) in
+    let a = c .before .before .before .before .before .before .before .before .before .before .before .before .before .before .before .before .before .before .args in
+    let is = c .open-outcome .ensures ∙ ap (λ (t : Bool). openOutcome (a .r) (a .l) b (a .s .«basic_thresholder») (a .s .«auto_adjust») (a .s .«base_dimension») (length (now (c .before .before .before .before .before .before .before .before .before .before .before .before .before .before .before .before .before .before .args .expected))) (length (now (c .before .before .before .before .before .before .before .before .before .before .before .before .before .before .before .before .before .before .args .out-high))) (length (now (c .before .before .before .before .before .before .before .before .before .before .before .before .before .before .before .before .before .before .args .out-low))) t) (c .before .counts-ok .ensures) in
+    settle-fits (a .s) (a .r) (a .l) b (length (now (c .before .before .before .before .before .before .before .before .before .before .before .before .before .before .before .before .before .before .args .expected))) (length (now (c .before .before .before .before .before .before .before .before .before .before .before .before .before .before .before .before .before .before .args .out-high))) (length (now (c .before .before .before .before .before .before .before .before .before .before .before .before .before .before .before .before .before .before .args .out-low))) (c .open-outcome .result) is
 
-judge-requires : tie.Need-judge-requires
-judge-requires c κs =
+write-raised-requires : tie.Need-write-raised-requires
+write-raised-requires c κs =
     let b = lent (now (c .before .before .before .before .before .before .before .before .before .before .before .before .before .before .before .before .before .before .before .before .before .before .before .args .point)) (now (c .before .before .before .before .before .before .before .before .before .before .before .before .before .before .before .before .before .before .before .before .before .before .before .args .scale)) (now (c .before .before .before .before .before .before .before .before .before .before .before .before .before .before .before .before .before .before .before .before .before .before .before .args .shift)) (now (c .before .before .before .before .before .before .before .before .before .before .before .before .before .before .before .before .before .before .before .before .before .before .before .args .difference-deviations)) (now (c .before .before .before .before .before .before .before .before .before .before .before .before .before .before .before .before .before .before .before .before .before .before .before .args .last-expected)) (now (c .before .before .before .before .before .before .before .before .before .before .before .before .before .before .before .before .before .before .before .before .before .before .before .args .last-anomalous)) (now (c .before .before .before .before .before .before .before .before .before .before .before .before .before .before .before .before .before .before .before .before .before .before .before .args .high)) (now (c .before .before .before .before .before .before .before .before .before .before .before .before .before .before .before .before .before .before .before .before .before .before .before .args .low)) (now (c .before .before .before .before .before .before .before .before .before .before .before .before .before .before .before .before .before .before .before .before .before .before .before .args .median)) (now (c .before .before .before .before .before .before .before .before .before .before .before .before .before .before .before .before .before .before .before .before .before .before .before .args .ideal-high)) (now (c .before .before .before .before .before .before .before .before .before .before .before .before .before .before .before .before .before .before .before .before .before .before .before .args .ideal-low)) (now (c .before .before .before .before .before .before .before .before .before .before .before .before .before .before .before .before .before .before .before .before .before .before .before .args .neighbours)) in
     let a = c .before .before .before .before .before .before .before .before .before .before .before .before .before .before .before .before .before .before .before .before .before .before .before .args in
-    let q = c .before .before .before .before .before .answer .ensures ∙ ap (λ (t : Bool). answerOf (a .r) (a .l) b (a .s .«base_dimension») (length (now (c .before .before .before .before .before .before .before .before .before .before .before .before .before .before .before .before .before .before .before .before .before .before .before .args .expected))) (length (now (c .before .before .before .before .before .before .before .before .before .before .before .before .before .before .before .before .before .before .before .before .before .before .before .args .out-high))) (length (now (c .before .before .before .before .before .before .before .before .before .before .before .before .before .before .before .before .before .before .before .before .before .before .before .args .out-low))) t) (c .before .before .before .before .before .before .counts-ok .ensures) in
-    let d = sym q ∙ c .before .before .before .enum-told .given .1 in
-    (fitting (a .r) (a .l) b (a .s .«base_dimension») (length (now (c .before .before .before .before .before .before .before .before .before .before .before .before .before .before .before .before .before .before .before .before .before .before .before .args .expected))) (length (now (c .before .before .before .before .before .before .before .before .before .before .before .before .before .before .before .before .before .before .before .before .before .before .before .args .out-high))) (length (now (c .before .before .before .before .before .before .before .before .before .before .before .before .before .before .before .before .before .before .before .before .before .before .before .args .out-low))) (stateCountsOk (a .s)) d, writing (a .r) (a .l) b (a .s .«base_dimension») (length (now (c .before .before .before .before .before .before .before .before .before .before .before .before .before .before .before .before .before .before .before .before .before .before .before .args .expected))) (length (now (c .before .before .before .before .before .before .before .before .before .before .before .before .before .before .before .before .before .before .before .before .before .before .before .args .out-high))) (length (now (c .before .before .before .before .before .before .before .before .before .before .before .before .before .before .before .before .before .before .before .before .before .before .before .args .out-low))) (stateCountsOk (a .s)) d)
-
-enum-known-answer : tie.Need-enum-known-answer
-enum-known-answer c = search needs
+    let is = c .before .before .before .before .before .open-outcome .ensures ∙ ap (λ (t : Bool). openOutcome (a .r) (a .l) b (a .s .«basic_thresholder») (a .s .«auto_adjust») (a .s .«base_dimension») (length (now (c .before .before .before .before .before .before .before .before .before .before .before .before .before .before .before .before .before .before .before .before .before .before .before .args .expected))) (length (now (c .before .before .before .before .before .before .before .before .before .before .before .before .before .before .before .before .before .before .before .before .before .before .before .args .out-high))) (length (now (c .before .before .before .before .before .before .before .before .before .before .before .before .before .before .before .before .before .before .before .before .before .before .before .args .out-low))) t) (c .before .before .before .before .before .before .counts-ok .ensures) in
+    write-fits (a .s) (a .r) (a .l) b (length (now (c .before .before .before .before .before .before .before .before .before .before .before .before .before .before .before .before .before .before .before .before .before .before .before .args .expected))) (length (now (c .before .before .before .before .before .before .before .before .before .before .before .before .before .before .before .before .before .before .before .before .before .before .before .args .out-high))) (length (now (c .before .before .before .before .before .before .before .before .before .before .before .before .before .before .before .before .before .before .before .before .before .before .before .args .out-low))) (c .before .before .before .before .before .open-outcome .result) is (c .before .before .before .before .settle-outcome .result) (c .before .before .before .before .settle-outcome .ensures)
 
 same-length : tie.Need-same-length
 same-length c = search needs
@@ -47,15 +47,10 @@ returns : tie.Need-returns
 returns c =
     let b = lent (now (c .before .before .before .before .before .before .before .before .before .before .before .before .before .before .before .before .before .before .before .before .before .before .before .before .before .before .before .before .before .before .args .point)) (now (c .before .before .before .before .before .before .before .before .before .before .before .before .before .before .before .before .before .before .before .before .before .before .before .before .before .before .before .before .before .before .args .scale)) (now (c .before .before .before .before .before .before .before .before .before .before .before .before .before .before .before .before .before .before .before .before .before .before .before .before .before .before .before .before .before .before .args .shift)) (now (c .before .before .before .before .before .before .before .before .before .before .before .before .before .before .before .before .before .before .before .before .before .before .before .before .before .before .before .before .before .before .args .difference-deviations)) (now (c .before .before .before .before .before .before .before .before .before .before .before .before .before .before .before .before .before .before .before .before .before .before .before .before .before .before .before .before .before .before .args .last-expected)) (now (c .before .before .before .before .before .before .before .before .before .before .before .before .before .before .before .before .before .before .before .before .before .before .before .before .before .before .before .before .before .before .args .last-anomalous)) (now (c .before .before .before .before .before .before .before .before .before .before .before .before .before .before .before .before .before .before .before .before .before .before .before .before .before .before .before .before .before .before .args .high)) (now (c .before .before .before .before .before .before .before .before .before .before .before .before .before .before .before .before .before .before .before .before .before .before .before .before .before .before .before .before .before .before .args .low)) (now (c .before .before .before .before .before .before .before .before .before .before .before .before .before .before .before .before .before .before .before .before .before .before .before .before .before .before .before .before .before .before .args .median)) (now (c .before .before .before .before .before .before .before .before .before .before .before .before .before .before .before .before .before .before .before .before .before .before .before .before .before .before .before .before .before .before .args .ideal-high)) (now (c .before .before .before .before .before .before .before .before .before .before .before .before .before .before .before .before .before .before .before .before .before .before .before .before .before .before .before .before .before .before .args .ideal-low)) (now (c .before .before .before .before .before .before .before .before .before .before .before .before .before .before .before .before .before .before .before .before .before .before .before .before .before .before .before .before .before .before .args .neighbours)) in
     let a = c .before .before .before .before .before .before .before .before .before .before .before .before .before .before .before .before .before .before .before .before .before .before .before .before .before .before .before .before .before .before .args in
-    let q = c .before .before .before .before .before .before .before .before .before .before .before .before .answer .ensures ∙ ap (λ (t : Bool). answerOf (a .r) (a .l) b (a .s .«base_dimension») (length (now (c .before .before .before .before .before .before .before .before .before .before .before .before .before .before .before .before .before .before .before .before .before .before .before .before .before .before .before .before .before .before .args .expected))) (length (now (c .before .before .before .before .before .before .before .before .before .before .before .before .before .before .before .before .before .before .before .before .before .before .before .before .before .before .before .before .before .before .args .out-high))) (length (now (c .before .before .before .before .before .before .before .before .before .before .before .before .before .before .before .before .before .before .before .before .before .before .before .before .before .before .before .before .before .before .args .out-low))) t) (c .before .before .before .before .before .before .before .before .before .before .before .before .before .counts-ok .ensures) in
-    done-judged (a .s) (a .r) (a .l) b _ (now (c .before .before .before .before .before .before .before .before .before .before .before .before .before .before .before .before .before .before .before .before .before .before .before .before .before .before .before .before .before .before .args .expected)) (now (c .before .before .before .before .before .before .before .before .before .before .before .before .before .before .before .before .before .before .before .before .before .before .before .before .before .before .before .before .before .before .args .out-high)) (now (c .before .before .before .before .before .before .before .before .before .before .before .before .before .before .before .before .before .before .before .before .before .before .before .before .before .before .before .before .before .before .args .out-low)) _ _ _ (sym q ∙ c .before .before .before .before .before .before .before .before .before .before .enum-told .given .1) (c .before .before .before .before .before .before .judge .ensures)
-
-returns-2 : tie.Need-returns-2
-returns-2 c =
-    let b = lent (now (c .before .before .before .before .before .before .before .before .before .before .before .before .before .before .before .before .before .before .before .before .before .args .point)) (now (c .before .before .before .before .before .before .before .before .before .before .before .before .before .before .before .before .before .before .before .before .before .args .scale)) (now (c .before .before .before .before .before .before .before .before .before .before .before .before .before .before .before .before .before .before .before .before .before .args .shift)) (now (c .before .before .before .before .before .before .before .before .before .before .before .before .before .before .before .before .before .before .before .before .before .args .difference-deviations)) (now (c .before .before .before .before .before .before .before .before .before .before .before .before .before .before .before .before .before .before .before .before .before .args .last-expected)) (now (c .before .before .before .before .before .before .before .before .before .before .before .before .before .before .before .before .before .before .before .before .before .args .last-anomalous)) (now (c .before .before .before .before .before .before .before .before .before .before .before .before .before .before .before .before .before .before .before .before .before .args .high)) (now (c .before .before .before .before .before .before .before .before .before .before .before .before .before .before .before .before .before .before .before .before .before .args .low)) (now (c .before .before .before .before .before .before .before .before .before .before .before .before .before .before .before .before .before .before .before .before .before .args .median)) (now (c .before .before .before .before .before .before .before .before .before .before .before .before .before .before .before .before .before .before .before .before .before .args .ideal-high)) (now (c .before .before .before .before .before .before .before .before .before .before .before .before .before .before .before .before .before .before .before .before .before .args .ideal-low)) (now (c .before .before .before .before .before .before .before .before .before .before .before .before .before .before .before .before .before .before .before .before .before .args .neighbours)) in
-    let a = c .before .before .before .before .before .before .before .before .before .before .before .before .before .before .before .before .before .before .before .before .before .args in
-    let q = c .before .before .before .answer .ensures ∙ ap (λ (t : Bool). answerOf (a .r) (a .l) b (a .s .«base_dimension») (length (now (c .before .before .before .before .before .before .before .before .before .before .before .before .before .before .before .before .before .before .before .before .before .args .expected))) (length (now (c .before .before .before .before .before .before .before .before .before .before .before .before .before .before .before .before .before .before .before .before .before .args .out-high))) (length (now (c .before .before .before .before .before .before .before .before .before .before .before .before .before .before .before .before .before .before .before .before .before .args .out-low))) t) (c .before .before .before .before .counts-ok .ensures) in
-    refused-judged (a .s) (a .r) (a .l) b _ (now (c .before .before .before .before .before .before .before .before .before .before .before .before .before .before .before .before .before .before .before .before .before .args .expected)) (now (c .before .before .before .before .before .before .before .before .before .before .before .before .before .before .before .before .before .before .before .before .before .args .out-high)) (now (c .before .before .before .before .before .before .before .before .before .before .before .before .before .before .before .before .before .before .before .before .before .args .out-low)) _ (sym q ∙ c .before .answer2 .given .1) refl refl refl
+    let is = c .before .before .before .before .before .before .before .before .before .before .before .before .open-outcome .ensures ∙ ap (λ (t : Bool). openOutcome (a .r) (a .l) b (a .s .«basic_thresholder») (a .s .«auto_adjust») (a .s .«base_dimension») (length (now (c .before .before .before .before .before .before .before .before .before .before .before .before .before .before .before .before .before .before .before .before .before .before .before .before .before .before .before .before .before .before .args .expected))) (length (now (c .before .before .before .before .before .before .before .before .before .before .before .before .before .before .before .before .before .before .before .before .before .before .before .before .before .before .before .before .before .before .args .out-high))) (length (now (c .before .before .before .before .before .before .before .before .before .before .before .before .before .before .before .before .before .before .before .before .before .before .before .before .before .before .before .before .before .before .args .out-low))) t) (c .before .before .before .before .before .before .before .before .before .before .before .before .before .counts-ok .ensures) in
+    judged (a .s) (a .r) (a .l) b (now (c .before .before .before .before .before .before .before .before .before .before .before .before .before .before .before .before .before .before .before .before .before .before .before .before .before .before .before .before .before .before .args .expected)) (now (c .before .before .before .before .before .before .before .before .before .before .before .before .before .before .before .before .before .before .before .before .before .before .before .before .before .before .before .before .before .before .args .out-high)) (now (c .before .before .before .before .before .before .before .before .before .before .before .before .before .before .before .before .before .before .before .before .before .before .before .before .before .before .before .before .before .before .args .out-low)) _ _ _ (c .before .before .before .before .before .before .write-raised .result) _ (c .before .before .before .before .before .before .before .before .before .before .before .settle-outcome .result)
+    (settled-is (a .s) (a .r) (a .l) b (length (now (c .before .before .before .before .before .before .before .before .before .before .before .before .before .before .before .before .before .before .before .before .before .before .before .before .before .before .before .before .before .before .args .expected))) (length (now (c .before .before .before .before .before .before .before .before .before .before .before .before .before .before .before .before .before .before .before .before .before .before .before .before .before .before .before .before .before .before .args .out-high))) (length (now (c .before .before .before .before .before .before .before .before .before .before .before .before .before .before .before .before .before .before .before .before .before .before .before .before .before .before .before .before .before .before .args .out-low))) (c .before .before .before .before .before .before .before .before .before .before .before .before .open-outcome .result) is (c .before .before .before .before .before .before .before .before .before .before .before .settle-outcome .result) (c .before .before .before .before .before .before .before .before .before .before .before .settle-outcome .ensures)) (c .before .before .before .before .before .before .write-raised .ensures) refl
+    (toZ-ofZ w32 (c .before .before .before .before .before .before .write-raised .result) (record { sfits = c .before .before .before .before .before .before .write-raised .ok })) refl
 
 pub detect-and-modify-spec : {M : Type 1} → statement M
 detect-and-modify-spec =
@@ -63,12 +58,10 @@ detect-and-modify-spec =
     (tie.spec
     cast-base
     counts-ok-requires
-    answer-requires
-    enum-told
-    judge-requires
-    enum-known-answer
+    open-outcome-requires
+    settle-outcome-requires
+    write-raised-requires
     same-length
     same-length-2
     same-length-3
-    returns
-    returns-2)
+    returns)

@@ -1,5 +1,4 @@
 use borrow.Author.Tests.{lt-ltb, le-ltb}
-use mathlib.Core.Path.{_∙_, ap}
 use borrow.Author.Needs.{needs}
 use Rattle.detection.proofs.in_shingle.Statement.{statement}
 use Rattle.detection.proofs.in_shingle.Tie as tie

@@ -2,7 +2,6 @@ use mathlib.Core.Path.{_∙_, ap, subst, sym}
 use Prim.Native.Nat.{ℕ, _*_, _≤_}
 use native.Mathlib.Nat.{mul-le-mul}
 use native.Mathlib.Omega.{arith}
-use Rattle.divector.specs.declared.Block.{Block}
 use Rattle.detection.specs.Judging.{blockOf}
 use borrow.Author.Needs.{needs}
 use Rattle.detection.proofs.start_of.Statement.{statement}

@@ -1,12 +1,9 @@
 use mathlib.Core.Path.{_≡_, _∙_, ap, sym, refl}
-use mathlib.Core.List.{List}
 use native.Mathlib.Omega.{arith}
 use denote.Ref.{now}
 use lib.ListN.{length, take, length-take, length-append}
 use lib.Seq.{length-take-le}
-use lib.Ieee.{Float}
 use Rattle.uncertainty_box.specs.Box.{withinUnertaintyBox}
-use Rattle.corrector.specs.Corrector.{expectedPoint}
 use Rattle.detection.proofs.Work.{front-is, expected-is}
 use borrow.Author.Needs.{needs}
 use Rattle.detection.proofs.within_expected.Statement.{statement}
