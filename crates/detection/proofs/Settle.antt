@@ -10,23 +10,19 @@ use lib.Ieee.{Float}
 use Rattle.types.specs.declared.Refusal.{Refusal}
 use Rattle.types.specs.declared.Answer.{Answer}
 use Rattle.types.specs.declared.Answer.the-variants as Answers
-use Rattle.types.specs.declared.CorrectionMode.{CorrectionMode}
 use Rattle.types.specs.declared.CorrectionMode.the-variants.{«DATA_DRIFT»}
 use Rattle.divector.specs.DiVector.{normalized}
-use Rattle.divector.proofs.Laws.{one-length-true}
-use Rattle.corrector.specs.Steps.{Expecting}
-use Rattle.corrector.specs.Corrector.{expectedPoint, expectedFits}
-use Rattle.corrector.proofs.Kept.{expects}
+use Rattle.corrector.specs.Corrector.{expectedPoint}
 use Rattle.descriptor.specs.Checks.{answerOf}
 use Rattle.descriptor.specs.Lent.{Lent}
 use Rattle.descriptor.specs.declared.Reading.{Reading}
 use Rattle.descriptor.specs.declared.LastDescriptor.{LastDescriptor}
-use Rattle.predictorcorrector.specs.State.{runEnded, autoAdjusted, stateCountsOk}
+use Rattle.predictorcorrector.specs.State.{runGrown, stateCountsOk}
 use Rattle.predictorcorrector.specs.declared.PredictorCorrector.{PredictorCorrector}
 use Rattle.detection.specs.Judging.{gap, block, start, expected, newestOf, candidateState, isDataDrift, raisedOr, settled, openVerdict, verdict, runAfterMode, correctedScore, entered, after, relativeIndex, kept}
 use Rattle.detection.specs.Judged.{Judged, outcome, outcomeOf, stateAfter, indexAfter, written}
-use Rattle.detection.specs.Steps.{branch, Branching, AcceptedFits, Writing, Writable, RaisedFits, Written, countedRows, countedRun, openOf, openOutcome, lastVerdict, runAfter, raisedOf, settledOf, isRaised}
-use Rattle.detection.specs.declared.Settled.{Settled}
+use Rattle.detection.specs.Steps.{branch, Branching, Writing, Branched, countedRows, countedRun, openOf, openOutcome, alarmOf, calmState}
+use Rattle.detection.specs.declared.Alarm.{Alarm}
 use Rattle.detection.specs.declared.Counted.{Counted}
 use Rattle.detection.specs.declared.Verdict.{Verdict}
 use Rattle.detection.specs.declared.Verdict.the-variants.{Quiet, Corrected, Raised, Skipped}
@@ -34,26 +30,26 @@ use Rattle.detection.specs.declared.Outcome.{Outcome}
 use Rattle.detection.specs.declared.Outcome.the-variants.{Accepted, Refused}
 use Rattle.detection.specs.declared.Judgment.{Judgment}
 use Rattle.detection.proofs.Candidates.{corrected-adjusts}
-use Rattle.detection.proofs.Entry.{branching, for-branch, writing}
+use Rattle.detection.proofs.Entry.{for-branch, writing}
 
 false-true : _≡_ {A = Bool} false true → ⊥
 false-true h = let z : _≡_ {A = ℕ} 0 1 = cc in omega arith
 
--- What writing leaves.
-module _ (raised : Bool) (r : Reading) (block : ℕ) (point high low median : List Float) (i : ℤ) (e h w : List Float) where
-  pub writes : (e′ h′ w′ : List Float) → raised ≡ true → i ≡ pos block -ℤ pos (r .«shingle_size») +ℤ pos 1
-      → e′ ≡ expectedPoint high low (block * r .«base_dimension») (r .«base_dimension») point median → h′ ≡ normalized (r .score) high low high → w′ ≡ normalized (r .score) high low low
-      → Written raised r block point high low median i e h w e′ h′ w′
-  writes e′ h′ w′ k p q x y = record { index = rw k p; point-is = rw k q; highs = rw k x; lows = rw k y }
+pub expected-at : (r : Reading) (l : LastDescriptor) (b : Lent) (n : ℕ) → n ≡ start r l b → expectedPoint (b .high) (b .low) n (r .«base_dimension») (b .point) (b .median) ≡ expected r l b
+unfolding expected
+expected-at r l b n e = ap (λ (m : ℕ). expectedPoint (b .high) (b .low) m (r .«base_dimension») (b .point) (b .median)) e
 
-  pub keeps : raised ≡ false → i ≡ pos 0 → Written raised r block point high low median i e h w e h w
-  keeps k p = record { index = rw k p; point-is = rw k; highs = rw k; lows = rw k }
+-- An outcome with an alarm is raised so far.
+alarmed : (v : Verdict) → alarmOf (Accepted v) .on ≡ true → v ≡ Raised (alarmOf (Accepted v) .threshold) (alarmOf (Accepted v) .grade)
+unfolding alarmOf
+alarmed (Quiet t) h = absurd (false-true h)
+alarmed (Corrected t m) h = absurd (false-true h)
+alarmed (Raised t g) h = refl
+alarmed Skipped h = absurd (false-true h)
 
-pub expected-by : (high low point median e x : List Float) (base k n : ℕ) → n ≡ k * base → Expecting (length high) (length low) (k * base) base (length point) (length median) (length e)
-    → x ≡ cond (expectedFits (length high) (length low) n base (length point) (length median) (length e)) (expectedPoint high low n base point median) e → x ≡ expectedPoint high low (k * base) base point median
-expected-by high low point median e x base k n st f q =
-    q ∙ ap (λ (m : ℕ). cond (expectedFits (length high) (length low) m base (length point) (length median) (length e)) (expectedPoint high low m base point median) e) st
-    ∙ ap (λ (t : Bool). cond t (expectedPoint high low (k * base) base point median) e) (expects (length high) (length low) (k * base) base (length point) (length median) (length e) f)
+refused-calm : (why : Refusal) → alarmOf (Refused why) .on ≡ true → ⊥
+unfolding alarmOf
+refused-calm why h = false-true h
 
 module _ (s : PredictorCorrector) (r : Reading) (l : LastDescriptor) (b : Lent) where
   pub start-by : (k n : ℕ) → k ≡ block r l b → n ≡ k * r .«base_dimension» → n ≡ start r l b
@@ -61,7 +57,7 @@ module _ (s : PredictorCorrector) (r : Reading) (l : LastDescriptor) (b : Lent) 
   start-by k n e q = q ∙ ap (λ (m : ℕ). m * r .«base_dimension») e
 
   -- The candidate branch, for where the block starts.
-  run-is : (n : ℕ) (threshold : Float) (c : Counted) → n ≡ start r l b
+  pub run-is : (n : ℕ) (threshold : Float) (c : Counted) → n ≡ start r l b
       → c ≡ countedRun s r l threshold (b .point) (b .«difference_deviations») (expectedPoint (b .high) (b .low) n (r .«base_dimension») (b .point) (b .median))
       → (c .drift ≡ isDataDrift r l b s threshold) × (c .state ≡ candidateState r l b s threshold)
   unfolding countedRun countedRows isDataDrift candidateState expected newestOf
@@ -69,197 +65,125 @@ module _ (s : PredictorCorrector) (r : Reading) (l : LastDescriptor) (b : Lent) 
       let p = q ∙ ap (λ (m : ℕ). countedRun s r l threshold (b .point) (b .«difference_deviations») (expectedPoint (b .high) (b .low) m (r .«base_dimension») (b .point) (b .median))) e in
       (ap (λ (x : Counted). x .drift) p, ap (λ (x : Counted). x .state) p)
 
-  pub raised-is : (k n : ℕ) (t g : Float) (c : Counted) (v : Verdict) (u x : PredictorCorrector) (f : Float) → k ≡ block r l b → n ≡ k * r .«base_dimension»
-      → c ≡ countedRun s r l t (b .point) (b .«difference_deviations») (expectedPoint (b .high) (b .low) n (r .«base_dimension») (b .point) (b .median))
-      → v ≡ lastVerdict (c .drift) t g → u ≡ runAfter (c .drift) (c .state) → f ≡ correctedScore r l → x ≡ entered u r l f
-      → _≡_ {A = Settled} (record { outcome = Accepted v; block = k; state = x }) (raisedOf s r l b t g)
-  unfolding raisedOf
-  raised-is k n t g c v u x f bk st cr vd ru sc en =
-      let p = run-is n t c (start-by k n bk st) cr in
-      let o = vd ∙ ap (λ (d : Bool). lastVerdict d t g) (p .0) in
-      let q = en ∙ ap₂ (λ (y : PredictorCorrector) (z : Float). entered y r l z) (ru ∙ ap₂ runAfter (p .0) (p .1)) sc in
-      λ i. record { outcome = Accepted (o i); block = bk i; state = q i }
+  -- The two ends of the candidate branch.
+  module _ (j : Judgment) (t g : Float) (e h w : List Float) where
+    pub drift-branches : isDataDrift r l b s t ≡ true → j .outcome ≡ Accepted (Corrected t «DATA_DRIFT»)
+        → j .state ≡ entered (candidateState r l b s t) r l (correctedScore r l) → j .«relative_index» ≡ pos 0 → Branched s r l b t g j e h w e h w
+    unfolding raisedOr
+    drift-branches d o q i = record { says = rw d o; state = rw d q; index = rw d i; point = rw d; highs = rw d; lows = rw d }
 
-  -- The arms of an outcome.
-  arm-is : (a o p : Outcome) (x : PredictorCorrector) → a ≡ p → o ≡ p → _≡_ {A = Settled} (record { outcome = p; block = 0; state = x }) (settledOf s r l b p) → _≡_ {A = Settled} (record { outcome = a; block = 0; state = x }) (settledOf s r l b o)
-  arm-is a o p x k m q = (λ i. record { outcome = k i; block = 0; state = x }) ∙ q ∙ ap (settledOf s r l b) (sym m)
-
-  module _ (o : Outcome) where
-    pub settles-refused : (why : Refusal) → o ≡ Refused why → _≡_ {A = Settled} (record { outcome = o; block = 0; state = s }) (settledOf s r l b o)
-    unfolding settledOf
-    settles-refused why k = arm-is o o (Refused why) s k k refl
-
-    pub settles-quiet : (v : Verdict) (t : Float) (x : PredictorCorrector) → o ≡ Accepted v → v ≡ Quiet t → x ≡ entered (runEnded s) r l (r .score)
-        → _≡_ {A = Settled} (record { outcome = Accepted v; block = 0; state = x }) (settledOf s r l b o)
-    unfolding settledOf
-    settles-quiet v t x k q e = arm-is (Accepted v) o (Accepted (Quiet t)) x (ap Accepted q) (k ∙ ap Accepted q) (λ i. record { outcome = Accepted (Quiet t); block = 0; state = e i })
-
-    pub settles-corrected : (v : Verdict) (t : Float) (m : CorrectionMode) (x : PredictorCorrector) → o ≡ Accepted v → v ≡ Corrected t m → x ≡ entered (autoAdjusted s (b .point)) r l (correctedScore r l)
-        → _≡_ {A = Settled} (record { outcome = Accepted v; block = 0; state = x }) (settledOf s r l b o)
-    unfolding settledOf
-    settles-corrected v t m x k q e = arm-is (Accepted v) o (Accepted (Corrected t m)) x (ap Accepted q) (k ∙ ap Accepted q) (λ i. record { outcome = Accepted (Corrected t m); block = 0; state = e i })
-
-    pub settles-raised : (v : Verdict) (t g : Float) (x : Settled) → o ≡ Accepted v → v ≡ Raised t g → x ≡ raisedOf s r l b t g → x ≡ settledOf s r l b o
-    unfolding settledOf
-    settles-raised v t g x k q e = e ∙ ap (settledOf s r l b) (sym (k ∙ ap Accepted q))
-
-    pub settles-skipped : (v : Verdict) → o ≡ Accepted v → v ≡ Skipped → _≡_ {A = Settled} (record { outcome = Accepted v; block = 0; state = s }) (settledOf s r l b o)
-    unfolding settledOf
-    settles-skipped v k q = arm-is (Accepted v) o (Accepted Skipped) s (ap Accepted q) (k ∙ ap Accepted q) refl
+    pub raised-branches : (e′ h′ w′ : List Float) → isDataDrift r l b s t ≡ false → j .outcome ≡ Accepted (Raised t g)
+        → j .state ≡ entered (runGrown (candidateState r l b s t)) r l (correctedScore r l) → j .«relative_index» ≡ pos (block r l b) -ℤ pos (r .«shingle_size») +ℤ pos 1
+        → e′ ≡ expected r l b → h′ ≡ normalized (r .score) (b .high) (b .low) (b .high) → w′ ≡ normalized (r .score) (b .high) (b .low) (b .low)
+        → Branched s r l b t g j e h w e′ h′ w′
+    unfolding raisedOr
+    raised-branches e′ h′ w′ d o q i x y z = record { says = rw d o; state = rw d q; index = rw d i; point = rw d x; highs = rw d y; lows = rw d z }
 
   -- The candidate branch looks at five buffers.
-  settled-lent : (o : Outcome) → settledOf s r l (branch (b .point) (b .«difference_deviations») (b .high) (b .low) (b .median)) o ≡ settledOf s r l b o
-  unfolding settledOf raisedOf isDataDrift candidateState newestOf expected start block gap
-  settled-lent (Refused why) = refl
-  settled-lent (Accepted (Quiet t)) = refl
-  settled-lent (Accepted (Corrected t m)) = refl
-  settled-lent (Accepted (Raised t g)) = refl
-  settled-lent (Accepted Skipped) = refl
+  branched-lent : (j : Judgment) (t g : Float) (e h w e′ h′ w′ : List Float)
+      → Branched s r l (branch (b .point) (b .«difference_deviations») (b .high) (b .low) (b .median)) t g j e h w e′ h′ w′ → Branched s r l b t g j e h w e′ h′ w′
+  unfolding raisedOr isDataDrift candidateState newestOf expected start block gap
+  branched-lent j t g e h w e′ h′ w′ p = record { says = p .says; state = p .state; index = p .index; point = p .point; highs = p .highs; lows = p .lows }
 
-  says-of : (v : Verdict) → settledOf s r l b (Accepted v) .outcome ≡ Accepted (settled r l b s v)
-  unfolding settledOf raisedOf settled raisedOr lastVerdict
-  says-of (Quiet t) = refl
-  says-of (Corrected t m) = refl
-  says-of (Raised t g) = refl
-  says-of Skipped = refl
-
-  drift-after : (d : Bool) (t g : Float) → entered (runAfter d (candidateState r l b s t)) r l (correctedScore r l) ≡ after r l b s (cond d (Corrected t «DATA_DRIFT») (Raised t g))
-  unfolding runAfter after runAfterMode
+  drift-after : (d : Bool) (t g : Float) → entered (cond d (candidateState r l b s t) (runGrown (candidateState r l b s t))) r l (correctedScore r l) ≡ after r l b s (cond d (Corrected t «DATA_DRIFT») (Raised t g))
+  unfolding after runAfterMode
   drift-after true t g = refl
   drift-after false t g = refl
 
-  after-of : (v : Verdict) → v ≡ openVerdict r l b (s .«basic_thresholder») (s .«auto_adjust») → settledOf s r l b (Accepted v) .state ≡ after r l b s (settled r l b s v)
-  unfolding settledOf raisedOf settled raisedOr after
-  after-of (Quiet t) q = refl
-  after-of (Corrected t m) q = ap (λ (x : PredictorCorrector). entered x r l (correctedScore r l)) (corrected-adjusts r l b s (s .«basic_thresholder») (s .«auto_adjust») t m q)
-  after-of (Raised t g) q = drift-after (isDataDrift r l b s t) t g
-  after-of Skipped q = refl
-
-  drift-index : (d : Bool) (t g : Float) → cond (isRaised (Accepted (lastVerdict d t g))) (pos (block r l b) -ℤ pos (r .«shingle_size») +ℤ pos 1) (pos 0) ≡ relativeIndex r l b (cond d (Corrected t «DATA_DRIFT») (Raised t g))
-  unfolding lastVerdict isRaised relativeIndex
+  drift-index : (d : Bool) (t g : Float) → cond d (pos 0) (pos (block r l b) -ℤ pos (r .«shingle_size») +ℤ pos 1) ≡ relativeIndex r l b (cond d (Corrected t «DATA_DRIFT») (Raised t g))
+  unfolding relativeIndex
   drift-index true t g = refl
   drift-index false t g = refl
 
-  index-of : (v : Verdict)
-      → cond (isRaised (settledOf s r l b (Accepted v) .outcome)) (pos (settledOf s r l b (Accepted v) .block) -ℤ pos (r .«shingle_size») +ℤ pos 1) (pos 0) ≡ relativeIndex r l b (settled r l b s v)
-  unfolding settledOf raisedOf settled raisedOr isRaised relativeIndex
-  index-of (Quiet t) = refl
-  index-of (Corrected t m) = refl
-  index-of (Raised t g) = drift-index (isDataDrift r l b s t) t g
-  index-of Skipped = refl
-
-  drift-kept : (d : Bool) (t g : Float) (old new : List Float) → cond (isRaised (Accepted (lastVerdict d t g))) new old ≡ kept (cond d (Corrected t «DATA_DRIFT») (Raised t g)) old new
-  unfolding lastVerdict isRaised kept
+  drift-kept : (d : Bool) (t g : Float) (old new : List Float) → cond d old new ≡ kept (cond d (Corrected t «DATA_DRIFT») (Raised t g)) old new
+  unfolding kept
   drift-kept true t g old new = refl
   drift-kept false t g old new = refl
 
-  kept-of : (v : Verdict) (old new : List Float) → cond (isRaised (settledOf s r l b (Accepted v) .outcome)) new old ≡ kept (settled r l b s v) old new
-  unfolding settledOf raisedOf settled raisedOr isRaised kept
-  kept-of (Quiet t) old new = refl
-  kept-of (Corrected t m) old new = refl
-  kept-of (Raised t g) old new = drift-kept (isDataDrift r l b s t) t g old new
-  kept-of Skipped old new = refl
+  module _ (j : Judgment) (e h w : List Float) where
+    -- What judging an accepted reading leaves, for the verdict v.
+    record Leaves (v : Verdict) (e′ h′ w′ : List Float) : Type 0 where
+      says : j .outcome ≡ Accepted v
+      state : j .state ≡ after r l b s v
+      index : j .«relative_index» ≡ relativeIndex r l b v
+      point : e′ ≡ kept v e (expected r l b)
+      highs : h′ ≡ kept v h (normalized (r .score) (b .high) (b .low) (b .high))
+      lows : w′ ≡ kept v w (normalized (r .score) (b .high) (b .low) (b .low))
 
-  -- The expected point by the block that the candidate branch answers.
-  point-of : (v : Verdict) (old : List Float)
-      → cond (isRaised (settledOf s r l b (Accepted v) .outcome)) (expectedPoint (b .high) (b .low) (settledOf s r l b (Accepted v) .block * r .«base_dimension») (r .«base_dimension») (b .point) (b .median)) old ≡ kept (settled r l b s v) old (expected r l b)
-  unfolding settledOf raisedOf settled raisedOr isRaised kept expected start
-  point-of (Quiet t) old = refl
-  point-of (Corrected t m) old = refl
-  point-of (Raised t g) old = drift-kept (isDataDrift r l b s t) t g old (expected r l b)
-  point-of Skipped old = refl
-
-  -- A raised reading's buffers are long enough.
-  writable-of : (v : Verdict) (e h w : ℕ) → Branching r l b → Writing b e h w → isRaised (settledOf s r l b (Accepted v) .outcome) ≡ true
-      → Writable r (settledOf s r l b (Accepted v) .block) (length (b .point)) (length (b .high)) (length (b .low)) (length (b .median)) e h w
-  unfolding settledOf raisedOf isRaised start
-  writable-of (Quiet t) e h w f q k = absurd (false-true k)
-  writable-of (Corrected t m) e h w f q k = absurd (false-true k)
-  writable-of (Raised t g) e h w f q k =
-      record {
-        shingle-most = f .shingle-most;
-        base-most = f .base-most;
-        block-small = f .block-small;
-        expecting = subst (λ (m : ℕ). Expecting (length (b .high)) (length (b .low)) (start r l b) (r .«base_dimension») (length (b .point)) (length (b .median)) m) (sym (q .expected-long)) (f .expecting);
-        one-long = one-length-true (length (b .high)) (length (b .low)) h w (record { second = sym (q .low-long); third = sym (q .out-high-long); fourth = sym (q .out-low-long) });
-      }
-  writable-of Skipped e h w f q k = absurd (false-true k)
-
-  refused-low : (why : Refusal) → isRaised (settledOf s r l b (Refused why) .outcome) ≡ true → ⊥
-  unfolding settledOf isRaised
-  refused-low why k = false-true k
-
-  module _ (e h w : ℕ) where
-    opens : Answer → Outcome
-    opens a = openOf r l b (s .«basic_thresholder») (s .«auto_adjust») a
-
-    -- What the calls that follow an outcome ask.
-    fits-by : (a : Answer) → answerOf r l b (s .«base_dimension») e h w (stateCountsOk s) ≡ a → (v : Verdict) → opens a ≡ Accepted v
-        → Branching r l (branch (b .point) (b .«difference_deviations») (b .high) (b .low) (b .median))
-    unfolding opens openOf
-    fits-by Answers.Done q v k = for-branch r l b (s .«base_dimension») e h w (stateCountsOk s) q
-    fits-by (Answers.Refused why) q v k = absurd (let z : _≡_ {A = ℕ} 0 1 = cc in omega arith)
-
-    writes-by : (a : Answer) → answerOf r l b (s .«base_dimension») e h w (stateCountsOk s) ≡ a → isRaised (settledOf s r l b (opens a) .outcome) ≡ true
-        → Writable r (settledOf s r l b (opens a) .block) (length (b .point)) (length (b .high)) (length (b .low)) (length (b .median)) e h w
-    unfolding opens openOf
-    writes-by Answers.Done q k =
-        writable-of (openVerdict r l b (s .«basic_thresholder») (s .«auto_adjust»)) e h w (branching r l b (s .«base_dimension») e h w (stateCountsOk s) q) (writing r l b (s .«base_dimension») e h w (stateCountsOk s) q) k
-    writes-by (Answers.Refused why) q k = absurd (refused-low why k)
-
-    module _ (o : Outcome) (is : o ≡ openOutcome r l b (s .«basic_thresholder») (s .«auto_adjust») (s .«base_dimension») e h w (stateCountsOk s)) where
-      pub settle-fits : AcceptedFits o r l (branch (b .point) (b .«difference_deviations») (b .high) (b .low) (b .median))
-      unfolding openOutcome opens
-      settle-fits = record { fits = λ v k. fits-by (answerOf r l b (s .«base_dimension») e h w (stateCountsOk s)) refl v (sym is ∙ k) }
-
-      module _ (x : Settled) (then : x ≡ settledOf s r l (branch (b .point) (b .«difference_deviations») (b .high) (b .low) (b .median)) o) where
-        pub settled-is : x ≡ settledOf s r l b (openOutcome r l b (s .«basic_thresholder») (s .«auto_adjust») (s .«base_dimension») e h w (stateCountsOk s))
-        settled-is = then ∙ settled-lent o ∙ ap (settledOf s r l b) is
-
-        pub write-fits : RaisedFits (isRaised (x .outcome)) r (x .block) (length (b .point)) (length (b .high)) (length (b .low)) (length (b .median)) e h w
-        unfolding openOutcome opens
-        write-fits =
-            subst (λ (y : Settled). RaisedFits (isRaised (y .outcome)) r (y .block) (length (b .point)) (length (b .high)) (length (b .low)) (length (b .median)) e h w) (sym settled-is)
-            (record { fits = writes-by (answerOf r l b (s .«base_dimension») e h w (stateCountsOk s)) refl })
-
-  -- What the three calls leave is what the contract says, of a refusal and of an accepted reading.
-  refused-judged : (e h w e′ h′ w′ : List Float) (i : ℤ) (why : Refusal) → answerOf r l b (s .«base_dimension») (length e) (length h) (length w) (stateCountsOk s) ≡ Answers.Refused why → (j : Judgment)
-      → (x : Settled) → x ≡ settledOf s r l b (Refused why)
-      → Written (isRaised (x .outcome)) r (x .block) (b .point) (b .high) (b .low) (b .median) i e h w e′ h′ w′
-      → j .outcome ≡ x .outcome → j .«relative_index» ≡ i → j .state ≡ x .state → Judged s r l b j e h w e′ h′ w′
-  unfolding outcome outcomeOf stateAfter indexAfter written settledOf isRaised
-  refused-judged e h w e′ h′ w′ i why q j x k n o p t =
-      let m = subst (λ (y : Settled). Written (isRaised (y .outcome)) r (y .block) (b .point) (b .high) (b .low) (b .median) i e h w e′ h′ w′) k n in
-      record {
-        says = rw q (o ∙ ap (λ (y : Settled). y .outcome) k);
-        state = rw q (t ∙ ap (λ (y : Settled). y .state) k);
-        index = rw q (p ∙ m .index);
-        point = rw q (m .point-is);
-        highs = rw q (m .highs);
-        lows = rw q (m .lows);
-      }
-
-  module _ (e h w e′ h′ w′ : List Float) (i : ℤ) where
-    judged-by : (a : Answer) → answerOf r l b (s .«base_dimension») (length e) (length h) (length w) (stateCountsOk s) ≡ a → (j : Judgment)
-        → (x : Settled) → x ≡ settledOf s r l b (openOf r l b (s .«basic_thresholder») (s .«auto_adjust») a)
-        → Written (isRaised (x .outcome)) r (x .block) (b .point) (b .high) (b .low) (b .median) i e h w e′ h′ w′
-        → j .outcome ≡ x .outcome → j .«relative_index» ≡ i → j .state ≡ x .state → Judged s r l b j e h w e′ h′ w′
-    unfolding outcome outcomeOf stateAfter indexAfter written openOf verdict
-    judged-by Answers.Done q j x k n o p t =
-        let v = openVerdict r l b (s .«basic_thresholder») (s .«auto_adjust») in
-        let m = subst (λ (y : Settled). Written (isRaised (y .outcome)) r (y .block) (b .point) (b .high) (b .low) (b .median) i e h w e′ h′ w′) k n in
+    branched-leaves : (t g : Float) (e′ h′ w′ : List Float) → Branched s r l b t g j e h w e′ h′ w′ → Leaves (settled r l b s (Raised t g)) e′ h′ w′
+    unfolding settled raisedOr
+    branched-leaves t g e′ h′ w′ p =
+        let d = isDataDrift r l b s t in
         record {
-          says = rw q (o ∙ ap (λ (y : Settled). y .outcome) k ∙ says-of v);
-          state = rw q (t ∙ ap (λ (y : Settled). y .state) k ∙ after-of v refl);
-          index = rw q (p ∙ m .index ∙ index-of v);
-          point = rw q (m .point-is ∙ point-of v e);
-          highs = rw q (m .highs ∙ kept-of v h (normalized (r .score) (b .high) (b .low) (b .high)));
-          lows = rw q (m .lows ∙ kept-of v w (normalized (r .score) (b .high) (b .low) (b .low)));
+          says = p .says;
+          state = p .state ∙ drift-after d t g;
+          index = p .index ∙ drift-index d t g;
+          point = p .point ∙ drift-kept d t g e (expected r l b);
+          highs = p .highs ∙ drift-kept d t g h (normalized (r .score) (b .high) (b .low) (b .high));
+          lows = p .lows ∙ drift-kept d t g w (normalized (r .score) (b .high) (b .low) (b .low));
         }
-    judged-by (Answers.Refused why) q j x k n o p t = refused-judged e h w e′ h′ w′ i why q j x k n o p t
 
-    pub judged : (j : Judgment) (x : Settled) → x ≡ settledOf s r l b (openOutcome r l b (s .«basic_thresholder») (s .«auto_adjust») (s .«base_dimension») (length e) (length h) (length w) (stateCountsOk s))
-        → Written (isRaised (x .outcome)) r (x .block) (b .point) (b .high) (b .low) (b .median) i e h w e′ h′ w′
-        → j .outcome ≡ x .outcome → j .«relative_index» ≡ i → j .state ≡ x .state → Judged s r l b j e h w e′ h′ w′
+    calm-leaves : (v : Verdict) → v ≡ openVerdict r l b (s .«basic_thresholder») (s .«auto_adjust») → alarmOf (Accepted v) .on ≡ false → j .outcome ≡ Accepted v
+        → j .state ≡ calmState s r l (b .point) (Accepted v) → j .«relative_index» ≡ pos 0 → Leaves (settled r l b s v) e h w
+    unfolding settled after relativeIndex kept calmState alarmOf
+    calm-leaves (Quiet t) q a o p i = record { says = o; state = p; index = i; point = refl; highs = refl; lows = refl }
+    calm-leaves (Corrected t m) q a o p i =
+        record { says = o; state = p ∙ ap (λ (x : PredictorCorrector). entered x r l (correctedScore r l)) (corrected-adjusts r l b s (s .«basic_thresholder») (s .«auto_adjust») t m q); index = i; point = refl; highs = refl; lows = refl }
+    calm-leaves (Raised t g) q a o p i = absurd (false-true (sym a))
+    calm-leaves Skipped q a o p i = record { says = o; state = p; index = i; point = refl; highs = refl; lows = refl }
+
+    done-judged : (e′ h′ w′ : List Float) → answerOf r l b (s .«base_dimension») (length e) (length h) (length w) (stateCountsOk s) ≡ Answers.Done
+        → Leaves (settled r l b s (openVerdict r l b (s .«basic_thresholder») (s .«auto_adjust»))) e′ h′ w′ → Judged s r l b j e h w e′ h′ w′
+    unfolding outcome outcomeOf stateAfter indexAfter written verdict
+    done-judged e′ h′ w′ a p = record { says = rw a (p .says); state = rw a (p .state); index = rw a (p .index); point = rw a (p .point); highs = rw a (p .highs); lows = rw a (p .lows) }
+
+    refused-judged : (why : Refusal) → answerOf r l b (s .«base_dimension») (length e) (length h) (length w) (stateCountsOk s) ≡ Answers.Refused why
+        → j .outcome ≡ Refused why → j .state ≡ calmState s r l (b .point) (Refused why) → j .«relative_index» ≡ pos 0 → Judged s r l b j e h w e h w
+    unfolding outcome outcomeOf stateAfter indexAfter written calmState
+    refused-judged why a o q i = record { says = rw a o; state = rw a q; index = rw a i; point = rw a; highs = rw a; lows = rw a }
+
+    -- By the answer of the entry checks.
+    raised-by : (a : Answer) → answerOf r l b (s .«base_dimension») (length e) (length h) (length w) (stateCountsOk s) ≡ a → (e′ h′ w′ : List Float) (t g : Float)
+        → alarmOf (openOf r l b (s .«basic_thresholder») (s .«auto_adjust») a) ≡ record { on = true; threshold = t; grade = g }
+        → Branched s r l (branch (b .point) (b .«difference_deviations») (b .high) (b .low) (b .median)) t g j e h w e′ h′ w′ → Judged s r l b j e h w e′ h′ w′
+    unfolding openOf
+    raised-by Answers.Done q e′ h′ w′ t g k p =
+        let v = openVerdict r l b (s .«basic_thresholder») (s .«auto_adjust») in
+        let m = alarmed v (ap (λ (x : Alarm). x .on) k) ∙ ap₂ Raised (ap (λ (x : Alarm). x .threshold) k) (ap (λ (x : Alarm). x .grade) k) in
+        done-judged e′ h′ w′ q (subst (λ (x : Verdict). Leaves (settled r l b s x) e′ h′ w′) (sym m) (branched-leaves t g e′ h′ w′ (branched-lent j t g e h w e′ h′ w′ p)))
+    raised-by (Answers.Refused why) q e′ h′ w′ t g k p = absurd (refused-calm why (ap (λ (x : Alarm). x .on) k))
+
+    calm-by : (a : Answer) → answerOf r l b (s .«base_dimension») (length e) (length h) (length w) (stateCountsOk s) ≡ a
+        → alarmOf (openOf r l b (s .«basic_thresholder») (s .«auto_adjust») a) .on ≡ false → j .outcome ≡ openOf r l b (s .«basic_thresholder») (s .«auto_adjust») a
+        → j .state ≡ calmState s r l (b .point) (openOf r l b (s .«basic_thresholder») (s .«auto_adjust») a) → j .«relative_index» ≡ pos 0 → Judged s r l b j e h w e h w
+    unfolding openOf
+    calm-by Answers.Done q k o p i = done-judged e h w q (calm-leaves (openVerdict r l b (s .«basic_thresholder») (s .«auto_adjust»)) refl k o p i)
+    calm-by (Answers.Refused why) q k o p i = refused-judged why q o p i
+
+    module _ (o : Outcome) (is : o ≡ openOutcome r l b (s .«basic_thresholder») (s .«auto_adjust») (s .«base_dimension») (length e) (length h) (length w) (stateCountsOk s)) (a : Alarm) (of : a ≡ alarmOf o) where
+      pub raised-judged : (e′ h′ w′ : List Float) → a .on ≡ true → Branched s r l (branch (b .point) (b .«difference_deviations») (b .high) (b .low) (b .median)) (a .threshold) (a .grade) j e h w e′ h′ w′
+          → Judged s r l b j e h w e′ h′ w′
+      unfolding openOutcome
+      raised-judged e′ h′ w′ k p =
+          raised-by (answerOf r l b (s .«base_dimension») (length e) (length h) (length w) (stateCountsOk s)) refl e′ h′ w′ (a .threshold) (a .grade)
+          (sym (of ∙ ap alarmOf is) ∙ (λ i. record { on = k i; threshold = a .threshold; grade = a .grade })) p
+
+      pub calm-judged : a .on ≡ false → j .outcome ≡ o → j .state ≡ calmState s r l (b .point) o → j .«relative_index» ≡ pos 0 → Judged s r l b j e h w e h w
+      unfolding openOutcome
+      calm-judged k q p i =
+          calm-by (answerOf r l b (s .«base_dimension») (length e) (length h) (length w) (stateCountsOk s)) refl (sym (ap (λ (x : Alarm). x .on) (of ∙ ap alarmOf is)) ∙ k) (q ∙ is) (p ∙ ap (calmState s r l (b .point)) is) i
+
+  -- What the candidate branch asks.
+  module _ (e h w : ℕ) where
+    fits-by : (a : Answer) → answerOf r l b (s .«base_dimension») e h w (stateCountsOk s) ≡ a → alarmOf (openOf r l b (s .«basic_thresholder») (s .«auto_adjust») a) .on ≡ true
+        → Branching r l (branch (b .point) (b .«difference_deviations») (b .high) (b .low) (b .median)) × Writing (branch (b .point) (b .«difference_deviations») (b .high) (b .low) (b .median)) e h w
+    unfolding openOf
+    fits-by Answers.Done q k =
+        let f = writing r l b (s .«base_dimension») e h w (stateCountsOk s) q in
+        (for-branch r l b (s .«base_dimension») e h w (stateCountsOk s) q, record { expected-long = f .expected-long; low-long = f .low-long; out-high-long = f .out-high-long; out-low-long = f .out-low-long })
+    fits-by (Answers.Refused why) q k = absurd (refused-calm why k)
+
+    pub raise-fits : (o : Outcome) → o ≡ openOutcome r l b (s .«basic_thresholder») (s .«auto_adjust») (s .«base_dimension») e h w (stateCountsOk s) → (a : Alarm) → a ≡ alarmOf o → a .on ≡ true
+        → Branching r l (branch (b .point) (b .«difference_deviations») (b .high) (b .low) (b .median)) × Writing (branch (b .point) (b .«difference_deviations») (b .high) (b .low) (b .median)) e h w
     unfolding openOutcome
-    judged j x k n o p t = judged-by (answerOf r l b (s .«base_dimension») (length e) (length h) (length w) (stateCountsOk s)) refl j x k n o p t
+    raise-fits o is a of k = fits-by (answerOf r l b (s .«base_dimension») e h w (stateCountsOk s)) refl (sym (ap (λ (x : Alarm). x .on) (of ∙ ap alarmOf is)) ∙ k)

@@ -1,6 +1,6 @@
 -- What the private stages ask of their buffers and promise each other: a reader need not read it. Every accepted reading gives it (proofs/Entry.antt).
 use mathlib.Core.Path.{_≡_}
-use Prim.Native.Nat.{ℕ, _≤_, _+_, _-_, _*_}
+use Prim.Native.Nat.{ℕ, _≤_, _+_, _-_}
 use mathlib.Core.Bool.{Bool, true, false, cond, _&&_}
 use mathlib.Core.List.{List, []}
 use lib.IntN.{ℤ, pos, _+ℤ_, _-ℤ_}
@@ -9,7 +9,7 @@ use lib.Ieee as Ieee
 use lib.Ieee.{Float, binary32}
 use Rattle.types.specs.declared.Answer.{Answer}
 use Rattle.types.specs.declared.Answer.the-variants as Answers
-use Rattle.types.specs.declared.CorrectionMode.the-variants.{NOISE, «ANOMALY_IN_SHINGLE», «DATA_DRIFT»}
+use Rattle.types.specs.declared.CorrectionMode.the-variants.{NOISE, «ANOMALY_IN_SHINGLE»}
 use Rattle.basicthresholder.specs.declared.BasicThresholder.{BasicThresholder}
 use Rattle.corrector.specs.Steps.{Expecting, Correcting}
 use Rattle.corrector.specs.Corrector.{expectedPoint}
@@ -17,19 +17,19 @@ use Rattle.descriptor.specs.Checks.{answerOf}
 use Rattle.descriptor.specs.Lent.{Lent, lent}
 use Rattle.descriptor.specs.declared.Reading.{Reading}
 use Rattle.descriptor.specs.declared.LastDescriptor.{LastDescriptor}
-use Rattle.divector.specs.DiVector.{normalized, oneLength}
+use Rattle.divector.specs.DiVector.{normalized}
 use Rattle.predictorcorrector.specs.State.{runEnded, autoAdjusted, runGrown}
 use Rattle.predictorcorrector.specs.declared.PredictorCorrector.{PredictorCorrector}
 use Rattle.detection.specs.Const.{zero32}
-use Rattle.detection.specs.Judging.{gapOf, recent, opening, noisePass, start, block, isCandidate, candidateWith, isDrift, candidateState, isDataDrift, openVerdict, correctedScore, entered}
+use Rattle.detection.specs.Judging.{gapOf, recent, opening, noisePass, start, block, isCandidate, candidateWith, isDrift, candidateState, isDataDrift, raisedOr, expected, openVerdict, correctedScore, entered}
 use Rattle.detection.specs.declared.Counted.{Counted}
 use Rattle.detection.specs.declared.Passed.{Passed}
 use Rattle.detection.specs.declared.Passed.the-variants.{Ended, Working}
-use Rattle.detection.specs.declared.Verdict.{Verdict}
 use Rattle.detection.specs.declared.Verdict.the-variants.{Quiet, Corrected, Raised, Skipped}
 use Rattle.detection.specs.declared.Outcome.{Outcome}
 use Rattle.detection.specs.declared.Outcome.the-variants.{Accepted, Refused}
-use Rattle.detection.specs.declared.Settled.{Settled}
+use Rattle.detection.specs.declared.Alarm.{Alarm}
+use Rattle.detection.specs.declared.Judgment.{Judgment}
 
 -- The buffers that a stage is lent; the others are left empty, and its definitions do not look at them.
 abbrev pub passing : List Float → List Float → List Float → List Float → List Float → List Float → Lent
@@ -56,9 +56,6 @@ pub record Branching (r : Reading) (l : LastDescriptor) (b : Lent) : Type 0 wher
   pub noise-long : length (b .«difference_deviations») ≡ r .«base_dimension»
   pub expecting : Expecting (length (b .high)) (length (b .low)) (start r l b) (r .«base_dimension») (length (b .point)) (length (b .median)) (length (b .point))
   pub block-small : block r l b ≤ 1024
-
-pub record AcceptedFits (o : Outcome) (r : Reading) (l : LastDescriptor) (b : Lent) : Type 0 where
-  pub fits : (v : Verdict) → o ≡ Accepted v → Branching r l b
 
 -- The buffers that may be written, by their lengths.
 pub record Writing (b : Lent) (e h w : ℕ) : Type 0 where
@@ -112,49 +109,36 @@ openOf r l b t auto (Answers.Refused why) = Refused why
 unfoldable pub openOutcome : Reading → LastDescriptor → Lent → BasicThresholder → Bool → ℕ → ℕ → ℕ → ℕ → Bool → Outcome
 openOutcome r l b t auto base e h w ok = openOf r l b t auto (answerOf r l b base e h w ok)
 
--- The candidate branch: the verdict, and the state before the score enters it.
-unfoldable pub lastVerdict : Bool → Float → Float → Verdict
-lastVerdict drift t g = cond drift (Corrected t «DATA_DRIFT») (Raised t g)
+-- Whether an outcome raises so far, and with what threshold and grade.
+abbrev pub noAlarm : Alarm
+noAlarm = record { on = false; threshold = zero32; grade = zero32 }
 
-unfoldable pub runAfter : Bool → PredictorCorrector → PredictorCorrector
-runAfter drift s = cond drift s (runGrown s)
+unfoldable pub alarmOf : Outcome → Alarm
+alarmOf (Refused why) = noAlarm
+alarmOf (Accepted (Quiet t)) = noAlarm
+alarmOf (Accepted (Corrected t m)) = noAlarm
+alarmOf (Accepted (Raised t g)) = record { on = true; threshold = t; grade = g }
+alarmOf (Accepted Skipped) = noAlarm
 
-module _ (s : PredictorCorrector) (r : Reading) (l : LastDescriptor) (b : Lent) where
-  unfoldable pub raisedOf : Float → Float → Settled
-  raisedOf t g = record {
-    outcome = Accepted (lastVerdict (isDataDrift r l b s t) t g);
-    block = block r l b;
-    state = entered (runAfter (isDataDrift r l b s t) (candidateState r l b s t)) r l (correctedScore r l);
-  }
+-- The state after an outcome that does not reach the candidate branch.
+unfoldable pub calmState : PredictorCorrector → Reading → LastDescriptor → List Float → Outcome → PredictorCorrector
+calmState s r l point (Refused why) = s
+calmState s r l point (Accepted (Quiet t)) = entered (runEnded s) r l (r .score)
+calmState s r l point (Accepted (Corrected t m)) = entered (autoAdjusted s point) r l (correctedScore r l)
+calmState s r l point (Accepted (Raised t g)) = s
+calmState s r l point (Accepted Skipped) = s
 
-  unfoldable pub settledOf : Outcome → Settled
-  settledOf (Refused why) = record { outcome = Refused why; block = 0; state = s }
-  settledOf (Accepted (Quiet t)) = record { outcome = Accepted (Quiet t); block = 0; state = entered (runEnded s) r l (r .score) }
-  settledOf (Accepted (Corrected t m)) = record { outcome = Accepted (Corrected t m); block = 0; state = entered (autoAdjusted s (b .point)) r l (correctedScore r l) }
-  settledOf (Accepted (Raised t g)) = raisedOf t g
-  settledOf (Accepted Skipped) = record { outcome = Accepted Skipped; block = 0; state = s }
+-- What a raised reading leaves in the three buffers.
+pub record Written (r : Reading) (start : ℕ) (point high low median e h w : List Float) : Type 0 where
+  pub point-is : e ≡ expectedPoint high low start (r .«base_dimension») point median
+  pub highs : h ≡ normalized (r .score) high low high
+  pub lows : w ≡ normalized (r .score) high low low
 
-unfoldable pub isRaised : Outcome → Bool
-isRaised (Refused why) = false
-isRaised (Accepted (Quiet t)) = false
-isRaised (Accepted (Corrected t m)) = false
-isRaised (Accepted (Raised t g)) = true
-isRaised (Accepted Skipped) = false
-
--- What writing asks, by the lengths.
-pub record Writable (r : Reading) (block point high low median e h w : ℕ) : Type 0 where
-  pub shingle-most : r .«shingle_size» ≤ 64
-  pub base-most : r .«base_dimension» ≤ 16
-  pub block-small : block ≤ 1024
-  pub expecting : Expecting high low (block * r .«base_dimension») (r .«base_dimension») point median e
-  pub one-long : oneLength high low h w ≡ true
-
-pub record RaisedFits (raised : Bool) (r : Reading) (block point high low median e h w : ℕ) : Type 0 where
-  pub fits : raised ≡ true → Writable r block point high low median e h w
-
--- What is written, and the relative index.
-pub record Written (raised : Bool) (r : Reading) (block : ℕ) (point high low median : List Float) (i : ℤ) (e h w e′ h′ w′ : List Float) : Type 0 where
-  pub index : i ≡ cond raised (pos block -ℤ pos (r .«shingle_size») +ℤ pos 1) (pos 0)
-  pub point-is : e′ ≡ cond raised (expectedPoint high low (block * r .«base_dimension») (r .«base_dimension») point median) e
-  pub highs : h′ ≡ cond raised (normalized (r .score) high low high) h
-  pub lows : w′ ≡ cond raised (normalized (r .score) high low low) w
+-- What the candidate branch leaves.
+pub record Branched (s : PredictorCorrector) (r : Reading) (l : LastDescriptor) (b : Lent) (t g : Float) (j : Judgment) (e h w e′ h′ w′ : List Float) : Type 0 where
+  pub says : j .outcome ≡ Accepted (raisedOr r l b s t g)
+  pub state : j .state ≡ entered (cond (isDataDrift r l b s t) (candidateState r l b s t) (runGrown (candidateState r l b s t))) r l (correctedScore r l)
+  pub index : j .«relative_index» ≡ cond (isDataDrift r l b s t) (pos 0) (pos (block r l b) -ℤ pos (r .«shingle_size») +ℤ pos 1)
+  pub point : e′ ≡ cond (isDataDrift r l b s t) e (expected r l b)
+  pub highs : h′ ≡ cond (isDataDrift r l b s t) h (normalized (r .score) (b .high) (b .low) (b .high))
+  pub lows : w′ ≡ cond (isDataDrift r l b s t) w (normalized (r .score) (b .high) (b .low) (b .low))

@@ -678,25 +678,10 @@ fn relative_index(block: usize, shingle_size: usize) -> i32
     (block as i32) - (shingle_size as i32) + 1
 }
 
-fn is_raised(outcome: Outcome) -> bool
-    ensures { λ r. ⌜ r ≡ Steps.isRaised outcome ⌝ }
-{
-    match outcome {
-        Outcome::Refused(_) => false,
-        Outcome::Accepted(verdict) => match verdict {
-            Verdict::Quiet(_) => false,
-            Verdict::Corrected(_, _) => false,
-            Verdict::Raised(_, _) => true,
-            Verdict::Skipped => false,
-        },
-    }
-}
-
-// Writes the three buffers of a raised reading and answers its relative index; of any other 0, and the buffers are left alone.
+// Past the last test: the buffers are written.
 fn write_raised(
-    outcome: Outcome,
     r: Reading,
-    block: usize,
+    start: usize,
     point: &[f32],
     high: &[f64],
     low: &[f64],
@@ -704,52 +689,21 @@ fn write_raised(
     expected: &mut [f32],
     out_high: &mut [f64],
     out_low: &mut [f64],
-) -> i32
-    requires { ⌜ Steps.RaisedFits (Steps.isRaised outcome) r block (length (now point)) (length (now high)) (length (now low)) (length (now median)) (length (now expected)) (length (now «out_high»)) (length (now «out_low»)) ⌝ }
-    ensures { λ i. ⌜ Steps.Written (Steps.isRaised outcome) r block (now (point .entry)) (now (high .entry)) (now (low .entry)) (now (median .entry)) i (now (expected .entry)) (now («out_high» .entry)) (now («out_low» .entry)) (now (expected .exit)) (now («out_high» .exit)) (now («out_low» .exit)) ⌝ }
+)
+    requires { ⌜ CorrectorSteps.Expecting (length (now high)) (length (now low)) start (r .«base_dimension») (length (now point)) (length (now median)) (length (now expected)) ⌝ ∗ ⌜ DiVector.oneLength (length (now high)) (length (now low)) (length (now «out_high»)) (length (now «out_low»)) ≡ true ⌝ }
+    ensures { λ _. ⌜ Steps.Written r start (now (point .entry)) (now (high .entry)) (now (low .entry)) (now (median .entry)) (now (expected .exit)) (now («out_high» .exit)) (now («out_low» .exit)) ⌝ }
 {
-    if is_raised(outcome) {
-        let base = r.base_dimension;
-        let start = block_start(block, base);
-        corrector::expected_point(high, low, start, base, point, median, expected);
-        divector::normalize_into(
-            high,
-            low,
-            std::num::f32_to_f64_with_nan(r.score),
-            out_high,
-            out_low,
-        );
-        return relative_index(block, r.shingle_size);
-    }
-    0
+    corrector::expected_point(high, low, start, r.base_dimension, point, median, expected);
+    divector::normalize_into(
+        high,
+        low,
+        std::num::f32_to_f64_with_nan(r.score),
+        out_high,
+        out_low,
+    );
 }
 
-// The outcome, the block that contributes most where the candidate branch was reached, and the state.
-struct Settled {
-    outcome: Outcome,
-    block: usize,
-    state: PredictorCorrector,
-}
-
-// The last exit: data drift, or raised and one more of the run.
-fn last_verdict(drift: bool, threshold: f32, grade: f32) -> Verdict
-    ensures { λ v. ⌜ v ≡ Steps.lastVerdict drift threshold grade ⌝ }
-{
-    if drift {
-        return Verdict::Corrected(threshold, CorrectionMode::DATA_DRIFT);
-    }
-    Verdict::Raised(threshold, grade)
-}
-
-fn run_after(counted: Counted) -> PredictorCorrector
-    ensures { λ s. ⌜ s ≡ Steps.runAfter (counted .drift) (counted .state) ⌝ }
-{
-    if counted.drift {
-        return counted.state;
-    }
-    counted.state.run_grown()
-}
-
+// The candidate branch: data drift, or raised, which alone writes the buffers and is one more of the run.
 fn raise(
     s: PredictorCorrector,
     r: Reading,
@@ -761,19 +715,25 @@ fn raise(
     high: &[f64],
     low: &[f64],
     median: &[f32],
-) -> Settled
-    requires { ⌜ Steps.Branching r l (Steps.branch (now point) (now «difference_deviations») (now high) (now low) (now median)) ⌝ }
-    ensures { λ x. ⌜ x ≡ Steps.raisedOf s r l (Steps.branch (now (point .entry)) (now («difference_deviations» .entry)) (now (high .entry)) (now (low .entry)) (now (median .entry))) threshold grade ⌝ }
+    expected: &mut [f32],
+    out_high: &mut [f64],
+    out_low: &mut [f64],
+) -> Judgment
+    requires { ⌜ Steps.Branching r l (Steps.branch (now point) (now «difference_deviations») (now high) (now low) (now median)) ⌝ ∗ ⌜ Steps.Writing (Steps.branch (now point) (now «difference_deviations») (now high) (now low) (now median)) (length (now expected)) (length (now «out_high»)) (length (now «out_low»)) ⌝ }
+    ensures { λ j. ⌜ Steps.Branched s r l (Steps.branch (now (point .entry)) (now («difference_deviations» .entry)) (now (high .entry)) (now (low .entry)) (now (median .entry))) threshold grade j (now (expected .entry)) (now («out_high» .entry)) (now («out_low» .entry)) (now (expected .exit)) (now («out_high» .exit)) (now («out_low» .exit)) ⌝ }
 {
     let base = r.base_dimension;
+    let shingle = r.shingle_size;
     let anomaly = l.anomaly;
     let gap = gap_of(r.values_seen, l.has_anomaly, anomaly.values_seen);
     let block = block_of(divector::max_gap_contribution(high, low, base, gap));
+    let start = block_start(block, base);
+    let used = corrected_score(r, l);
     let counted = candidate_run(
         s,
         r,
         l,
-        block_start(block, base),
+        start,
         threshold,
         point,
         difference_deviations,
@@ -781,63 +741,85 @@ fn raise(
         low,
         median,
     );
-    let verdict = last_verdict(counted.drift, threshold, grade);
-    Settled {
-        outcome: Outcome::Accepted(verdict),
-        block,
-        state: entered(run_after(counted), r, l, corrected_score(r, l)),
+    if counted.drift {
+        return Judgment {
+            outcome: Outcome::Accepted(Verdict::Corrected(threshold, CorrectionMode::DATA_DRIFT)),
+            relative_index: 0,
+            state: entered(counted.state, r, l, used),
+        };
+    }
+    write_raised(
+        r,
+        start,
+        point,
+        high,
+        low,
+        median,
+        expected,
+        out_high,
+        out_low,
+    );
+    Judgment {
+        outcome: Outcome::Accepted(Verdict::Raised(threshold, grade)),
+        relative_index: relative_index(block, shingle),
+        state: entered(counted.state.run_grown(), r, l, used),
     }
 }
 
-// The candidate branch, and the state that an outcome leaves.
-fn settle_outcome(
+// Whether an outcome raises so far, and with what threshold and grade.
+struct Alarm {
+    on: bool,
+    threshold: f32,
+    grade: f32,
+}
+
+fn no_alarm() -> Alarm
+    ensures { λ a. ⌜ a ≡ Steps.noAlarm ⌝ }
+{
+    Alarm {
+        on: false,
+        threshold: 0.0,
+        grade: 0.0,
+    }
+}
+
+fn alarm_of(outcome: Outcome) -> Alarm
+    ensures { λ a. ⌜ a ≡ Steps.alarmOf outcome ⌝ }
+{
+    match outcome {
+        Outcome::Refused(_) => no_alarm(),
+        Outcome::Accepted(verdict) => match verdict {
+            Verdict::Quiet(_) => no_alarm(),
+            Verdict::Corrected(_, _) => no_alarm(),
+            Verdict::Raised(threshold, grade) => Alarm {
+                on: true,
+                threshold,
+                grade,
+            },
+            Verdict::Skipped => no_alarm(),
+        },
+    }
+}
+
+// The state after an outcome that does not reach the candidate branch.
+fn calm_state(
     s: PredictorCorrector,
     r: Reading,
     l: LastDescriptor,
-    found: Outcome,
+    outcome: Outcome,
     point: &[f32],
-    difference_deviations: &[f32],
-    high: &[f64],
-    low: &[f64],
-    median: &[f32],
-) -> Settled
-    requires { ⌜ Steps.AcceptedFits found r l (Steps.branch (now point) (now «difference_deviations») (now high) (now low) (now median)) ⌝ }
-    ensures { λ x. ⌜ x ≡ Steps.settledOf s r l (Steps.branch (now (point .entry)) (now («difference_deviations» .entry)) (now (high .entry)) (now (low .entry)) (now (median .entry))) found ⌝ }
+) -> PredictorCorrector
+    ensures { λ t. ⌜ t ≡ Steps.calmState s r l (now (point .entry)) outcome ⌝ }
 {
-    match found {
-        Outcome::Refused(_) => Settled {
-            outcome: found,
-            block: 0,
-            state: s,
-        },
+    match outcome {
+        Outcome::Refused(_) => s,
         Outcome::Accepted(verdict) => match verdict {
-            Verdict::Quiet(_) => Settled {
-                outcome: found,
-                block: 0,
-                state: entered(s.run_ended(), r, l, r.score),
-            },
-            Verdict::Corrected(_, _) => Settled {
-                outcome: found,
-                block: 0,
-                state: entered(s.auto_adjusted(point), r, l, corrected_score(r, l)),
-            },
-            Verdict::Raised(threshold, grade) => raise(
-                s,
-                r,
-                l,
-                threshold,
-                grade,
-                point,
-                difference_deviations,
-                high,
-                low,
-                median,
-            ),
-            Verdict::Skipped => Settled {
-                outcome: found,
-                block: 0,
-                state: s,
-            },
+            Verdict::Quiet(_) => entered(s.run_ended(), r, l, r.score),
+            Verdict::Corrected(_, _) => {
+                entered(s.auto_adjusted(point), r, l, corrected_score(r, l))
+            }
+            Verdict::Raised(_, _) => s,
+            Verdict::Skipped => s,
         },
     }
 }
@@ -867,7 +849,7 @@ pub fn detect_and_modify(
     ensures { λ j. ⌜ Judged.Judged s r l (lent (now (point .entry)) (now (scale .entry)) (now (shift .entry)) (now («difference_deviations» .entry)) (now («last_expected» .entry)) (now («last_anomalous» .entry)) (now (high .entry)) (now (low .entry)) (now (median .entry)) (now («ideal_high» .entry)) (now («ideal_low» .entry)) (now (neighbours .entry))) j (now (expected .entry)) (now («out_high» .entry)) (now («out_low» .entry)) (now (expected .exit)) (now («out_high» .exit)) (now («out_low» .exit)) ⌝ }
 {
     let base = s.base_dimension as usize;
-    let found = open_outcome(
+    let outcome = open_outcome(
         s.basic_thresholder,
         s.auto_adjust,
         s.counts_ok(),
@@ -890,33 +872,27 @@ pub fn detect_and_modify(
         out_high.len(),
         out_low.len(),
     );
-    let settled = settle_outcome(
-        s,
-        r,
-        l,
-        found,
-        point,
-        difference_deviations,
-        high,
-        low,
-        median,
-    );
-    let outcome = settled.outcome;
-    let state = settled.state;
-    Judgment {
-        outcome,
-        relative_index: write_raised(
-            outcome,
+    let alarm = alarm_of(outcome);
+    if alarm.on {
+        return raise(
+            s,
             r,
-            settled.block,
+            l,
+            alarm.threshold,
+            alarm.grade,
             point,
+            difference_deviations,
             high,
             low,
             median,
             expected,
             out_high,
             out_low,
-        ),
-        state,
+        );
+    }
+    Judgment {
+        outcome,
+        relative_index: 0,
+        state: calm_state(s, r, l, outcome, point),
     }
 }
