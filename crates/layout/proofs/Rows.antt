@@ -5,22 +5,21 @@ use Prim.Native.Nat.{ℕ, zero, suc, _+_, _*_, _<_, _≤_}
 use native.Mathlib.Nat.{not-suc-le-zero, le-of-suc-le-suc}
 use native.Mathlib.Numerals.{add-one}
 use native.Mathlib.Omega.{arith}
-use lib.ListN.{length, getD, set, take, drop, length-set, length-replicate, replicate, getD-replicate, drop-of-length-le}
+use lib.ListN.{length, getD, set, take, drop, length-replicate, replicate, getD-replicate, drop-of-length-le}
 use lib.Seq.{drop-cons, take-suc, append-snoc, set-at, take-all, length-take-le}
 use Rattle.deviation.specs.Const.{zero64}
 use Rattle.deviation.specs.Statistics.{fresh}
 use Rattle.deviation.specs.declared.Deviation.{Deviation}
 use Rattle.predictorcorrector.specs.declared.PredictorCorrector.{PredictorCorrector}
-use Rattle.layout.specs.Numbers.{f32Bytes, f64Bytes, i32Bytes, flagBytes, bytes4, bytes8, pasted}
+use Rattle.layout.specs.Numbers.{f32Bytes, f64Bytes, i32Bytes, flagByte, flagBytes, bytes4, bytes8, pasted}
 use Rattle.layout.specs.Chain.{entries, filled, listOver, encodeHead, encodeStateOver}
 use Rattle.layout.specs.States.{joined, encodeDeviation, encodeThresholder}
-use Rattle.layout.proofs.Pasting.{pasted-length, pasted-all}
-use Rattle.layout.proofs.Laws.{deviation-length}
+use Rattle.layout.proofs.Pasting.{pasted-onwards, set-next}
 
 -- ---- goal over a slice that was start, as far as i.
-set-next : (start goal : List ℕ) (i d : ℕ) → length goal ≡ length start → i < length start
+set-onwards : (start goal : List ℕ) (i d : ℕ) → length goal ≡ length start → i < length start
     → set (take i goal ++ drop i start) i (getD goal i d) ≡ take (i + 1) goal ++ drop (i + 1) start
-set-next start goal i d l k =
+set-onwards start goal i d l k =
     rw (add-one, drop-cons start i d k, take-suc goal i d (omega arith), append-snoc)
     (set-at (take i goal) (getD start i d) (drop (suc i) start) (getD goal i d) i (length-take-le i goal (omega arith)))
 
@@ -32,7 +31,7 @@ module _ (xs : List ℕ) (i : ℕ) (out : List ℕ) (e : out ≡ take i (replica
   pub cleared-next : i < length xs → set out i 0 ≡ take (i + 1) (replicate (length xs) 0) ++ drop (i + 1) xs
   cleared-next h =
       ap₂ (λ (l : List ℕ) (x : ℕ). set l i x) e (sym (getD-replicate {A = ℕ} (length xs) i 0 0 h))
-      ∙ set-next xs (replicate {A = ℕ} (length xs) 0) i 0 (length-replicate {A = ℕ} (length xs) 0) h
+      ∙ set-onwards xs (replicate {A = ℕ} (length xs) 0) i 0 (length-replicate {A = ℕ} (length xs) 0) h
 
   pub cleared-all : length xs ≤ i → out ≡ replicate (length xs) 0
   cleared-all h = e ∙ over-all xs (replicate {A = ℕ} (length xs) 0) i (length-replicate {A = ℕ} (length xs) 0) h
@@ -53,29 +52,20 @@ pub over-next : (xs : List ℕ) (at : ℕ) (ds : List Deviation) (i : ℕ) (out 
 unfolding listOver
 over-next xs at ds i out after d e p h = p ∙ rw (add-one, e, getD-any ds i d (fresh zero64) h)
 
-pub over-length : (xs : List ℕ) (at : ℕ) (ds : List Deviation) (n : ℕ) → at + 36 * n ≤ length xs → length (listOver xs at ds n) ≡ length xs
-unfolding listOver
-over-length xs at ds zero h = refl
-over-length xs at ds (suc n) h =
-    let before = over-length xs at ds n (omega arith) in
-    let size = deviation-length (getD ds n (fresh zero64)) in
-    pasted-length (listOver xs at ds n) (at + 36 * n) (encodeDeviation (getD ds n (fresh zero64))) (omega arith) ∙ before
+-- ---- a state written: what stands before the lists, then the lists.
+abbrev headOver : List ℕ → PredictorCorrector → List ℕ
+headOver xs s =
+    pasted (pasted (set (pasted xs 0 (encodeThresholder (s .«basic_thresholder»))) 149 (flagByte (s .«auto_adjust»))) 150 (bytes4 (s .«run_length»))) 154 (bytes4 (s .«base_dimension»))
 
--- ---- a state written.
-head-pasted : (xs : List ℕ) (s : PredictorCorrector) → length xs ≡ 1310
-    → pasted (pasted (pasted (pasted xs 0 (encodeThresholder (s .«basic_thresholder»))) 149 (flagBytes (s .«auto_adjust»))) 150 (bytes4 (s .«run_length»))) 154 (bytes4 (s .«base_dimension»))
-    ≡ pasted xs 0 (encodeHead s)
-unfolding encodeHead encodeThresholder encodeDeviation joined f32Bytes f64Bytes i32Bytes flagBytes bytes8 bytes4
-head-pasted xs s h =
-    pasted-all xs 0 (encodeThresholder (s .«basic_thresholder») ∷ flagBytes (s .«auto_adjust») ∷ bytes4 (s .«run_length») ∷ bytes4 (s .«base_dimension») ∷ []) (omega arith)
+module _ (xs : List ℕ) (s : PredictorCorrector) (n : ℕ) (h : length xs ≡ 1310) (e : n ≡ entries (s .«auto_adjust») (s .«base_dimension»)) where
+  head-pasted : headOver xs s ≡ pasted xs 0 (encodeHead s)
+  unfolding encodeHead encodeThresholder encodeDeviation joined f32Bytes f64Bytes i32Bytes flagBytes bytes8 bytes4
+  head-pasted =
+      let flag = flagByte (s .«auto_adjust») in
+      let first = encodeThresholder (s .«basic_thresholder») in
+      ap (λ (l : List ℕ). pasted (pasted l 150 (bytes4 (s .«run_length»))) 154 (bytes4 (s .«base_dimension»))) (set-next xs 0 first flag (omega arith))
+      ∙ pasted-onwards xs (first ++ (flag ∷ [])) (bytes4 (s .«run_length») ∷ bytes4 (s .«base_dimension») ∷ []) (omega arith)
 
-pub state-pasted : (xs : List ℕ) (s : PredictorCorrector) (n : ℕ) → length xs ≡ 1310 → n ≡ entries (s .«auto_adjust») (s .«base_dimension»)
-    → listOver
-    (listOver
-    (pasted (pasted (pasted (pasted xs 0 (encodeThresholder (s .«basic_thresholder»))) 149 (flagBytes (s .«auto_adjust»))) 150 (bytes4 (s .«run_length»))) 154 (bytes4 (s .«base_dimension»)))
-    158 (s .«deviations_actual») n)
-    734 (s .«deviations_expected») n
-    ≡ encodeStateOver xs s
-unfolding encodeStateOver
-state-pasted xs s n h e =
-    ap₂ (λ (head : List ℕ) (k : ℕ). listOver (listOver head 158 (s .«deviations_actual») k) 734 (s .«deviations_expected») k) (head-pasted xs s h) e
+  pub state-pasted : listOver (listOver (headOver xs s) 158 (s .«deviations_actual») n) 734 (s .«deviations_expected») n ≡ encodeStateOver xs s
+  unfolding encodeStateOver
+  state-pasted = ap₂ (λ (head : List ℕ) (k : ℕ). listOver (listOver head 158 (s .«deviations_actual») k) 734 (s .«deviations_expected») k) head-pasted e

@@ -19,7 +19,7 @@ ghost use Rattle.layout.specs.Numbers as Numbers;
 ghost use Rattle.layout.specs.States as States;
 ghost use Rattle.layout.specs.Chain as Chain;
 ghost use Rattle.layout.specs.Readings as Readings;
-ghost use Rattle.layout.specs.Parts.{openingBytes, statisticsBytes, settingsBytes};
+ghost use Rattle.layout.specs.Parts.{singles, doubles};
 
 fn wide(b: u8) -> u32
     ensures { λ r. ⌜ (r ≡ b) × (r < 0x100) ⌝ }
@@ -158,22 +158,14 @@ pub fn read_thresholder(bytes: &[u8]) -> BasicThresholder
     BasicThresholder::fresh(0.0, false)
 }
 
-fn set4(out: &mut [u8], n: u32)
-    requires { ⌜ length (now out) ≡ 4 ⌝ }
-    ensures { λ _. ⌜ now (out .exit) ≡ Numbers.bytes4 n ⌝ }
-{
-    out[0] = (n % 0x100) as u8;
-    out[1] = (n / 0x100 % 0x100) as u8;
-    out[2] = (n / 0x1_0000 % 0x100) as u8;
-    out[3] = (n / 0x100_0000 % 0x100) as u8;
-}
-
 fn put4(out: &mut [u8], at: usize, n: u32)
     requires { ⌜ at + 4 ≤ length (now out) ⌝ }
     ensures { λ _. ⌜ now (out .exit) ≡ Numbers.pasted (now (out .entry)) at (Numbers.bytes4 n) ⌝ }
 {
-    let end = at + 4;
-    set4(&mut out[at..end], n);
+    out[at] = (n % 0x100) as u8;
+    out[at + 1] = (n / 0x100 % 0x100) as u8;
+    out[at + 2] = (n / 0x1_0000 % 0x100) as u8;
+    out[at + 3] = (n / 0x100_0000 % 0x100) as u8;
 }
 
 fn put8(out: &mut [u8], at: usize, n: u64)
@@ -184,25 +176,21 @@ fn put8(out: &mut [u8], at: usize, n: u64)
     put4(out, at + 4, (n / 0x1_0000_0000) as u32);
 }
 
-fn put_f32(out: &mut [u8], at: usize, x: f32)
-    requires { ⌜ at + 4 ≤ length (now out) ⌝ }
-    ensures { λ _. ⌜ now (out .exit) ≡ Numbers.pasted (now (out .entry)) at (Numbers.f32Bytes x) ⌝ }
-{
-    put4(out, at, ieee::f32_to_bits(x));
-}
-
-fn put_f64(out: &mut [u8], at: usize, x: f64)
+// Two floats, one behind the other.
+fn put_singles(out: &mut [u8], at: usize, a: f32, b: f32)
     requires { ⌜ at + 8 ≤ length (now out) ⌝ }
-    ensures { λ _. ⌜ now (out .exit) ≡ Numbers.pasted (now (out .entry)) at (Numbers.f64Bytes x) ⌝ }
+    ensures { λ _. ⌜ now (out .exit) ≡ Numbers.pasted (now (out .entry)) at (singles a b) ⌝ }
 {
-    put8(out, at, ieee::f64_to_bits(x));
+    put4(out, at, ieee::f32_to_bits(a));
+    put4(out, at + 4, ieee::f32_to_bits(b));
 }
 
-fn put_i32(out: &mut [u8], at: usize, n: i32)
-    requires { ⌜ at + 4 ≤ length (now out) ⌝ }
-    ensures { λ _. ⌜ now (out .exit) ≡ Numbers.pasted (now (out .entry)) at (Numbers.i32Bytes n) ⌝ }
+fn put_doubles(out: &mut [u8], at: usize, a: f64, b: f64)
+    requires { ⌜ at + 16 ≤ length (now out) ⌝ }
+    ensures { λ _. ⌜ now (out .exit) ≡ Numbers.pasted (now (out .entry)) at (doubles a b) ⌝ }
 {
-    put4(out, at, unsigned(n));
+    put8(out, at, ieee::f64_to_bits(a));
+    put8(out, at + 8, ieee::f64_to_bits(b));
 }
 
 fn flag_byte(b: bool) -> u8
@@ -211,71 +199,30 @@ fn flag_byte(b: bool) -> u8
     if b { 1 } else { 0 }
 }
 
-fn put_flag(out: &mut [u8], at: usize, b: bool)
-    requires { ⌜ at < length (now out) ⌝ }
-    ensures { λ _. ⌜ now (out .exit) ≡ Numbers.pasted (now (out .entry)) at (Numbers.flagBytes b) ⌝ }
-{
-    out[at] = flag_byte(b);
-}
-
-fn set_deviation(out: &mut [u8], d: Deviation)
-    requires { ⌜ length (now out) ≡ 36 ⌝ }
-    ensures { λ _. ⌜ now (out .exit) ≡ States.encodeDeviation d ⌝ }
-{
-    put_f64(out, 0, d.discount);
-    put_f64(out, 8, d.weight);
-    put_f64(out, 16, d.sum_squared);
-    put_f64(out, 24, d.sum);
-    put_i32(out, 32, d.count);
-}
-
 fn put_deviation(out: &mut [u8], at: usize, d: Deviation)
     requires { ⌜ at + 36 ≤ length (now out) ⌝ }
     ensures { λ _. ⌜ now (out .exit) ≡ Numbers.pasted (now (out .entry)) at (States.encodeDeviation d) ⌝ }
 {
-    let end = at + 36;
-    set_deviation(&mut out[at..end], d);
+    put_doubles(out, at, d.discount, d.weight);
+    put_doubles(out, at + 16, d.sum_squared, d.sum);
+    put4(out, at + 32, unsigned(d.count));
 }
 
-fn put_opening(out: &mut [u8], s: BasicThresholder)
-    requires { ⌜ length (now out) ≡ 149 ⌝ }
-    ensures { λ _. ⌜ now (out .exit) ≡ Numbers.pasted (now (out .entry)) 0 (openingBytes s) ⌝ }
+// A thresholder stands first, alone or in the chain's state.
+fn put_thresholder(out: &mut [u8], s: BasicThresholder)
+    requires { ⌜ 149 ≤ length (now out) ⌝ }
+    ensures { λ _. ⌜ now (out .exit) ≡ Numbers.pasted (now (out .entry)) 0 (States.encodeThresholder s) ⌝ }
 {
-    put_f32(out, 0, s.elasticity);
-    put_i32(out, 4, s.count);
-    put_f32(out, 8, s.score_differencing);
-    put_f32(out, 12, s.last_score);
-}
-
-fn put_statistics(out: &mut [u8], s: BasicThresholder)
-    requires { ⌜ length (now out) ≡ 149 ⌝ }
-    ensures { λ _. ⌜ now (out .exit) ≡ Numbers.pasted (now (out .entry)) 16 (statisticsBytes s) ⌝ }
-{
+    put4(out, 0, ieee::f32_to_bits(s.elasticity));
+    put4(out, 4, unsigned(s.count));
+    put_singles(out, 8, s.score_differencing, s.last_score);
     put_deviation(out, 16, s.primary_deviation);
     put_deviation(out, 52, s.secondary_deviation);
     put_deviation(out, 88, s.threshold_deviation);
-}
-
-fn put_settings(out: &mut [u8], s: BasicThresholder)
-    requires { ⌜ length (now out) ≡ 149 ⌝ }
-    ensures { λ _. ⌜ now (out .exit) ≡ Numbers.pasted (now (out .entry)) 124 (settingsBytes s) ⌝ }
-{
-    put_flag(out, 124, s.auto_threshold);
-    put_f32(out, 125, s.absolute_threshold);
-    put_f32(out, 129, s.absolute_score_fraction);
-    put_f32(out, 133, s.lower_threshold);
-    put_f32(out, 137, s.factor_adjustment_threshold);
-    put_f32(out, 141, s.initial_threshold);
-    put_f32(out, 145, s.z_factor);
-}
-
-fn set_thresholder(out: &mut [u8], s: BasicThresholder)
-    requires { ⌜ length (now out) ≡ 149 ⌝ }
-    ensures { λ _. ⌜ now (out .exit) ≡ States.encodeThresholder s ⌝ }
-{
-    put_opening(out, s);
-    put_statistics(out, s);
-    put_settings(out, s);
+    out[124] = flag_byte(s.auto_threshold);
+    put_singles(out, 125, s.absolute_threshold, s.absolute_score_fraction);
+    put_singles(out, 133, s.lower_threshold, s.factor_adjustment_threshold);
+    put_singles(out, 141, s.initial_threshold, s.z_factor);
 }
 
 // Each of these writes a slice of its length, and leaves any other as it is.
@@ -283,7 +230,7 @@ pub fn write_deviation(out: &mut [u8], d: Deviation)
     ensures { λ _. ⌜ now (out .exit) ≡ Numbers.writtenOf 36 (now (out .entry)) (States.encodeDeviation d) ⌝ }
 {
     if out.len() == 36 {
-        set_deviation(out, d);
+        put_deviation(out, 0, d);
     }
 }
 
@@ -291,7 +238,7 @@ pub fn write_thresholder(out: &mut [u8], s: BasicThresholder)
     ensures { λ _. ⌜ now (out .exit) ≡ Numbers.writtenOf 149 (now (out .entry)) (States.encodeThresholder s) ⌝ }
 {
     if out.len() == 149 {
-        set_thresholder(out, s);
+        put_thresholder(out, s);
     }
 }
 
@@ -299,23 +246,21 @@ pub fn write_f32(out: &mut [u8], x: f32)
     ensures { λ _. ⌜ now (out .exit) ≡ Numbers.writtenOf 4 (now (out .entry)) (Numbers.f32Bytes x) ⌝ }
 {
     if out.len() == 4 {
-        set4(out, ieee::f32_to_bits(x));
+        put4(out, 0, ieee::f32_to_bits(x));
     }
 }
 
 pub fn write_f64(out: &mut [u8], x: f64)
     ensures { λ _. ⌜ now (out .exit) ≡ Numbers.writtenOf 8 (now (out .entry)) (Numbers.f64Bytes x) ⌝ }
 {
-    if out.len() == 8 {
-        put_f64(out, 0, x);
-    }
+    write_u64(out, ieee::f64_to_bits(x));
 }
 
 pub fn write_flag(out: &mut [u8], b: bool)
     ensures { λ _. ⌜ now (out .exit) ≡ Numbers.writtenOf 1 (now (out .entry)) (Numbers.flagBytes b) ⌝ }
 {
     if out.len() == 1 {
-        put_flag(out, 0, b);
+        out[0] = flag_byte(b);
     }
 }
 
@@ -324,8 +269,7 @@ pub fn write_graded(out: &mut [u8], g: Graded)
     ensures { λ _. ⌜ now (out .exit) ≡ Numbers.writtenOf 8 (now (out .entry)) (States.encodeGraded g) ⌝ }
 {
     if out.len() == 8 {
-        put_f32(out, 0, g.threshold);
-        put_f32(out, 4, g.grade);
+        put_singles(out, 0, g.threshold, g.grade);
     }
 }
 
@@ -409,14 +353,6 @@ pub fn read_state(bytes: &[u8]) -> PredictorCorrector
     made.state
 }
 
-fn put_thresholder(out: &mut [u8], at: usize, s: BasicThresholder)
-    requires { ⌜ at + 149 ≤ length (now out) ⌝ }
-    ensures { λ _. ⌜ now (out .exit) ≡ Numbers.pasted (now (out .entry)) at (States.encodeThresholder s) ⌝ }
-{
-    let end = at + 149;
-    set_thresholder(&mut out[at..end], s);
-}
-
 // The first n entries of a list, written from `at` on; the bytes of those behind them stay.
 fn put_list(out: &mut [u8], at: usize, list: [Deviation; 16], n: usize)
     requires { ⌜ n ≤ 16 ⌝ ∗ ⌜ at ≤ 734 ⌝ ∗ ⌜ at + 576 ≤ length (now out) ⌝ }
@@ -429,26 +365,19 @@ fn put_list(out: &mut [u8], at: usize, list: [Deviation; 16], n: usize)
     }
 }
 
-fn set_state(out: &mut [u8], s: PredictorCorrector)
-    requires { ⌜ length (now out) ≡ 1310 ⌝ }
-    ensures { λ _. ⌜ now (out .exit) ≡ Chain.encodeStateOver (now (out .entry)) s ⌝ }
-{
-    let n = entries(s.auto_adjust, s.base_dimension);
-    let actual = s.deviations_actual;
-    let expected = s.deviations_expected;
-    put_thresholder(out, 0, s.basic_thresholder);
-    put_flag(out, 149, s.auto_adjust);
-    put4(out, 150, s.run_length);
-    put4(out, 154, s.base_dimension);
-    put_list(out, 158, actual, n);
-    put_list(out, 734, expected, n);
-}
-
 pub fn write_state(out: &mut [u8], s: PredictorCorrector)
     ensures { λ _. ⌜ now (out .exit) ≡ Numbers.writtenOf 1310 (now (out .entry)) (Chain.encodeStateOver (now (out .entry)) s) ⌝ }
 {
     if out.len() == 1310 {
-        set_state(out, s);
+        let n = entries(s.auto_adjust, s.base_dimension);
+        let actual = s.deviations_actual;
+        let expected = s.deviations_expected;
+        put_thresholder(out, s.basic_thresholder);
+        out[149] = flag_byte(s.auto_adjust);
+        put4(out, 150, s.run_length);
+        put4(out, 154, s.base_dimension);
+        put_list(out, 158, actual, n);
+        put_list(out, 734, expected, n);
     }
 }
 
@@ -563,24 +492,6 @@ pub fn read_last(bytes: &[u8]) -> LastDescriptor
     }
 }
 
-fn put_byte(out: &mut [u8], at: usize, b: u8)
-    requires { ⌜ at < length (now out) ⌝ }
-    ensures { λ _. ⌜ now (out .exit) ≡ Numbers.pasted (now (out .entry)) at (b ∷ []) ⌝ }
-{
-    out[at] = b;
-}
-
-fn set_verdict(out: &mut [u8], kind: u8, mode: u8, threshold: f32, grade: f32, relative_index: i32)
-    requires { ⌜ length (now out) ≡ 14 ⌝ }
-    ensures { λ _. ⌜ now (out .exit) ≡ Readings.verdictBytes kind mode threshold grade «relative_index» ⌝ }
-{
-    put_byte(out, 0, kind);
-    put_byte(out, 1, mode);
-    put_f32(out, 2, threshold);
-    put_f32(out, 6, grade);
-    put_i32(out, 10, relative_index);
-}
-
 // A verdict by its parts, 14 bytes.
 pub fn write_verdict(
     out: &mut [u8],
@@ -593,6 +504,9 @@ pub fn write_verdict(
     ensures { λ _. ⌜ now (out .exit) ≡ Numbers.writtenOf 14 (now (out .entry)) (Readings.verdictBytes kind mode threshold grade «relative_index») ⌝ }
 {
     if out.len() == 14 {
-        set_verdict(out, kind, mode, threshold, grade, relative_index);
+        out[0] = kind;
+        out[1] = mode;
+        put_singles(out, 2, threshold, grade);
+        put4(out, 10, unsigned(relative_index));
     }
 }

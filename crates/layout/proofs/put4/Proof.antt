@@ -1,34 +1,66 @@
-use mathlib.Core.Path.{refl}
+use native.Mathlib.Omega.{arith}
+use lib.ListN.{length-set}
 use denote.Ref.{now}
 use Rattle.layout.specs.Numbers.{bytes4}
-use Rattle.layout.proofs.Pasting.{part-is}
+use Rattle.layout.proofs.Pasting.{four}
 use borrow.Author.Needs.{needs}
 use Rattle.layout.proofs.put4.Statement.{statement}
 use Rattle.layout.proofs.put4.Tie as tie
 
-add-end : tie.Need-add-end
-add-end c = search needs
+cast-out : tie.Need-cast-out
+cast-out c = search needs
 
-sub-set4 : tie.Need-sub-set4
-sub-set4 c = search needs
+slice-write-out : tie.Need-slice-write-out
+slice-write-out c = search needs
 
-part-set4-start : tie.Need-part-set4-start
-part-set4-start c = search needs
+cast-out-2 : tie.Need-cast-out-2
+cast-out-2 c = search needs
 
-part-set4-end : tie.Need-part-set4-end
-part-set4-end c = search needs
+add-out : tie.Need-add-out
+add-out c = search needs
 
-set4-requires : tie.Need-set4-requires
-set4-requires c κs = search needs
+slice-write-out-2 : tie.Need-slice-write-out-2
+slice-write-out-2 c = simp length-set (omega arith)
+
+cast-out-3 : tie.Need-cast-out-3
+cast-out-3 c = search needs
+
+add-out-2 : tie.Need-add-out-2
+add-out-2 c = search needs
+
+slice-write-out-3 : tie.Need-slice-write-out-3
+slice-write-out-3 c = simp length-set (omega arith)
+
+cast-out-4 : tie.Need-cast-out-4
+cast-out-4 c = search needs
+
+add-out-3 : tie.Need-add-out-3
+add-out-3 c = search needs
+
+slice-write-out-4 : tie.Need-slice-write-out-4
+slice-write-out-4 c = simp length-set (omega arith)
 
 same-length : tie.Need-same-length
 same-length c = search needs
 
 returns : tie.Need-returns
 unfolding bytes4
-returns c = part-is (now (c .before .before .before .before .before .args .out)) (c .before .before .before .before .before .args .at) 4 _ _ (c .before .before .set4 .ensures) refl
+returns c = four (now (c .args .out)) (c .args .at) _ _ _ _ (c .pre)
 
 pub put4-spec : {M : Type 1} → statement M
 put4-spec =
     tie.close
-    (tie.spec add-end sub-set4 part-set4-start part-set4-end set4-requires same-length returns)
+    (tie.spec
+    cast-out
+    slice-write-out
+    cast-out-2
+    add-out
+    slice-write-out-2
+    cast-out-3
+    add-out-2
+    slice-write-out-3
+    cast-out-4
+    add-out-3
+    slice-write-out-4
+    same-length
+    returns)
