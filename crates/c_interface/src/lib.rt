@@ -20,6 +20,7 @@ ghost use Rattle.basicthresholder.specs.Updates as Updates;
 ghost use Rattle.layout.specs.Numbers.{f32Bytes, f64Bytes, flagBytes};
 ghost use Rattle.layout.specs.States.{encodeDeviation, encodeThresholder, encodeGraded};
 ghost use Rattle.c_interface.specs.Calls.{left, putInto, deviationMade, deviationStored, deviationChanged, deviationDone, deviationRead, stateRefusal, thresholderMade, thresholderStored, thresholderChanged, thresholderDone, thresholderRead, gradedBy};
+ghost use Rattle.c_interface.specs.Steps.{unless, lengthRefusal, firstOf, flagRefusal};
 
 // Document 01's refusals of a yes/no byte or a code, and of a length.
 const RANGE: u8 = 2;
@@ -131,74 +132,101 @@ pub extern "C" fn krcf_absf32(a: f32) -> f32
     util::absf32(a)
 }
 
-// Each `put_` writes a slice of its length, or refuses the slice by 3.
-fn put_f32(out: &mut [u8], x: f32) -> u8
-    ensures { λ r. ⌜ left r (now (out .exit)) ≡ putInto 4 (now (out .entry)) (f32Bytes x) ⌝ }
+// The refusal before it, or 3 for a slice of another length than is wanted.
+fn length_refusal(before: u8, length: usize, wanted: usize) -> u8
+    ensures { λ r. ⌜ r ≡ lengthRefusal before length wanted ⌝ }
 {
-    if out.len() == 4 {
+    if before == 0 {
+        if length == wanted {
+            return 0;
+        }
+        return LENGTH;
+    }
+    before
+}
+
+// Each `put_` writes a slice of its length, or refuses it by 3; where there is a refusal before that, it answers it.
+fn put_f32(out: &mut [u8], before: u8, x: f32) -> u8
+    ensures { λ r. ⌜ left r (now (out .exit)) ≡ unless before (now (out .entry)) (putInto 4 (now (out .entry)) (f32Bytes x)) ⌝ }
+{
+    let why = length_refusal(before, out.len(), 4);
+    if why == 0 {
         layout::write_f32(out, x);
         return 0;
     }
-    LENGTH
+    why
 }
 
-fn put_f64(out: &mut [u8], x: f64) -> u8
-    ensures { λ r. ⌜ left r (now (out .exit)) ≡ putInto 8 (now (out .entry)) (f64Bytes x) ⌝ }
+fn put_f64(out: &mut [u8], before: u8, x: f64) -> u8
+    ensures { λ r. ⌜ left r (now (out .exit)) ≡ unless before (now (out .entry)) (putInto 8 (now (out .entry)) (f64Bytes x)) ⌝ }
 {
-    if out.len() == 8 {
+    let why = length_refusal(before, out.len(), 8);
+    if why == 0 {
         layout::write_f64(out, x);
         return 0;
     }
-    LENGTH
+    why
 }
 
-fn put_flag(out: &mut [u8], b: bool) -> u8
-    ensures { λ r. ⌜ left r (now (out .exit)) ≡ putInto 1 (now (out .entry)) (flagBytes b) ⌝ }
+fn put_flag(out: &mut [u8], before: u8, b: bool) -> u8
+    ensures { λ r. ⌜ left r (now (out .exit)) ≡ unless before (now (out .entry)) (putInto 1 (now (out .entry)) (flagBytes b)) ⌝ }
 {
-    if out.len() == 1 {
+    let why = length_refusal(before, out.len(), 1);
+    if why == 0 {
         layout::write_flag(out, b);
         return 0;
     }
-    LENGTH
+    why
 }
 
-fn put_graded(out: &mut [u8], g: Graded) -> u8
-    ensures { λ r. ⌜ left r (now (out .exit)) ≡ putInto 8 (now (out .entry)) (encodeGraded g) ⌝ }
+fn put_graded(out: &mut [u8], before: u8, g: Graded) -> u8
+    ensures { λ r. ⌜ left r (now (out .exit)) ≡ unless before (now (out .entry)) (putInto 8 (now (out .entry)) (encodeGraded g)) ⌝ }
 {
-    if out.len() == 8 {
+    let why = length_refusal(before, out.len(), 8);
+    if why == 0 {
         layout::write_graded(out, g);
         return 0;
     }
-    LENGTH
+    why
 }
 
-fn put_deviation(out: &mut [u8], d: Deviation) -> u8
-    ensures { λ r. ⌜ left r (now (out .exit)) ≡ putInto 36 (now (out .entry)) (encodeDeviation d) ⌝ }
+fn put_deviation(out: &mut [u8], before: u8, d: Deviation) -> u8
+    ensures { λ r. ⌜ left r (now (out .exit)) ≡ unless before (now (out .entry)) (putInto 36 (now (out .entry)) (encodeDeviation d)) ⌝ }
 {
-    if out.len() == 36 {
+    let why = length_refusal(before, out.len(), 36);
+    if why == 0 {
         layout::write_deviation(out, d);
         return 0;
     }
-    LENGTH
+    why
 }
 
-fn put_thresholder(out: &mut [u8], s: BasicThresholder) -> u8
-    ensures { λ r. ⌜ left r (now (out .exit)) ≡ putInto 149 (now (out .entry)) (encodeThresholder s) ⌝ }
+fn put_thresholder(out: &mut [u8], before: u8, s: BasicThresholder) -> u8
+    ensures { λ r. ⌜ left r (now (out .exit)) ≡ unless before (now (out .entry)) (putInto 149 (now (out .entry)) (encodeThresholder s)) ⌝ }
 {
-    if out.len() == 149 {
+    let why = length_refusal(before, out.len(), 149);
+    if why == 0 {
         layout::write_thresholder(out, s);
         return 0;
     }
-    LENGTH
+    why
 }
 
-// Writes what a change handed back, unless it is refused.
+fn first_of(a: u8, b: u8) -> u8
+    ensures { λ r. ⌜ r ≡ firstOf a b ⌝ }
+{
+    if a == 0 {
+        return b;
+    }
+    a
+}
+
+// Writes what a change of a slice's state handed back, unless the slice or the change is refused.
 fn store_deviation(state: &mut [u8], u: deviation::Updated) -> u8
-    requires { ⌜ length (now state) ≡ 36 ⌝ }
-    ensures { λ r. ⌜ left r (now (state .exit)) ≡ deviationStored u (now (state .entry)) ⌝ }
+    ensures { λ r. ⌜ left r (now (state .exit)) ≡ unless (lengthRefusal 0 (length (now (state .entry))) 36) (now (state .entry)) (deviationStored u (now (state .entry))) ⌝ }
 {
     let answer = u.answer;
-    let number = answer.number();
+    let number = first_of(length_refusal(0, state.len(), 36), answer.number());
     if number == 0 {
         let after = u.deviation;
         layout::write_deviation(state, after);
@@ -212,7 +240,7 @@ pub extern "C" fn krcf_deviation_new(discount: f64, out: &mut [u8]) -> u8
     ensures { λ r. ⌜ left r (now (out .exit)) ≡ deviationMade (Statistics.new discount) (now (out .entry)) ⌝ }
 {
     match Deviation::new(discount) {
-        deviation::Made::Ready(d) => put_deviation(out, d),
+        deviation::Made::Ready(d) => put_deviation(out, 0, d),
         deviation::Made::Refused(why) => why.number(),
     }
 }
@@ -221,61 +249,56 @@ pub extern "C" fn krcf_deviation_new(discount: f64, out: &mut [u8]) -> u8
 pub extern "C" fn krcf_deviation_update(state: &mut [u8], score: f64) -> u8
     ensures { λ r. ⌜ left r (now (state .exit)) ≡ deviationChanged (λ d. Statistics.update d score) (now (state .entry)) ⌝ }
 {
-    if state.len() == 36 {
-        let d = layout::read_deviation(state);
-        return store_deviation(state, d.update(score));
-    }
-    LENGTH
+    let d = layout::read_deviation(state);
+    store_deviation(state, d.update(score))
 }
 
 #[no_mangle]
 pub extern "C" fn krcf_deviation_reset(state: &mut [u8]) -> u8
     ensures { λ r. ⌜ left r (now (state .exit)) ≡ deviationChanged (λ d. deviationDone (Statistics.reset d)) (now (state .entry)) ⌝ }
 {
-    if state.len() == 36 {
-        let d = layout::read_deviation(state);
-        return store_deviation(
-            state,
-            deviation::Updated {
-                answer: Answer::Done,
-                deviation: d.reset(),
-            },
-        );
-    }
-    LENGTH
+    let d = layout::read_deviation(state);
+    store_deviation(
+        state,
+        deviation::Updated {
+            answer: Answer::Done,
+            deviation: d.reset(),
+        },
+    )
 }
 
 #[no_mangle]
 pub extern "C" fn krcf_deviation_mean(state: &[u8], out: &mut [u8]) -> u8
     ensures { λ r. ⌜ left r (now (out .exit)) ≡ deviationRead (λ d. f64Bytes (Statistics.mean d)) 8 (now (state .entry)) (now (out .entry)) ⌝ }
 {
-    if state.len() == 36 {
-        let d = layout::read_deviation(state);
-        return put_f64(out, d.mean());
-    }
-    LENGTH
+    let d = layout::read_deviation(state);
+    put_f64(out, length_refusal(0, state.len(), 36), d.mean())
 }
 
 #[no_mangle]
 pub extern "C" fn krcf_deviation_deviation(state: &[u8], out: &mut [u8]) -> u8
     ensures { λ r. ⌜ left r (now (out .exit)) ≡ deviationRead (λ d. f64Bytes (Statistics.deviation d)) 8 (now (state .entry)) (now (out .entry)) ⌝ }
 {
-    if state.len() == 36 {
-        let d = layout::read_deviation(state);
-        return put_f64(out, d.deviation());
-    }
-    LENGTH
+    let d = layout::read_deviation(state);
+    put_f64(out, length_refusal(0, state.len(), 36), d.deviation())
 }
 
 #[no_mangle]
 pub extern "C" fn krcf_deviation_is_empty(state: &[u8], out: &mut [u8]) -> u8
     ensures { λ r. ⌜ left r (now (out .exit)) ≡ deviationRead (λ d. flagBytes (Statistics.isEmpty d)) 1 (now (state .entry)) (now (out .entry)) ⌝ }
 {
-    if state.len() == 36 {
-        let d = layout::read_deviation(state);
-        return put_flag(out, d.is_empty());
+    let d = layout::read_deviation(state);
+    put_flag(out, length_refusal(0, state.len(), 36), d.is_empty())
+}
+
+// 2 for a yes/no byte above 1.
+fn flag_refusal(flag: u8) -> u8
+    ensures { λ r. ⌜ r ≡ flagRefusal flag ⌝ }
+{
+    if flag <= 1 {
+        return 0;
     }
-    LENGTH
+    RANGE
 }
 
 // 3 for a slice of another length, 2 for a yes/no byte above 1.
@@ -283,21 +306,16 @@ fn state_refusal(state: &[u8]) -> u8
     ensures { λ r. ⌜ r ≡ stateRefusal (now (state .entry)) ⌝ }
 {
     if state.len() == 149 {
-        if state[124] <= 1 {
-            return 0;
-        }
-        return RANGE;
+        return flag_refusal(state[124]);
     }
     LENGTH
 }
 
-// Writes what a change handed back, unless it is refused.
 fn store_thresholder(state: &mut [u8], u: basicthresholder::Updated) -> u8
-    requires { ⌜ length (now state) ≡ 149 ⌝ }
-    ensures { λ r. ⌜ left r (now (state .exit)) ≡ thresholderStored u (now (state .entry)) ⌝ }
+    ensures { λ r. ⌜ left r (now (state .exit)) ≡ unless (stateRefusal (now (state .entry))) (now (state .entry)) (thresholderStored u (now (state .entry))) ⌝ }
 {
     let answer = u.answer;
-    let why = answer.number();
+    let why = first_of(state_refusal(state), answer.number());
     if why == 0 {
         let after = u.thresholder;
         layout::write_thresholder(state, after);
@@ -311,12 +329,7 @@ pub extern "C" fn krcf_thresholder_new(discount: f64, adjust: u8, out: &mut [u8]
     ensures { λ r. ⌜ left r (now (out .exit)) ≡ thresholderMade (Updates.newAdjustible discount (eqb adjust 1)) adjust (now (out .entry)) ⌝ }
 {
     match BasicThresholder::new_adjustible(discount, adjust == 1) {
-        basicthresholder::Made::Ready(s) => {
-            if adjust <= 1 {
-                return put_thresholder(out, s);
-            }
-            RANGE
-        }
+        basicthresholder::Made::Ready(s) => put_thresholder(out, flag_refusal(adjust), s),
         basicthresholder::Made::Refused(why) => why.number(),
     }
 }
@@ -325,65 +338,36 @@ pub extern "C" fn krcf_thresholder_new(discount: f64, adjust: u8, out: &mut [u8]
 pub extern "C" fn krcf_thresholder_is_deviation_ready(state: &[u8], out: &mut [u8]) -> u8
     ensures { λ r. ⌜ left r (now (out .exit)) ≡ thresholderRead (λ s. flagBytes (Grades.isDeviationReady s)) 1 (now (state .entry)) (now (out .entry)) ⌝ }
 {
-    let why = state_refusal(state);
-    if why == 0 {
-        let s = layout::read_thresholder(state);
-        return put_flag(out, s.is_deviation_ready());
-    }
-    why
+    let s = layout::read_thresholder(state);
+    put_flag(out, state_refusal(state), s.is_deviation_ready())
 }
 
 #[no_mangle]
 pub extern "C" fn krcf_threshold(state: &[u8], out: &mut [u8]) -> u8
     ensures { λ r. ⌜ left r (now (out .exit)) ≡ thresholderRead (λ s. f32Bytes (Grades.threshold s)) 4 (now (state .entry)) (now (out .entry)) ⌝ }
 {
-    let why = state_refusal(state);
-    if why == 0 {
-        let s = layout::read_thresholder(state);
-        return put_f32(out, s.threshold());
-    }
-    why
+    let s = layout::read_thresholder(state);
+    put_f32(out, state_refusal(state), s.threshold())
 }
 
 #[no_mangle]
 pub extern "C" fn krcf_primary_grade(state: &[u8], score: f32, out: &mut [u8]) -> u8
     ensures { λ r. ⌜ left r (now (out .exit)) ≡ thresholderRead (λ s. f32Bytes (Grades.primaryGrade s score)) 4 (now (state .entry)) (now (out .entry)) ⌝ }
 {
-    let why = state_refusal(state);
-    if why == 0 {
-        let s = layout::read_thresholder(state);
-        return put_f32(out, s.primary_grade(score));
-    }
-    why
+    let s = layout::read_thresholder(state);
+    put_f32(out, state_refusal(state), s.primary_grade(score))
 }
 
 #[no_mangle]
 pub extern "C" fn krcf_primary_threshold_and_grade(state: &[u8], score: f32, out: &mut [u8]) -> u8
     ensures { λ r. ⌜ left r (now (out .exit)) ≡ thresholderRead (λ s. encodeGraded (Grades.primaryThresholdAndGrade s score)) 8 (now (state .entry)) (now (out .entry)) ⌝ }
 {
-    let why = state_refusal(state);
-    if why == 0 {
-        let s = layout::read_thresholder(state);
-        return put_graded(out, s.primary_threshold_and_grade(score));
-    }
-    why
-}
-
-fn threshold_and_grade_by(
-    state: &[u8],
-    score: f32,
-    method: TransformMethod,
-    shingle_size: usize,
-    out: &mut [u8],
-) -> u8
-    ensures { λ r. ⌜ left r (now (out .exit)) ≡ thresholderRead (λ s. encodeGraded (Grades.thresholdAndGrade s score method «shingle_size»)) 8 (now (state .entry)) (now (out .entry)) ⌝ }
-{
-    let why = state_refusal(state);
-    if why == 0 {
-        let s = layout::read_thresholder(state);
-        return put_graded(out, s.threshold_and_grade(score, method, shingle_size));
-    }
-    why
+    let s = layout::read_thresholder(state);
+    put_graded(
+        out,
+        state_refusal(state),
+        s.primary_threshold_and_grade(score),
+    )
 }
 
 #[no_mangle]
@@ -397,30 +381,13 @@ pub extern "C" fn krcf_threshold_and_grade(
     ensures { λ r. ⌜ left r (now (out .exit)) ≡ gradedBy (λ s m. Grades.thresholdAndGrade s score m «shingle_size») (methodOf method) (now (state .entry)) (now (out .entry)) ⌝ }
 {
     match TransformMethod::of_code(method) {
-        MethodCode::Known(m) => threshold_and_grade_by(state, score, m, shingle_size, out),
+        MethodCode::Known(m) => {
+            let s = layout::read_thresholder(state);
+            let graded = s.threshold_and_grade(score, m, shingle_size);
+            put_graded(out, state_refusal(state), graded)
+        }
         MethodCode::Refused(why) => why.number(),
     }
-}
-
-fn threshold_and_grade_with_factor_by(
-    state: &[u8],
-    score: f32,
-    factor: f32,
-    method: TransformMethod,
-    shingle_size: usize,
-    out: &mut [u8],
-) -> u8
-    ensures { λ r. ⌜ left r (now (out .exit)) ≡ thresholderRead (λ s. encodeGraded (Grades.thresholdAndGradeWithFactor s score factor method «shingle_size»)) 8 (now (state .entry)) (now (out .entry)) ⌝ }
-{
-    let why = state_refusal(state);
-    if why == 0 {
-        let s = layout::read_thresholder(state);
-        return put_graded(
-            out,
-            s.threshold_and_grade_with_factor(score, factor, method, shingle_size),
-        );
-    }
-    why
 }
 
 #[no_mangle]
@@ -435,14 +402,11 @@ pub extern "C" fn krcf_threshold_and_grade_with_factor(
     ensures { λ r. ⌜ left r (now (out .exit)) ≡ gradedBy (λ s m. Grades.thresholdAndGradeWithFactor s score factor m «shingle_size») (methodOf method) (now (state .entry)) (now (out .entry)) ⌝ }
 {
     match TransformMethod::of_code(method) {
-        MethodCode::Known(m) => threshold_and_grade_with_factor_by(
-            state,
-            score,
-            factor,
-            m,
-            shingle_size,
-            out,
-        ),
+        MethodCode::Known(m) => {
+            let s = layout::read_thresholder(state);
+            let graded = s.threshold_and_grade_with_factor(score, factor, m, shingle_size);
+            put_graded(out, state_refusal(state), graded)
+        }
         MethodCode::Refused(why) => why.number(),
     }
 }
@@ -451,60 +415,40 @@ pub extern "C" fn krcf_threshold_and_grade_with_factor(
 pub extern "C" fn krcf_update_threshold(state: &mut [u8], score: f32) -> u8
     ensures { λ r. ⌜ left r (now (state .exit)) ≡ thresholderChanged (λ s. Updates.updated s (Updates.thresholdCounted s score)) (now (state .entry)) ⌝ }
 {
-    let why = state_refusal(state);
-    if why == 0 {
-        let s = layout::read_thresholder(state);
-        return store_thresholder(state, s.update_threshold(score));
-    }
-    why
+    let s = layout::read_thresholder(state);
+    store_thresholder(state, s.update_threshold(score))
 }
 
 #[no_mangle]
 pub extern "C" fn krcf_update_primary(state: &mut [u8], score: f64) -> u8
     ensures { λ r. ⌜ left r (now (state .exit)) ≡ thresholderChanged (λ s. Updates.updated s (Updates.primaryCounted s score)) (now (state .entry)) ⌝ }
 {
-    let why = state_refusal(state);
-    if why == 0 {
-        let s = layout::read_thresholder(state);
-        return store_thresholder(state, s.update_primary(score));
-    }
-    why
+    let s = layout::read_thresholder(state);
+    store_thresholder(state, s.update_primary(score))
 }
 
 #[no_mangle]
 pub extern "C" fn krcf_update_both(state: &mut [u8], primary: f32, secondary: f32) -> u8
     ensures { λ r. ⌜ left r (now (state .exit)) ≡ thresholderChanged (λ s. Updates.updated s (Updates.bothCounted s primary secondary)) (now (state .entry)) ⌝ }
 {
-    let why = state_refusal(state);
-    if why == 0 {
-        let s = layout::read_thresholder(state);
-        return store_thresholder(state, s.update_both(primary, secondary));
-    }
-    why
+    let s = layout::read_thresholder(state);
+    store_thresholder(state, s.update_both(primary, secondary))
 }
 
 #[no_mangle]
 pub extern "C" fn krcf_update(state: &mut [u8], primary: f32, secondary: f32, last_score: f32) -> u8
     ensures { λ r. ⌜ left r (now (state .exit)) ≡ thresholderChanged (λ s. Updates.updated s (Updates.cappedCounted s primary secondary «last_score»)) (now (state .entry)) ⌝ }
 {
-    let why = state_refusal(state);
-    if why == 0 {
-        let s = layout::read_thresholder(state);
-        return store_thresholder(state, s.update(primary, secondary, last_score));
-    }
-    why
+    let s = layout::read_thresholder(state);
+    store_thresholder(state, s.update(primary, secondary, last_score))
 }
 
 #[no_mangle]
 pub extern "C" fn krcf_set_score_differencing(state: &mut [u8], horizon: f32) -> u8
     ensures { λ r. ⌜ left r (now (state .exit)) ≡ thresholderChanged (λ s. Updates.setScoreDifferencing s horizon) (now (state .entry)) ⌝ }
 {
-    let why = state_refusal(state);
-    if why == 0 {
-        let s = layout::read_thresholder(state);
-        return store_thresholder(state, s.set_score_differencing(horizon));
-    }
-    why
+    let s = layout::read_thresholder(state);
+    store_thresholder(state, s.set_score_differencing(horizon))
 }
 
 // A change that is never refused.
@@ -521,46 +465,30 @@ fn done(s: BasicThresholder) -> basicthresholder::Updated
 pub extern "C" fn krcf_set_z_factor(state: &mut [u8], factor: f32) -> u8
     ensures { λ r. ⌜ left r (now (state .exit)) ≡ thresholderChanged (λ s. thresholderDone (Updates.withZFactor s factor)) (now (state .entry)) ⌝ }
 {
-    let why = state_refusal(state);
-    if why == 0 {
-        let s = layout::read_thresholder(state);
-        return store_thresholder(state, done(s.set_z_factor(factor)));
-    }
-    why
+    let s = layout::read_thresholder(state);
+    store_thresholder(state, done(s.set_z_factor(factor)))
 }
 
 #[no_mangle]
 pub extern "C" fn krcf_set_lower_threshold(state: &mut [u8], lower: f32) -> u8
     ensures { λ r. ⌜ left r (now (state .exit)) ≡ thresholderChanged (λ s. thresholderDone (Updates.withLowerThreshold s lower)) (now (state .entry)) ⌝ }
 {
-    let why = state_refusal(state);
-    if why == 0 {
-        let s = layout::read_thresholder(state);
-        return store_thresholder(state, done(s.set_lower_threshold(lower)));
-    }
-    why
+    let s = layout::read_thresholder(state);
+    store_thresholder(state, done(s.set_lower_threshold(lower)))
 }
 
 #[no_mangle]
 pub extern "C" fn krcf_set_absolute_threshold(state: &mut [u8], value: f32) -> u8
     ensures { λ r. ⌜ left r (now (state .exit)) ≡ thresholderChanged (λ s. thresholderDone (Updates.withAbsoluteThreshold s value)) (now (state .entry)) ⌝ }
 {
-    let why = state_refusal(state);
-    if why == 0 {
-        let s = layout::read_thresholder(state);
-        return store_thresholder(state, done(s.set_absolute_threshold(value)));
-    }
-    why
+    let s = layout::read_thresholder(state);
+    store_thresholder(state, done(s.set_absolute_threshold(value)))
 }
 
 #[no_mangle]
 pub extern "C" fn krcf_set_initial_threshold(state: &mut [u8], initial: f32) -> u8
     ensures { λ r. ⌜ left r (now (state .exit)) ≡ thresholderChanged (λ s. thresholderDone (Updates.withInitialThreshold s initial)) (now (state .entry)) ⌝ }
 {
-    let why = state_refusal(state);
-    if why == 0 {
-        let s = layout::read_thresholder(state);
-        return store_thresholder(state, done(s.set_initial_threshold(initial)));
-    }
-    why
+    let s = layout::read_thresholder(state);
+    store_thresholder(state, done(s.set_initial_threshold(initial)))
 }

@@ -1,14 +1,16 @@
 use mathlib.Core.Path.{ap}
 use denote.Ref.{now}
-use borrow.Author.Tests.{eq-eqb, ne-eqb}
 use Rattle.layout.specs.Numbers.{f64Bytes}
-use Rattle.c_interface.proofs.Steps.{deviation-read, deviation-unread}
+use Rattle.c_interface.proofs.Steps.{deviation-read}
 use borrow.Author.Needs.{needs}
 use Rattle.c_interface.proofs.krcf_deviation_mean.Statement.{statement}
 use Rattle.c_interface.proofs.krcf_deviation_mean.Tie as tie
 
 read-deviation-requires : tie.Need-read-deviation-requires
 read-deviation-requires c κs = search needs
+
+length-refusal-requires : tie.Need-length-refusal-requires
+length-refusal-requires c κs = search needs
 
 mean-requires : tie.Need-mean-requires
 mean-requires c κs = search needs
@@ -20,12 +22,15 @@ same-length : tie.Need-same-length
 same-length c = search needs
 
 returns : tie.Need-returns
-returns c = deviation-read (now (c .before .before .before .before .before .before .before .before .before .args .state)) _ (c .before .before .before .before .before .read-deviation .ensures) (eq-eqb _ _ (c .before .before .before .before .before .before .if1 .taken)) _ _ _ _ _ (ap f64Bytes (c .before .before .before .mean .ensures)) (c .before .before .put-f64 .ensures)
-
-returns-2 : tie.Need-returns-2
-returns-2 c = deviation-unread (now (c .before .before .before .args .state)) (ne-eqb _ _ (c .if1 .left)) _ _ _
+returns c = deviation-read (now (c .before .before .before .before .before .before .before .before .before .args .state)) _ (c .before .before .before .before .before .before .read-deviation .ensures) _ (c .before .before .before .before .length-refusal .ensures) _ _ _ _ _ (ap f64Bytes (c .before .before .before .mean .ensures)) (c .before .before .put-f64 .ensures)
 
 pub krcf-deviation-mean-spec : {M : Type 1} → statement M
 krcf-deviation-mean-spec =
     tie.close
-    (tie.spec read-deviation-requires mean-requires put-f64-requires same-length returns returns-2)
+    (tie.spec
+    read-deviation-requires
+    length-refusal-requires
+    mean-requires
+    put-f64-requires
+    same-length
+    returns)

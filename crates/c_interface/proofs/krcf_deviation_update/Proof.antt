@@ -1,6 +1,5 @@
 use denote.Ref.{now}
-use borrow.Author.Tests.{eq-eqb, ne-eqb}
-use Rattle.c_interface.proofs.Steps.{deviation-changed, deviation-kept}
+use Rattle.c_interface.proofs.Steps.{deviation-changed}
 use borrow.Author.Needs.{needs}
 use Rattle.c_interface.proofs.krcf_deviation_update.Statement.{statement}
 use Rattle.c_interface.proofs.krcf_deviation_update.Tie as tie
@@ -18,18 +17,9 @@ same-length : tie.Need-same-length
 same-length c = search needs
 
 returns : tie.Need-returns
-returns c = deviation-changed (now (c .before .before .before .before .before .before .before .before .before .args .state)) _ (c .before .before .before .before .before .read-deviation .ensures) (eq-eqb _ _ (c .before .before .before .before .before .before .before .if1 .taken)) _ _ _ (c .before .before .before .update .ensures) (c .before .before .store-deviation .ensures)
-
-returns-2 : tie.Need-returns-2
-returns-2 c = deviation-kept (now (c .before .before .args .state)) (ne-eqb _ _ (c .if1 .left)) _
+returns c = deviation-changed (now (c .before .before .before .before .before .before .before .before .args .state)) _ (c .before .before .before .before .before .read-deviation .ensures) _ _ _ (c .before .before .before .update .ensures) (c .before .before .store-deviation .ensures)
 
 pub krcf-deviation-update-spec : {M : Type 1} → statement M
 krcf-deviation-update-spec =
     tie.close
-    (tie.spec
-    read-deviation-requires
-    update-requires
-    store-deviation-requires
-    same-length
-    returns
-    returns-2)
+    (tie.spec read-deviation-requires update-requires store-deviation-requires same-length returns)

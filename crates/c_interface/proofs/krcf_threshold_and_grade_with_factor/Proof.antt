@@ -1,6 +1,7 @@
-use mathlib.Core.Path.{_∙_, sym}
+use mathlib.Core.Path.{_∙_, sym, ap}
 use denote.Ref.{now}
-use Rattle.c_interface.proofs.Steps.{graded-known, graded-refused}
+use Rattle.layout.specs.States.{encodeGraded}
+use Rattle.c_interface.proofs.Steps.{thresholder-read, graded-known, graded-refused}
 use borrow.Author.Needs.{needs}
 use Rattle.c_interface.proofs.krcf_threshold_and_grade_with_factor.Statement.{statement}
 use Rattle.c_interface.proofs.krcf_threshold_and_grade_with_factor.Tie as tie
@@ -11,8 +12,17 @@ of-code-requires c κs = search needs
 enum-known-m : tie.Need-enum-known-m
 enum-known-m c = search needs
 
-threshold-and-grade-with-factor-by-requires : tie.Need-threshold-and-grade-with-factor-by-requires
-threshold-and-grade-with-factor-by-requires c κs = search needs
+read-thresholder-requires : tie.Need-read-thresholder-requires
+read-thresholder-requires c κs = search needs
+
+threshold-and-grade-with-factor-requires : tie.Need-threshold-and-grade-with-factor-requires
+threshold-and-grade-with-factor-requires c κs = search needs
+
+state-refusal-requires : tie.Need-state-refusal-requires
+state-refusal-requires c κs = search needs
+
+put-graded-requires : tie.Need-put-graded-requires
+put-graded-requires c κs = search needs
 
 enum-known-why : tie.Need-enum-known-why
 enum-known-why c = search needs
@@ -24,7 +34,8 @@ same-length : tie.Need-same-length
 same-length c = search needs
 
 returns : tie.Need-returns
-returns c = graded-known _ _ (now (c .before .before .before .before .before .before .before .before .before .before .args .state)) (now (c .before .before .before .before .before .before .before .before .before .before .args .out)) _ _ (sym (c .before .before .before .before .before .before .before .of-code .ensures) ∙ c .before .before .before .before .before .m .given .1) (c .before .before .threshold-and-grade-with-factor-by .ensures)
+returns c = graded-known _ _ (now (c .before .before .before .before .before .before .before .before .before .before .before .before .before .args .state)) (now (c .before .before .before .before .before .before .before .before .before .before .before .before .before .args .out)) _ _ (sym (c .before .before .before .before .before .before .before .before .before .before .of-code .ensures) ∙ c .before .before .before .before .before .before .before .before .m .given .1)
+    (thresholder-read (now (c .before .before .before .before .before .before .before .before .before .before .before .before .before .args .state)) _ (c .before .before .before .before .before .before .read-thresholder .ensures) _ (c .before .before .before .state-refusal .ensures) _ _ _ _ _ (ap encodeGraded (c .before .before .before .before .before .threshold-and-grade-with-factor .ensures)) (c .before .before .put-graded .ensures))
 
 returns-2 : tie.Need-returns-2
 returns-2 c = graded-refused _ _ (now (c .before .before .before .before .before .before .before .args .state)) (now (c .before .before .before .before .before .before .before .args .out)) _ _ (sym (c .before .before .before .before .of-code .ensures) ∙ c .before .before .why .given .1) (c .number .ensures)
@@ -35,7 +46,10 @@ krcf-threshold-and-grade-with-factor-spec =
     (tie.spec
     of-code-requires
     enum-known-m
-    threshold-and-grade-with-factor-by-requires
+    read-thresholder-requires
+    threshold-and-grade-with-factor-requires
+    state-refusal-requires
+    put-graded-requires
     enum-known-why
     number-requires
     same-length

@@ -1,12 +1,8 @@
 use denote.Ref.{now}
-use borrow.Author.Tests.{ne-eqb}
-use Rattle.c_interface.proofs.Steps.{state-length, thresholder-changed, thresholder-kept}
+use Rattle.c_interface.proofs.Steps.{thresholder-changed}
 use borrow.Author.Needs.{needs}
 use Rattle.c_interface.proofs.krcf_update_primary.Statement.{statement}
 use Rattle.c_interface.proofs.krcf_update_primary.Tie as tie
-
-state-refusal-requires : tie.Need-state-refusal-requires
-state-refusal-requires c κs = search needs
 
 read-thresholder-requires : tie.Need-read-thresholder-requires
 read-thresholder-requires c κs = search needs
@@ -15,29 +11,20 @@ update-primary-requires : tie.Need-update-primary-requires
 update-primary-requires c κs = search needs
 
 store-thresholder-requires : tie.Need-store-thresholder-requires
-store-thresholder-requires c κs = state-length (now (c .before .before .before .before .before .before .before .before .args .state)) _ (c .before .before .before .before .before .state-refusal .ensures) (c .before .before .before .before .if1 .taken)
+store-thresholder-requires c κs = search needs
 
 same-length : tie.Need-same-length
 same-length c = search needs
 
 returns : tie.Need-returns
-returns c = thresholder-changed (now (c .before .before .before .before .before .before .before .before .before .before .before .args .state)) _ (c .before .before .before .before .before .before .before .before .state-refusal .ensures) (c .before .before .before .before .before .before .before .if1 .taken) _ (c .before .before .before .before .before .read-thresholder .ensures) _ _ _ (c .before .before .before .update-primary .ensures) (c .before .before .store-thresholder .ensures)
-
-same-length-2 : tie.Need-same-length-2
-same-length-2 c = search needs
-
-returns-2 : tie.Need-returns-2
-returns-2 c = thresholder-kept (now (c .before .before .before .before .args .state)) _ (c .before .state-refusal .ensures) (ne-eqb _ _ (c .if1 .left)) _
+returns c = thresholder-changed (now (c .before .before .before .before .before .before .before .before .args .state)) _ (c .before .before .before .before .before .read-thresholder .ensures) _ _ _ (c .before .before .before .update-primary .ensures) (c .before .before .store-thresholder .ensures)
 
 pub krcf-update-primary-spec : {M : Type 1} → statement M
 krcf-update-primary-spec =
     tie.close
     (tie.spec
-    state-refusal-requires
     read-thresholder-requires
     update-primary-requires
     store-thresholder-requires
     same-length
-    returns
-    same-length-2
-    returns-2)
+    returns)
