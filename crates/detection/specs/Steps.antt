@@ -128,6 +128,11 @@ calmState s r l point (Accepted (Corrected t m)) = entered (autoAdjusted s point
 calmState s r l point (Accepted (Raised t g)) = s
 calmState s r l point (Accepted Skipped) = s
 
+pub record Calm (s : PredictorCorrector) (r : Reading) (l : LastDescriptor) (point : List Float) (o : Outcome) (j : Judgment) : Type 0 where
+  pub says : j .outcome ≡ o
+  pub state : j .state ≡ calmState s r l point o
+  pub index : j .«relative_index» ≡ pos 0
+
 -- What a raised reading leaves in the three buffers.
 pub record Written (r : Reading) (start : ℕ) (point high low median e h w : List Float) : Type 0 where
   pub point-is : e ≡ expectedPoint high low start (r .«base_dimension») point median

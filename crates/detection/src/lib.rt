@@ -801,25 +801,43 @@ fn alarm_of(outcome: Outcome) -> Alarm
     }
 }
 
-// The state after an outcome that does not reach the candidate branch.
-fn calm_state(
+// The judgment of an outcome that does not reach the candidate branch.
+fn calm_judgment(
     s: PredictorCorrector,
     r: Reading,
     l: LastDescriptor,
     outcome: Outcome,
     point: &[f32],
-) -> PredictorCorrector
-    ensures { λ t. ⌜ t ≡ Steps.calmState s r l (now (point .entry)) outcome ⌝ }
+) -> Judgment
+    ensures { λ j. ⌜ Steps.Calm s r l (now (point .entry)) outcome j ⌝ }
 {
     match outcome {
-        Outcome::Refused(_) => s,
+        Outcome::Refused(_) => Judgment {
+            outcome,
+            relative_index: 0,
+            state: s,
+        },
         Outcome::Accepted(verdict) => match verdict {
-            Verdict::Quiet(_) => entered(s.run_ended(), r, l, r.score),
-            Verdict::Corrected(_, _) => {
-                entered(s.auto_adjusted(point), r, l, corrected_score(r, l))
-            }
-            Verdict::Raised(_, _) => s,
-            Verdict::Skipped => s,
+            Verdict::Quiet(_) => Judgment {
+                outcome,
+                relative_index: 0,
+                state: entered(s.run_ended(), r, l, r.score),
+            },
+            Verdict::Corrected(_, _) => Judgment {
+                outcome,
+                relative_index: 0,
+                state: entered(s.auto_adjusted(point), r, l, corrected_score(r, l)),
+            },
+            Verdict::Raised(_, _) => Judgment {
+                outcome,
+                relative_index: 0,
+                state: s,
+            },
+            Verdict::Skipped => Judgment {
+                outcome,
+                relative_index: 0,
+                state: s,
+            },
         },
     }
 }
@@ -890,9 +908,5 @@ pub fn detect_and_modify(
             out_low,
         );
     }
-    Judgment {
-        outcome,
-        relative_index: 0,
-        state: calm_state(s, r, l, outcome, point),
-    }
+    calm_judgment(s, r, l, outcome, point)
 }
