@@ -1,5 +1,6 @@
 // A case: 48 bytes, then for a call on a state that state's bytes and the bytes it is to have afterwards.
-ghost use Prim.Native.Nat.{_<_, _≤_};
+ghost use Prim.Native.Nat.{_+_, _<_, _≤_};
+ghost use lib.ListN.{length};
 
 // Byte 0 is the operation, byte 1 the number that the call answers; from byte 8 on four arguments and the result, of eight bytes each, the
 // lowest first. What a call does not have is 0.
@@ -13,7 +14,7 @@ pub struct Case {
     pub result: u64,
 }
 
-pub fn wide(b: u8) -> u64
+fn wide(b: u8) -> u64
     ensures { λ r. ⌜ r < 0x100 ⌝ }
 {
     b as u64
@@ -25,17 +26,9 @@ fn four(a: u8, b: u8, c: u8, d: u8) -> u64
     wide(a) + 0x100 * wide(b) + 0x1_0000 * wide(c) + 0x100_0000 * wide(d)
 }
 
-// The first four bytes, the lowest first.
-pub fn word4(b: &[u8; 4]) -> u64 {
-    four(b[0], b[1], b[2], b[3])
-}
-
-pub fn word8(b: &[u8; 8]) -> u64 {
-    four(b[0], b[1], b[2], b[3]) + 0x1_0000_0000 * four(b[4], b[5], b[6], b[7])
-}
-
-fn word_at(b: &[u8; 48], at: usize) -> u64
-    requires { ⌜ at ≤ 40 ⌝ }
+// The eight bytes from `at` on, the lowest first.
+pub fn word_at(b: &[u8], at: usize) -> u64
+    requires { ⌜ at + 8 ≤ length (now b) ⌝ }
 {
     let low = four(b[at], b[at + 1], b[at + 2], b[at + 3]);
     let high = four(b[at + 4], b[at + 5], b[at + 6], b[at + 7]);

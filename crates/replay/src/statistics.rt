@@ -5,47 +5,38 @@ use crate::input::double;
 use crate::input::is_answer;
 use crate::input::is_equal;
 use crate::input::only;
-use crate::input::wide;
-use crate::input::word8;
+use crate::input::word_at;
+ghost use mathlib.Core.Path.{_≡_};
+ghost use lib.ListN.{length};
 
-fn mean(state: &[u8]) -> Answer {
+// The calls that answer a number about a state, 35 to 37, write it to the front of `out`. An operation that there is not answers 255, as no case does.
+fn question(operation: u8, state: &[u8], out: &mut [u8]) -> u8
+    requires { ⌜ length (now out) ≡ 8 ⌝ }
+{
+    match operation {
+        35 => c_interface::krcf_deviation_mean(state, out),
+        36 => c_interface::krcf_deviation_deviation(state, out),
+        37 => c_interface::krcf_deviation_is_empty(state, &mut out[..1]),
+        _ => 255,
+    }
+}
+
+fn asked(operation: u8, state: &[u8]) -> Answer {
     let mut out = [0u8; 8];
-    let number = c_interface::krcf_deviation_mean(state, &mut out);
+    let number = question(operation, state, &mut out);
     Answer {
         number: number,
-        result: word8(&out),
+        result: word_at(&out, 0),
     }
 }
 
-fn deviation(state: &[u8]) -> Answer {
-    let mut out = [0u8; 8];
-    let number = c_interface::krcf_deviation_deviation(state, &mut out);
-    Answer {
-        number: number,
-        result: word8(&out),
-    }
-}
-
-fn is_empty(state: &[u8]) -> Answer {
-    let mut out = [0u8; 1];
-    let number = c_interface::krcf_deviation_is_empty(state, &mut out);
-    Answer {
-        number: number,
-        result: wide(out[0]),
-    }
-}
-
-// An operation that there is not answers 255, as no case does.
 fn call(case: Case, state: &mut [u8]) -> Answer {
     let operation = case.operation;
     match operation {
         32 => only(c_interface::krcf_deviation_new(double(case.a), state)),
         33 => only(c_interface::krcf_deviation_update(state, double(case.a))),
         34 => only(c_interface::krcf_deviation_reset(state)),
-        35 => mean(state),
-        36 => deviation(state),
-        37 => is_empty(state),
-        _ => only(255),
+        _ => asked(operation, state),
     }
 }
 

@@ -8,97 +8,44 @@ use crate::input::is_equal;
 use crate::input::only;
 use crate::input::single;
 use crate::input::size;
-use crate::input::wide;
-use crate::input::word4;
-use crate::input::word8;
+use crate::input::word_at;
+ghost use mathlib.Core.Path.{_≡_};
+ghost use lib.ListN.{length};
 
-fn is_deviation_ready(state: &[u8]) -> Answer {
-    let mut out = [0u8; 1];
-    let number = c_interface::krcf_thresholder_is_deviation_ready(state, &mut out);
-    Answer {
-        number: number,
-        result: wide(out[0]),
-    }
-}
-
-fn threshold(state: &[u8]) -> Answer {
-    let mut out = [0u8; 4];
-    let number = c_interface::krcf_threshold(state, &mut out);
-    Answer {
-        number: number,
-        result: word4(&out),
-    }
-}
-
-fn primary_grade(state: &[u8], score: f32) -> Answer {
-    let mut out = [0u8; 4];
-    let number = c_interface::krcf_primary_grade(state, score, &mut out);
-    Answer {
-        number: number,
-        result: word4(&out),
-    }
-}
-
-fn primary_threshold_and_grade(state: &[u8], score: f32) -> Answer {
-    let mut out = [0u8; 8];
-    let number = c_interface::krcf_primary_threshold_and_grade(state, score, &mut out);
-    Answer {
-        number: number,
-        result: word8(&out),
-    }
-}
-
-fn threshold_and_grade(state: &[u8], score: f32, method: u8, shingle_size: usize) -> Answer {
-    let mut out = [0u8; 8];
-    let number = c_interface::krcf_threshold_and_grade(
-        state,
-        score,
-        method,
-        shingle_size,
-        &mut out,
-    );
-    Answer {
-        number: number,
-        result: word8(&out),
-    }
-}
-
-fn threshold_and_grade_with_factor(
-    state: &[u8],
-    score: f32,
-    factor: f32,
-    method: u8,
-    shingle_size: usize,
-) -> Answer {
-    let mut out = [0u8; 8];
-    let number = c_interface::krcf_threshold_and_grade_with_factor(
-        state,
-        score,
-        factor,
-        method,
-        shingle_size,
-        &mut out,
-    );
-    Answer {
-        number: number,
-        result: word8(&out),
-    }
-}
-
-// The calls that answer a number about a state, 65 to 70.
-fn question(case: Case, state: &[u8]) -> Answer {
+// The calls that answer a number about a state, 65 to 70, write it to the front of `out`.
+fn question(case: Case, state: &[u8], out: &mut [u8]) -> u8
+    requires { ⌜ length (now out) ≡ 8 ⌝ }
+{
     let operation = case.operation;
     let x = single(case.a);
     match operation {
-        65 => is_deviation_ready(state),
-        66 => threshold(state),
-        67 => primary_grade(state, x),
-        68 => primary_threshold_and_grade(state, x),
-        69 => threshold_and_grade(state, x, byte(case.b), size(case.c)),
+        65 => c_interface::krcf_thresholder_is_deviation_ready(state, &mut out[..1]),
+        66 => c_interface::krcf_threshold(state, &mut out[..4]),
+        67 => c_interface::krcf_primary_grade(state, x, &mut out[..4]),
+        68 => c_interface::krcf_primary_threshold_and_grade(state, x, out),
+        69 => c_interface::krcf_threshold_and_grade(state, x, byte(case.b), size(case.c), out),
         _ => {
             let factor = single(case.b);
-            threshold_and_grade_with_factor(state, x, factor, byte(case.c), size(case.d))
+            let method = byte(case.c);
+            let shingle_size = size(case.d);
+            c_interface::krcf_threshold_and_grade_with_factor(
+                state,
+                x,
+                factor,
+                method,
+                shingle_size,
+                out,
+            )
         }
+    }
+}
+
+fn asked(case: Case, state: &[u8]) -> Answer {
+    let mut out = [0u8; 8];
+    let number = question(case, state, &mut out);
+    Answer {
+        number: number,
+        result: word_at(&out, 0),
     }
 }
 
@@ -131,7 +78,7 @@ fn call(case: Case, state: &mut [u8]) -> Answer {
         return only(c_interface::krcf_thresholder_new(double(case.a), byte(case.b), state));
     }
     if case.operation < 71 {
-        return question(case, state);
+        return asked(case, state);
     }
     if case.operation < 75 {
         return only(update(case, state));
