@@ -77,6 +77,10 @@ fn run(name: &str, seed: u64) -> u64 {
 }
 
 fn main() -> ExitCode {
+    if std::env::args().nth(1).as_deref() == Some(bench::score_watch::PLAIN) {
+        bench::score_watch::plain().expect("sound lines");
+        return ExitCode::SUCCESS;
+    }
     let wanted = match wanted() {
         Ok(wanted) => wanted,
         Err(why) => {

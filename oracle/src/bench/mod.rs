@@ -2,6 +2,7 @@
 
 mod judging;
 mod numbers;
+pub mod score_watch;
 mod timing;
 
 use crate::random::Random;
@@ -10,4 +11,5 @@ pub fn run(random: &mut Random) {
     timing::heading();
     numbers::run(random);
     judging::run(random);
+    score_watch::run(random).expect("both score watches run");
 }

@@ -1,0 +1,81 @@
+//! The score watch against a plain Rust program that prints the same: two processes on the same
+//! 65,536 lines from a file, each timed from its start to its end.
+
+use std::error::Error;
+use std::fs::{self, File};
+use std::io::{self, BufRead, BufWriter, Write};
+use std::path::Path;
+use std::process::{Command, Stdio};
+use std::time::Instant;
+
+use rcflib::trcf::basicthresholder::BasicThresholder;
+
+use crate::random::Random;
+
+/// The word that makes this program the plain one.
+pub const PLAIN: &str = "score-watch";
+
+const LINES: usize = 65_536;
+const ROUNDS: usize = 40;
+
+/// Document 01's score watch as a Rust programmer would write it, for lines that are sound.
+pub fn plain() -> Result<(), Box<dyn Error>> {
+    let mut out = BufWriter::new(io::stdout().lock());
+    let mut watch = BasicThresholder::new(0.0).map_err(|_| "no thresholder")?;
+    let mut counts = [0, 0];
+    writeln!(out, "line threshold grade")?;
+    for (k, line) in io::stdin().lock().lines().enumerate() {
+        let score = f32::from_bits(u32::from_str_radix(&line?, 16)?);
+        let (threshold, grade) = match score {
+            0.0 => (0.0, 0.0),
+            _ => watch.primary_threshold_and_grade(score),
+        };
+        if score != 0.0 {
+            watch.update_primary(score as f64);
+        }
+        counts[(grade > 0.0) as usize] += 1;
+        let bits = (threshold.to_bits(), grade.to_bits());
+        writeln!(out, "{} {:08x} {:08x}", k + 1, bits.0, bits.1)?;
+    }
+    writeln!(out, "quiet {} raised {}", counts[0], counts[1])?;
+    Ok(())
+}
+
+/// One run: what it printed, and how long it took in ns.
+fn once(mut program: Command, input: &Path) -> Result<(Vec<u8>, f64), Box<dyn Error>> {
+    let input = File::open(input)?;
+    let start = Instant::now();
+    let run = program.stdin(Stdio::from(input)).output()?;
+    let took = start.elapsed().as_nanos() as f64;
+    if !run.status.success() {
+        return Err("a score watch that failed".into());
+    }
+    Ok((run.stdout, took))
+}
+
+pub fn run(random: &mut Random) -> Result<(), Box<dyn Error>> {
+    let own = std::env::current_exe()?;
+    let input = own.with_file_name("scores");
+    let score = |random: &mut Random| (1.0 + 4.0 * random.fraction()) as f32;
+    let lines: Vec<String> = (0..LINES)
+        .map(|_| format!("{:08x}\n", score(random).to_bits()))
+        .collect();
+    fs::write(&input, lines.concat())?;
+    let (mut a, mut b) = (f64::INFINITY, f64::INFINITY);
+    for _ in 0..ROUNDS {
+        let ours = once(Command::new("target/bin/score_watch"), &input)?;
+        let mut rust = Command::new(&own);
+        rust.arg(PLAIN);
+        let rust = once(rust, &input)?;
+        assert!(ours.0 == rust.0, "the two score watches print the same");
+        (a, b) = (a.min(ours.1), b.min(rust.1));
+    }
+    let rate = |ns: f64| LINES as f64 / ns * 1e9;
+    println!(
+        "score watch, lines a second: ours {:.0}, rust {:.0}; time ours : rust {:.2}",
+        rate(a),
+        rate(b),
+        a / b
+    );
+    Ok(())
+}
