@@ -4,7 +4,7 @@ ghost use lib.ListN.{length};
 
 // Byte 0 is the operation, byte 1 the number that the call answers; from byte 8 on four arguments and the result, of eight bytes each, the
 // lowest first. What a call does not have is 0.
-pub struct Case {
+pub(crate) struct Case {
     pub operation: u8,
     pub number: u8,
     pub a: u64,
@@ -27,7 +27,7 @@ fn four(a: u8, b: u8, c: u8, d: u8) -> u64
 }
 
 // The eight bytes from `at` on, the lowest first.
-pub fn word_at(b: &[u8], at: usize) -> u64
+pub(crate) fn word_at(b: &[u8], at: usize) -> u64
     requires { ⌜ at + 8 ≤ length (now b) ⌝ }
 {
     let low = four(b[at], b[at + 1], b[at + 2], b[at + 3]);
@@ -35,7 +35,7 @@ pub fn word_at(b: &[u8], at: usize) -> u64
     low + 0x1_0000_0000 * high
 }
 
-pub fn read(b: &[u8; 48]) -> Case {
+pub(crate) fn read(b: &[u8; 48]) -> Case {
     Case {
         operation: b[0],
         number: b[1],
@@ -48,35 +48,35 @@ pub fn read(b: &[u8; 48]) -> Case {
 }
 
 // An argument's low byte, its low half, and all of it as what it stands for.
-pub fn byte(w: u64) -> u8 {
+pub(crate) fn byte(w: u64) -> u8 {
     (w % 0x100) as u8
 }
 
-pub fn half(w: u64) -> u32 {
+pub(crate) fn half(w: u64) -> u32 {
     (w % 0x1_0000_0000) as u32
 }
 
-pub fn single(w: u64) -> f32 {
+pub(crate) fn single(w: u64) -> f32 {
     c_interface::krcf_f32_from_bits(half(w))
 }
 
-pub fn double(w: u64) -> f64 {
+pub(crate) fn double(w: u64) -> f64 {
     c_interface::krcf_f64_from_bits(w)
 }
 
-pub fn size(w: u64) -> usize {
+pub(crate) fn size(w: u64) -> usize {
     w as usize
 }
 
 // Two's complement.
-pub fn signed(n: u32) -> i32 {
+pub(crate) fn signed(n: u32) -> i32 {
     if n < 0x8000_0000 {
         return n as i32;
     }
     -1 - ((0xffff_ffff - n) as i32)
 }
 
-pub fn is_equal(a: &[u8], b: &[u8]) -> bool {
+pub(crate) fn is_equal(a: &[u8], b: &[u8]) -> bool {
     if a.len() != b.len() {
         return false;
     }
@@ -91,19 +91,19 @@ pub fn is_equal(a: &[u8], b: &[u8]) -> bool {
 }
 
 // What a call answered: its number, and its result, 0 where it has none.
-pub struct Answer {
+pub(crate) struct Answer {
     pub number: u8,
     pub result: u64,
 }
 
-pub fn only(number: u8) -> Answer {
+pub(crate) fn only(number: u8) -> Answer {
     Answer {
         number: number,
         result: 0,
     }
 }
 
-pub fn is_answer(case: Case, answer: Answer) -> bool {
+pub(crate) fn is_answer(case: Case, answer: Answer) -> bool {
     if case.number == answer.number {
         return case.result == answer.result;
     }

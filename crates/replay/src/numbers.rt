@@ -56,6 +56,6 @@ fn result(operation: u8, a: u64, b: u64) -> u64 {
     converted(operation, a)
 }
 
-pub fn is_same(case: Case) -> bool {
+pub(crate) fn is_same(case: Case) -> bool {
     result(case.operation, case.a, case.b) == case.result
 }

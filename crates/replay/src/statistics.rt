@@ -40,7 +40,7 @@ fn call(case: Case, state: &mut [u8]) -> Answer {
     }
 }
 
-pub fn is_same(case: Case) -> bool {
+pub(crate) fn is_same(case: Case) -> bool {
     let mut state = [0u8; 36];
     let mut after = [0u8; 36];
     if io::read_full(0, &mut state) != 36 {

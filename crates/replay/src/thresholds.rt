@@ -86,7 +86,7 @@ fn call(case: Case, state: &mut [u8]) -> Answer {
     only(set(case.operation, single(case.a), state))
 }
 
-pub fn is_same(case: Case) -> bool {
+pub(crate) fn is_same(case: Case) -> bool {
     let mut state = [0u8; 149];
     let mut after = [0u8; 149];
     if io::read_full(0, &mut state) != 149 {
