@@ -1,11 +1,11 @@
 //! The thresholder's calls, ours and the Rust's, and states and arguments for them.
 
 use rcflib::trcf::basicthresholder::{BasicThresholder, Numbers};
-use rcflib::trcf::types::TransformMethod;
 
 use crate::bytes::Bytes;
 use crate::ours;
 use crate::random::Random;
+use crate::readings::METHODS;
 use crate::refusals::{COUNT, HORIZON, RANGE};
 use crate::statistics::{self, countable, discount};
 use crate::values;
@@ -31,16 +31,6 @@ pub enum Call {
 }
 
 use Call::*;
-
-/// The methods in the order of their codes.
-const METHODS: [TransformMethod; 6] = [
-    TransformMethod::NONE,
-    TransformMethod::WEIGHTED,
-    TransformMethod::DIFFERENCE,
-    TransformMethod::SUBTRACT_MA,
-    TransformMethod::NORMALIZE,
-    TransformMethod::NORMALIZE_DIFFERENCE,
-];
 
 /// The floats that a call answers, or a yes/no, as their bytes with the plain NaN.
 fn floats(list: &[f32]) -> Vec<u8> {

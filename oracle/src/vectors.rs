@@ -58,38 +58,33 @@ pub fn assign((high, low): Changed, from_high: &[f64], from_low: &[f64]) -> u8 {
     }
 }
 
-pub fn add_to(high: &[f64], low: &[f64], (other_high, other_low): Changed) -> u8 {
-    unsafe {
-        c::krcf_add_to(
-            high.as_ptr(),
-            high.len(),
-            low.as_ptr(),
-            low.len(),
-            other_high.as_mut_ptr(),
-            other_high.len(),
-            other_low.as_mut_ptr(),
-            other_low.len(),
-        )
-    }
+/// A call that adds a pair, which is read, to another.
+macro_rules! adding {
+    ($($name:ident = $function:ident($($arg:ident: $t:ty)?);)*) => {$(
+        pub fn $name(
+            high: &[f64],
+            low: &[f64],
+            (other_high, other_low): Changed,
+            $($arg: $t,)?
+        ) -> u8 {
+            unsafe {
+                c::$function(
+                    high.as_ptr(),
+                    high.len(),
+                    low.as_ptr(),
+                    low.len(),
+                    other_high.as_mut_ptr(),
+                    other_high.len(),
+                    other_low.as_mut_ptr(),
+                    other_low.len(),
+                    $($arg,)?
+                )
+            }
+        }
+    )*};
 }
 
-pub fn add_to_scaled(
-    high: &[f64],
-    low: &[f64],
-    (other_high, other_low): Changed,
-    factor: f64,
-) -> u8 {
-    unsafe {
-        c::krcf_add_to_scaled(
-            high.as_ptr(),
-            high.len(),
-            low.as_ptr(),
-            low.len(),
-            other_high.as_mut_ptr(),
-            other_high.len(),
-            other_low.as_mut_ptr(),
-            other_low.len(),
-            factor,
-        )
-    }
+adding! {
+    add_to = krcf_add_to();
+    add_to_scaled = krcf_add_to_scaled(factor: f64);
 }

@@ -10,6 +10,7 @@ use rcflib::trcf::predictorcorrector::{PredictorCorrector, State};
 use rcflib::trcf::types::{CorrectionMode, ScoringStrategy};
 
 use crate::random::Random;
+use crate::readings::making::no_anomaly;
 use crate::readings::{verdict, Reading, Verdict, METHODS};
 use crate::tally::Tally;
 
@@ -102,14 +103,7 @@ impl Text<'_> {
             values_seen: self.size(8, 5),
             attribution: self.yes(8, 6).then(|| self.vector(16, d)),
             score: self.real(8, 7),
-            grade: 0.0,
-            expected_timestamp: 0,
-            relevant_attribution: None,
-            time_attribution: 0.0,
-            past_values: vec![],
-            past_timestamp: 0,
-            expected_values_list: vec![],
-            likelihood_of_values: vec![],
+            ..no_anomaly()
         }
     }
 
