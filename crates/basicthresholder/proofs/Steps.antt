@@ -1,15 +1,7 @@
--- Steps of the functions' proofs: what a test on a field of the state picks, and the fraction between ten and twenty scores. Assumes nothing.
+-- Steps of the functions' proofs: what a test on a field of the state picks. Assumes nothing.
 use mathlib.Core.Path.{_≡_}
-use mathlib.Core.Bool.{Bool, true, false, _&&_, true≢false}
-use native.Mathlib.Omega.{arith}
-use lib.IntN.{ℤ, pos, negsuc, _-ℤ_}
-use lib.Signed.{ltZ}
-use lib.Ieee as Ieee
-use lib.Ieee.{Float, binary32}
-use borrow.Author.Tests.{ltb-false, le-ltb}
-use mir.Syntax.{w32}
-use mir.Val.{SFits}
-use Rattle.basicthresholder.specs.Const.{one32, ten32}
+use mathlib.Core.Bool.{Bool, true, false, _&&_}
+use lib.Ieee.{Float}
 use Rattle.basicthresholder.specs.Grades.{absoluteOf, easedAbsolute, intermediateFraction}
 use Rattle.basicthresholder.specs.declared.BasicThresholder.{BasicThresholder}
 
@@ -21,19 +13,6 @@ module _ (s : BasicThresholder) (t : Float) where
   pub absolute-off : s .«auto_threshold» ≡ false → s .«absolute_threshold» ≡ absoluteOf s t
   unfolding absoluteOf
   absolute-off h = rw h
-
--- Ten less than a number from 10 to 20 fits.
-pub ten-less : (z : ℤ) → ltZ z (pos 10) ≡ false → ltZ (pos 20) z ≡ false → SFits w32 (z -ℤ pos 10)
-ten-less (pos n) e h =
-    let l = ltb-false n 10 e in
-    let u = ltb-false 20 n h in
-    record { sfits = rw (le-ltb n 10 l) (omega arith) }
-ten-less (negsuc n) e h = absurd (true≢false e)
-
-pub fraction-between : (z : ℤ) (t : Float) → t ≡ Ieee.ofInt binary32 (z -ℤ pos 10) → ltZ z (pos 10) ≡ false → ltZ (pos 20) z ≡ false
-    → Ieee.div binary32 (Ieee.mul binary32 t one32) ten32 ≡ intermediateFraction z
-unfolding intermediateFraction
-fraction-between z t e h k = simp (e, h, k)
 
 -- A test in front of a conjunction.
 pub and-true : {a b : Bool} → a ≡ true → b ≡ (a && b)

@@ -5,7 +5,6 @@ use ieee::narrow;
 use types::Answer;
 use types::Refusal;
 use types::TransformMethod;
-use util::maxf32;
 use util::minf32;
 ghost use mathlib.Core.Path.{_≡_};
 ghost use mathlib.Core.Bool.{false};
@@ -18,8 +17,6 @@ const DEFAULT_ELASTICITY: f32 = 0.01;
 
 const DEFAULT_SCORE_DIFFERENCING: f32 = 0.5;
 
-const MINIMUM_SCORES: i32 = 10;
-
 const DEFAULT_ABSOLUTE_THRESHOLD: f32 = 0.8;
 
 const DEFAULT_ABSOLUTE_SCORE_FRACTION: f32 = 0.5;
@@ -29,8 +26,6 @@ const DEFAULT_LOWER_THRESHOLD: f32 = 1.0;
 const DEFAULT_INITIAL_THRESHOLD: f32 = 1.5;
 
 const DEFAULT_Z_FACTOR: f32 = 3.0;
-
-const MINIMUM_Z_FACTOR: f32 = 2.0;
 
 const DEFAULT_FACTOR_ADJUSTMENT_THRESHOLD: f32 = 0.9;
 
@@ -69,113 +64,6 @@ pub struct Updated {
     pub thresholder: BasicThresholder,
 }
 
-fn counts_ready(count: i32, differencing: f32, primary_count: i32) -> bool
-    ensures { λ r. ⌜ r ≡ Grades.countsReady count differencing «primary_count» ⌝ }
-{
-    if count < MINIMUM_SCORES {
-        return false;
-    }
-    if differencing != 0.0 {
-        return MINIMUM_SCORES <= primary_count;
-    }
-    true
-}
-
-fn intermediate_fraction(count: i32) -> f32
-    ensures { λ r. ⌜ r ≡ Grades.intermediateFraction count ⌝ }
-{
-    if count < MINIMUM_SCORES {
-        return 0.0;
-    }
-    if 2 * MINIMUM_SCORES < count {
-        return 1.0;
-    }
-    std::num::nearest_i32_to_f32(count - MINIMUM_SCORES) * 1.0 / 10.0
-}
-
-fn at_least_minimum(factor: f32) -> f32
-    ensures { λ r. ⌜ r ≡ Grades.atLeastMinimum factor ⌝ }
-{
-    if factor < MINIMUM_Z_FACTOR {
-        return MINIMUM_Z_FACTOR;
-    }
-    factor
-}
-
-fn adjusted_factor(base: f32, factor: f32, limit: f32, none: bool) -> f32
-    ensures { λ r. ⌜ r ≡ Grades.adjustedFactor base factor limit none ⌝ }
-{
-    if base < limit {
-        if none {
-            return at_least_minimum(factor);
-        }
-        return at_least_minimum(base * factor / limit);
-    }
-    at_least_minimum(factor)
-}
-
-fn smaller(a: f64, b: f64) -> f64
-    ensures { λ r. ⌜ r ≡ Grades.smaller a b ⌝ }
-{
-    if a < b { a } else { b }
-}
-
-fn mixed(weight: f32, a: f64, b: f64) -> f32
-    ensures { λ r. ⌜ r ≡ Grades.mixed weight a b ⌝ }
-{
-    weight * narrow(a) + (1.0 - weight) * narrow(b)
-}
-
-fn eased_absolute(t: f32, fraction: f32, limit: f32, absolute: f32) -> f32
-    ensures { λ r. ⌜ r ≡ Grades.easedAbsolute t fraction limit absolute ⌝ }
-{
-    if fraction >= 1.0 {
-        if t < limit {
-            return t * absolute / limit;
-        }
-        return absolute;
-    }
-    absolute
-}
-
-fn threshold_from(
-    ready: bool,
-    fraction: f32,
-    t: f32,
-    scaled: f32,
-    initial: f32,
-    absolute: f32,
-) -> f32
-    ensures { λ r. ⌜ r ≡ Grades.thresholdFrom ready fraction t scaled initial absolute ⌝ }
-{
-    if ready {
-        return maxf32(
-            fraction * (t + scaled) + (1.0 - fraction) * initial,
-            absolute,
-        );
-    }
-    maxf32(initial, absolute)
-}
-
-fn surprise_index(
-    ready: bool,
-    score: f32,
-    base: f32,
-    factor: f32,
-    spread: f32,
-    absolute: f32,
-) -> f32
-    ensures { λ r. ⌜ r ≡ Grades.surpriseIndex ready score base factor spread absolute ⌝ }
-{
-    if ready {
-        if spread > 0.0 {
-            return maxf32(minf32((score - base) / spread, factor) / factor, 0.0);
-        }
-        return maxf32(2.0 * factor / factor, 0.0);
-    }
-    minf32(1.0, maxf32((score - absolute) / absolute, 0.0))
-}
-
 fn graded_or(score: f32, threshold: f32, grade: f32) -> Graded
     ensures { λ r. ⌜ r ≡ Grades.gradedOr score threshold grade ⌝ }
 {
@@ -186,12 +74,6 @@ fn graded_or(score: f32, threshold: f32, grade: f32) -> Graded
         threshold: score,
         grade: 0.0,
     }
-}
-
-fn sixteenths(surprise: f32) -> f32
-    ensures { λ r. ⌜ r ≡ Grades.sixteenths surprise ⌝ }
-{
-    minf32(ieee::floor(surprise * 20.0) / 16.0, 1.0)
 }
 
 fn grade_against(score: f32, threshold: f32, surprise: f32) -> Graded
@@ -209,25 +91,7 @@ fn grade_against(score: f32, threshold: f32, surprise: f32) -> Graded
             grade: 0.0,
         };
     }
-    graded_or(score, threshold, sixteenths(surprise))
-}
-
-fn threshold_by(mean: f32, z: f32, spread: f32) -> f32
-    ensures { λ r. ⌜ r ≡ Grades.thresholdBy mean z spread ⌝ }
-{
-    mean + z * spread
-}
-
-fn grade_over(t: f32, spread: f32) -> f32
-    ensures { λ r. ⌜ r ≡ Grades.gradeOver t spread ⌝ }
-{
-    if t > 0.0 {
-        if spread > 0.0 {
-            return minf32(t / spread, 1.0);
-        }
-        return 0.1;
-    }
-    0.0
+    graded_or(score, threshold, grading::sixteenths(surprise))
 }
 
 fn counted_gap(third: Deviation, gap: f32) -> Deviation
@@ -310,7 +174,7 @@ impl BasicThresholder {
         ensures { λ r. ⌜ r ≡ Grades.isDeviationReady self ⌝ }
     {
         let primary = self.primary_deviation;
-        counts_ready(self.count, self.score_differencing, primary.count)
+        grading::counts_ready(self.count, self.score_differencing, primary.count)
     }
 
     // `first` is the primary deviation, which the caller has.
@@ -320,9 +184,9 @@ impl BasicThresholder {
     {
         let t = ROOT_OF_TWO * self.threshold_deviation.deviation();
         let second = self.secondary_deviation.deviation();
-        mixed(
+        grading::mixed(
             self.score_differencing,
-            smaller(second, smaller(t, first)),
+            grading::smaller(second, grading::smaller(t, first)),
             second,
         )
     }
@@ -346,7 +210,7 @@ impl BasicThresholder {
         ensures { λ r. ⌜ r ≡ Grades.absoluteOf self t ⌝ }
     {
         if self.auto_threshold {
-            return eased_absolute(
+            return grading::eased_absolute(
                 t,
                 fraction,
                 self.factor_adjustment_threshold,
@@ -377,18 +241,18 @@ impl BasicThresholder {
         ensures { λ r. ⌜ r ≡ Grades.thresholdAndGradeWithFactor self score factor method «shingle_size» ⌝ }
     {
         let ready = self.is_deviation_ready();
-        let fraction = intermediate_fraction(self.count);
+        let fraction = grading::intermediate_fraction(self.count);
         let t = narrow(self.primary_deviation.mean());
         let first = self.primary_deviation.deviation();
         let limit = self.factor_adjustment_threshold;
-        let new_factor = adjusted_factor(t, factor, limit, method.is_none());
+        let new_factor = grading::adjusted_factor(t, factor, limit, method.is_none());
         let long_term = self.long_term_deviation(t, first, method.is_differenced(), shingle_size);
         let scaled = (new_factor - 1.0) * long_term + narrow(first);
         let absolute = self.absolute(t, fraction);
         let initial = self.initial_threshold;
-        let threshold = threshold_from(ready, fraction, t, scaled, initial, absolute);
+        let threshold = grading::threshold_from(ready, fraction, t, scaled, initial, absolute);
         let spread = scaled / new_factor;
-        let surprise = surprise_index(
+        let surprise = grading::surprise_index(
             ready,
             score,
             threshold,
@@ -402,7 +266,7 @@ impl BasicThresholder {
     pub fn threshold(self) -> f32
         ensures { λ r. ⌜ r ≡ Grades.threshold self ⌝ }
     {
-        threshold_by(
+        grading::threshold_by(
             narrow(self.primary_deviation.mean()),
             self.z_factor,
             narrow(self.primary_deviation.deviation()),
@@ -421,11 +285,11 @@ impl BasicThresholder {
     {
         let mean = narrow(self.primary_deviation.mean());
         let spread = narrow(self.primary_deviation.deviation());
-        let threshold = threshold_by(mean, self.z_factor, spread);
+        let threshold = grading::threshold_by(mean, self.z_factor, spread);
         if self.is_deviation_ready() {
             return Graded {
                 threshold,
-                grade: grade_over(score - threshold, spread),
+                grade: grading::grade_over(score - threshold, spread),
             };
         }
         Graded {
