@@ -5,11 +5,8 @@ use mathlib.Core.List.{List}
 use Prim.Native.Nat.{ℕ}
 use lib.Dec.{eqb}
 use lib.ListN.{length}
-use lib.IntN.{ℤ}
 use lib.Ieee.{Float}
 use borrow.Author.Tests.{eq-eqb, eqb-true}
-use Rattle.types.specs.Codes.{modeCode}
-use Rattle.types.specs.declared.CorrectionMode.{CorrectionMode}
 use Rattle.types.specs.Refusals.{number}
 use Rattle.types.specs.declared.Refusal.{Refusal}
 use Rattle.types.specs.declared.Refusal.the-variants.{Range, Length}
@@ -21,47 +18,18 @@ use Rattle.descriptor.specs.declared.LastDescriptor.{LastDescriptor}
 use Rattle.predictorcorrector.specs.declared.PredictorCorrector.{PredictorCorrector}
 use Rattle.detection.specs.Judged.{Judged, outcome, written}
 use Rattle.detection.specs.declared.Judgment.{Judgment}
-use Rattle.detection.specs.declared.Verdict.{Verdict}
-use Rattle.detection.specs.declared.Verdict.the-variants.{Quiet, Corrected, Raised, Skipped}
-use Rattle.detection.specs.Const.{zero32}
 use Rattle.detection.specs.declared.Outcome.{Outcome}
-use Rattle.detection.specs.declared.Outcome.the-variants.{Accepted, Refused}
+use Rattle.detection.specs.declared.Outcome.the-variants.{Refused}
 use Rattle.layout.specs.Numbers.{writtenOf, le4}
-use Rattle.layout.specs.Chain.{readState, decodeState, encodeStateOver}
-use Rattle.layout.specs.Readings.{readReading, readLast, decodeReading, verdictBytes}
-use Rattle.c_judging.specs.Judging.{codesOk, slicesOk, sizesFit, outcomeOver, stateOver, indexOver, Answered, stateLeft, verdictLeft, changesState, stored, told}
-use Rattle.c_judging.specs.Steps.{Put}
+use Rattle.layout.specs.Chain.{readState, decodeState}
+use Rattle.layout.specs.Readings.{readReading, readLast, decodeReading}
+use Rattle.c_judging.specs.Judging.{codesOk, slicesOk, sizesFit, outcomeOver, stateOver, indexOver, Answered, stateLeft, verdictLeft}
+use Rattle.verdict_bytes.specs.Put.{Put}
 
 -- A slice of its length is written whole.
 whole : (n : ℕ) (xs ys : List ℕ) → length xs ≡ n → writtenOf n xs ys ≡ ys
 unfolding writtenOf
 whole n xs ys h = rw (eq-eqb (length xs) n h)
-
-module _ (v : Verdict) (xs zs : List ℕ) where
-  pub stored-new : (s : PredictorCorrector) → length xs ≡ 1310 → changesState v ≡ true → zs ≡ writtenOf 1310 xs (encodeStateOver xs s) → zs ≡ stored v xs s
-  unfolding stored
-  stored-new s l h p = p ∙ whole 1310 xs (encodeStateOver xs s) l ∙ rw h
-
-  pub stored-old : (s : PredictorCorrector) → changesState v ≡ false → xs ≡ stored v xs s
-  unfolding stored
-  stored-old s h = rw h
-
-  module _ (i k : ℤ) (f : k ≡ i) (l : length xs ≡ 14) where
-    pub told-quiet : (t : Float) → v ≡ Quiet t → zs ≡ writtenOf 14 xs (verdictBytes 0 0 t zero32 k) → zs ≡ told v i
-    unfolding told
-    told-quiet t e p = p ∙ whole 14 xs (verdictBytes 0 0 t zero32 k) l ∙ rw (e, f)
-
-    pub told-corrected : (t : Float) (m : CorrectionMode) (n : ℕ) → v ≡ Corrected t m → n ≡ modeCode m → zs ≡ writtenOf 14 xs (verdictBytes 1 n t zero32 k) → zs ≡ told v i
-    unfolding told
-    told-corrected t m n e c p = p ∙ whole 14 xs (verdictBytes 1 n t zero32 k) l ∙ rw (e, c, f)
-
-    pub told-raised : (t g : Float) → v ≡ Raised t g → zs ≡ writtenOf 14 xs (verdictBytes 2 0 t g k) → zs ≡ told v i
-    unfolding told
-    told-raised t g e p = p ∙ whole 14 xs (verdictBytes 2 0 t g k) l ∙ rw (e, f)
-
-    pub told-skipped : v ≡ Skipped → zs ≡ writtenOf 14 xs (verdictBytes 3 0 zero32 zero32 k) → zs ≡ told v i
-    unfolding told
-    told-skipped e p = p ∙ whole 14 xs (verdictBytes 3 0 zero32 zero32 k) l ∙ rw (e, f)
 
 -- ---- the slices.
 module _ (state reading last verdict : ℕ) (h : slicesOk state reading last verdict ≡ true) where
@@ -92,16 +60,6 @@ module _ (state reading : List ℕ) (r : Reading) (e : r ≡ readReading reading
   pub sizes-fit-one : (b : Bool) → eqb (length state) 1310 ≡ false → b ≡ sizesOk (r .«shingle_size») (r .«base_dimension») → b ≡ sizesFit state reading
   unfolding sizesFit decodeReading
   sizes-fit-one b l p = p ∙ rw (decoded, l, h)
-
--- ---- a judgment put over the bytes.
-module _ (j : Judgment) (state verdict state′ verdict′ : List ℕ) where
-  pub put-accepted : (v : Verdict) → j .outcome ≡ Accepted v → state′ ≡ stored v state (j .state) → verdict′ ≡ told v (j .«relative_index») → Put j 0 state verdict state′ verdict′
-  unfolding stateLeft verdictLeft
-  put-accepted v o p q = record { answer = rw o; bytes = p ∙ rw o; says = q ∙ rw o }
-
-  pub put-refused : (why : Refusal) (n : ℕ) → j .outcome ≡ Refused why → n ≡ number why → state′ ≡ state → verdict′ ≡ verdict → Put j n state verdict state′ verdict′
-  unfolding stateLeft verdictLeft
-  put-refused why n o e p q = record { answer = e ∙ rw o; bytes = p ∙ rw o; says = q ∙ rw o }
 
 -- ---- the whole call.
 module _ (state reading last : List ℕ) (b : Lent) (e h w : List Float) (v : List ℕ) where
@@ -139,11 +97,11 @@ module _ (state reading last : List ℕ) (b : Lent) (e h w : List Float) (v : Li
         unfolding stateOver indexOver
         taken d = record {
           answer = p .answer ∙ rw (d .says, through);
-          bytes = p .bytes ∙ rw (d .state, d .says, through);
+          bytes = p .bytes ∙ whole 1310 state (stateLeft (j .outcome) state (j .state)) (state-long _ _ _ _ s) ∙ rw (d .state, d .says, through);
           point = d .point ∙ rw through;
           highs = d .highs ∙ rw through;
           lows = d .lows ∙ rw through;
-          verdict = p .says ∙ rw (d .index, d .says, through);
+          verdict = p .says ∙ whole 14 v (verdictLeft (j .outcome) v (j .«relative_index»)) (verdict-long _ _ _ _ s) ∙ rw (d .index, d .says, through);
         }
 
         pub judged : Judged t r l b j e h w e′ h′ w′ → Answered state reading last b n e h w v state′ e′ h′ w′ v′

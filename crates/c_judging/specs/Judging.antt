@@ -8,24 +8,21 @@ use lib.Dec.{eqb, leb}
 use lib.IntN.{ℤ}
 use lib.ListN.{length, getD}
 use lib.Ieee.{Float}
-use Rattle.types.specs.Codes.{modeCode}
 use Rattle.types.specs.Refusals.{number}
 use Rattle.types.specs.declared.Refusal.the-variants.{Range, Length}
 use Rattle.divector.specs.DiVector.{normalized}
 use Rattle.descriptor.specs.Checks.{sizesOk, rangeOk}
 use Rattle.descriptor.specs.Lent.{Lent}
 use Rattle.predictorcorrector.specs.declared.PredictorCorrector.{PredictorCorrector}
-use Rattle.detection.specs.Const.{zero32}
 use Rattle.detection.specs.Judging.{expected}
 use Rattle.detection.specs.Judged.{outcome, outcomeNumber, stateAfter, indexAfter, written}
-use Rattle.detection.specs.declared.Verdict.{Verdict}
-use Rattle.detection.specs.declared.Verdict.the-variants.{Quiet, Corrected, Raised, Skipped}
 use Rattle.detection.specs.declared.Outcome.{Outcome}
-use Rattle.detection.specs.declared.Outcome.the-variants.{Accepted, Refused}
+use Rattle.detection.specs.declared.Outcome.the-variants.{Refused}
 use Rattle.corrector.specs.Corrector.{pointRefusal}
 use Rattle.layout.specs.Numbers.{le4, bytes8}
-use Rattle.layout.specs.Chain.{readState, encodeStateOver}
-use Rattle.layout.specs.Readings.{readReading, readLast, verdictBytes}
+use Rattle.layout.specs.Chain.{readState}
+use Rattle.layout.specs.Readings.{readReading, readLast}
+unfoldable pub use Rattle.verdict_bytes.specs.Bytes.{told, changesState, stored, stateLeft, verdictLeft}
 
 -- The state's two yes/no bytes.
 unfoldable pub stateCodesOk : List ℕ → Bool
@@ -51,33 +48,6 @@ sizesFit state reading =
     cond (eqb (length reading) 23)
     (cond (eqb (length state) 1310) (rangeOk (le4 reading 0) (le4 reading 4) (le4 state 154)) (sizesOk (le4 reading 0) (le4 reading 4)))
     true
-
--- A verdict's bytes.
-unfoldable pub told : Verdict → ℤ → List ℕ
-told (Quiet t) index = verdictBytes 0 0 t zero32 index
-told (Corrected t m) index = verdictBytes 1 (modeCode m) t zero32 index
-told (Raised t g) index = verdictBytes 2 0 t g index
-told Skipped index = verdictBytes 3 0 zero32 zero32 index
-
--- Every accepted reading but a skipped one changes the state.
-unfoldable pub changesState : Verdict → Bool
-changesState (Quiet t) = true
-changesState (Corrected t m) = true
-changesState (Raised t g) = true
-changesState Skipped = false
-
--- The bytes xs of a state that became s: a skipped reading leaves them as they are.
-unfoldable pub stored : Verdict → List ℕ → PredictorCorrector → List ℕ
-stored v xs s = cond (changesState v) (encodeStateOver xs s) xs
-
--- A refusal leaves every byte as it came.
-unfoldable pub stateLeft : Outcome → List ℕ → PredictorCorrector → List ℕ
-stateLeft (Accepted v) xs s = stored v xs s
-stateLeft (Refused why) xs s = xs
-
-unfoldable pub verdictLeft : Outcome → List ℕ → ℤ → List ℕ
-verdictLeft (Accepted v) xs index = told v index
-verdictLeft (Refused why) xs index = xs
 
 module _ (state reading last : List ℕ) (b : Lent) where
   -- The outcome. The four numbers are the lengths of the slices that may be written: expected point, attribution, verdict.

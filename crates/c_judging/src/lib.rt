@@ -1,18 +1,11 @@
 // Judging for a host that calls over C. Numbers, and slices of bytes or floats (a pointer, then a length): the state in its 1310 bytes, a reading and the
 // last descriptor in 23 each, a verdict in 14, as the crate layout has them. The answer is document 01's number, 0 for an accepted reading; a refused call
 // has written nothing.
-use descriptor::LastDescriptor;
-use descriptor::Reading;
-use detection::Judgment;
-use detection::Outcome;
-use detection::Verdict;
-use predictorcorrector::PredictorCorrector;
 ghost use mathlib.Core.Path.{_≡_};
 ghost use Prim.Native.Nat.{_-_};
 ghost use lib.ListN.{length};
 ghost use Rattle.descriptor.specs.Lent.{lent};
 ghost use Rattle.c_judging.specs.Judging as Judging;
-ghost use Rattle.c_judging.specs.Steps as Steps;
 
 // Document 01's refusals of a yes/no byte, a code or a size, and of a length.
 const RANGE: u8 = 2;
@@ -65,60 +58,6 @@ fn sizes_fit(state: &[u8], reading: &[u8]) -> bool
         return descriptor::sizes_ok(r.shingle_size, r.base_dimension);
     }
     true
-}
-
-fn put_verdict(out: &mut [u8], verdict: Verdict, relative_index: i32)
-    requires { ⌜ length (now out) ≡ 14 ⌝ }
-    ensures { λ _. ⌜ now (out .exit) ≡ Judging.told verdict «relative_index» ⌝ }
-{
-    match verdict {
-        Verdict::Quiet(threshold) => {
-            layout::write_verdict(out, 0, 0, threshold, 0.0, relative_index)
-        }
-        Verdict::Corrected(threshold, mode) => {
-            layout::write_verdict(out, 1, mode.code(), threshold, 0.0, relative_index)
-        }
-        Verdict::Raised(threshold, grade) => {
-            layout::write_verdict(out, 2, 0, threshold, grade, relative_index)
-        }
-        Verdict::Skipped => layout::write_verdict(out, 3, 0, 0.0, 0.0, relative_index),
-    }
-}
-
-// Every accepted reading but a skipped one.
-fn changes_state(verdict: Verdict) -> bool
-    ensures { λ r. ⌜ r ≡ Judging.changesState verdict ⌝ }
-{
-    match verdict {
-        Verdict::Quiet(_) => true,
-        Verdict::Corrected(_, _) => true,
-        Verdict::Raised(_, _) => true,
-        Verdict::Skipped => false,
-    }
-}
-
-fn put_state(state: &mut [u8], verdict: Verdict, after: PredictorCorrector)
-    requires { ⌜ length (now state) ≡ 1310 ⌝ }
-    ensures { λ _. ⌜ now (state .exit) ≡ Judging.stored verdict (now (state .entry)) after ⌝ }
-{
-    if changes_state(verdict) {
-        layout::write_state(state, after);
-    }
-}
-
-fn put_judgment(state: &mut [u8], out: &mut [u8], j: Judgment) -> u8
-    requires { ⌜ length (now state) ≡ 1310 ⌝ ∗ ⌜ length (now out) ≡ 14 ⌝ }
-    ensures { λ r. ⌜ Steps.Put j r (now (state .entry)) (now (out .entry)) (now (state .exit)) (now (out .exit)) ⌝ }
-{
-    let outcome = j.outcome;
-    match outcome {
-        Outcome::Accepted(verdict) => {
-            put_state(state, verdict, j.state);
-            put_verdict(out, verdict, j.relative_index);
-            0
-        }
-        Outcome::Refused(why) => why.number(),
-    }
 }
 
 fn codes_ok(state: &[u8], reading: &[u8], last: &[u8]) -> bool
@@ -179,7 +118,7 @@ pub extern "C" fn krcf_detect_and_modify(
                 out_high,
                 out_low,
             );
-            return put_judgment(state, verdict, j);
+            return verdict_bytes::put_judgment(state, verdict, j);
         }
         if sizes_fit(state, reading) {
             return LENGTH;

@@ -1,7 +1,7 @@
 use denote.Ref.{now}
 use mathlib.Core.Path.{sym, _∙_}
 use Rattle.descriptor.specs.Lent.{lent}
-use Rattle.c_judging.proofs.Steps.{state-long, verdict-long, judged, bad-codes, bad-lengths, bad-sizes}
+use Rattle.c_judging.proofs.Steps.{judged, bad-codes, bad-lengths, bad-sizes}
 use borrow.Author.Needs.{needs}
 use Rattle.c_judging.proofs.krcf_detect_and_modify.Statement.{statement}
 use Rattle.c_judging.proofs.krcf_detect_and_modify.Tie as tie
@@ -25,7 +25,7 @@ detect-and-modify-requires : tie.Need-detect-and-modify-requires
 detect-and-modify-requires c κs = search needs
 
 put-judgment-requires : tie.Need-put-judgment-requires
-put-judgment-requires c κs = (state-long _ _ _ _ (sym (c .before .before .before .before .before .before .before .before .before .before .before .before .before .before .before .before .before .slices-ok .ensures) ∙ c .before .before .before .before .before .before .before .before .before .before .before .before .before .before .before .before .if2 .taken), verdict-long _ _ _ _ (sym (c .before .before .before .before .before .before .before .before .before .before .before .before .before .before .before .before .before .slices-ok .ensures) ∙ c .before .before .before .before .before .before .before .before .before .before .before .before .before .before .before .before .if2 .taken))
+put-judgment-requires c κs = search needs
 
 same-length : tie.Need-same-length
 same-length c = search needs

@@ -1,7 +1,7 @@
-use Rattle.c_judging.specs.Judging.{changesState}
+use Rattle.verdict_bytes.specs.Bytes.{changesState}
 use borrow.Author.Needs.{needs}
-use Rattle.c_judging.proofs.changes_state.Statement.{statement}
-use Rattle.c_judging.proofs.changes_state.Tie as tie
+use Rattle.verdict_bytes.proofs.changes_state.Statement.{statement}
+use Rattle.verdict_bytes.proofs.changes_state.Tie as tie
 
 enum-told : tie.Need-enum-told
 enum-told c = search needs
