@@ -6,6 +6,10 @@ use lib.Ieee.Exact.{HasValue}
 use lib.Ieee.{Float, binary32, binary64, ofBits}
 use Rattle.ieee.specs.Round.{narrow, floor, sqrt}
 
+-- A pattern's magnitude a is outside the normal range of an `f32`.
+abbrev pub Outside : ℕ → Type 0
+Outside a = 897 * 2 ^ 52 ≤ a → 1151 * 2 ^ 52 ≤ a
+
 -- r is the magnitude of the pattern of `narrow`, for a pattern's magnitude a, whatever the sign.
 abbrev pub Narrowed : ℕ → ℕ → Type 0
 Narrowed a r = (s : Bool) → ofBits binary32 (cond s (2 ^ 31) 0 + r) ≡ narrow (ofBits binary64 (cond s (2 ^ 63) 0 + a))
