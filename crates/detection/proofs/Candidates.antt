@@ -1,5 +1,5 @@
 -- The candidate branch without auto adjust, and that no exit before it is data drift. Assumes nothing.
-use mathlib.Core.Path.{_≡_, refl, sym, ap, ap₂, _∙_, subst}
+use mathlib.Core.Path.{_≡_, refl, sym, subst}
 use mathlib.Core.Bool.{Bool, true, false, cond, not, _&&_}
 use mathlib.Core.List.{List}
 use Prim.Native.Nat.{ℕ, _-_}
@@ -15,10 +15,11 @@ use Rattle.descriptor.specs.declared.Reading.{Reading}
 use Rattle.descriptor.specs.declared.LastDescriptor.{LastDescriptor}
 use Rattle.predictorcorrector.specs.State.{candidateCounted, autoAdjusted}
 use Rattle.predictorcorrector.specs.declared.PredictorCorrector.{PredictorCorrector}
+use Rattle.candidate.specs.Candidate.{countedRows}
+use Rattle.candidate.specs.declared.Counted.{Counted}
 use Rattle.detection.specs.Const.{zero32}
-use Rattle.detection.specs.Judging.{isCandidate, candidateWith, driftWithin, isDrift, gap, recent, opening, noisePass, explained, triggered, withinBox, lateVerdict, gradedVerdict, openVerdict, runAfterMode}
-use Rattle.detection.specs.Steps.{countedRows, countedRun}
-use Rattle.detection.specs.declared.Counted.{Counted}
+use Rattle.detection.specs.Judging.{isCandidate, candidateWith, isDrift, gap, recent, opening, noisePass, explained, triggered, withinBox, lateVerdict, gradedVerdict, openVerdict, runAfterMode}
+use Rattle.detection.specs.Steps.{countedRun}
 use Rattle.detection.specs.declared.Verdict.{Verdict}
 use Rattle.detection.specs.declared.Verdict.the-variants.{Quiet, Corrected, Raised, Skipped}
 
@@ -37,11 +38,11 @@ module _ (s : PredictorCorrector) (h : s .«auto_adjust» ≡ false) where
   no-auto-drift true t n xs ys zs = rw h
   no-auto-drift false t n xs ys zs = refl
 
-no-auto-rows : (s : PredictorCorrector) (r : Reading) (l : LastDescriptor) (threshold : Float) (xs ys noise : List Float) → s .«auto_adjust» ≡ false
-    → _≡_ {A = Counted} (record { drift = false; state = s }) (countedRows s r l threshold xs ys noise)
+no-auto-rows : (s : PredictorCorrector) (r : Reading) (l : LastDescriptor) (shingle : ℕ) (threshold : Float) (xs ys noise : List Float) → s .«auto_adjust» ≡ false
+    → _≡_ {A = Counted} (record { drift = false; state = s }) (countedRows s r l shingle threshold xs ys noise)
 unfolding countedRows
-no-auto-rows s r l threshold xs ys noise h =
-    let candidate = isCandidate r l (s .«run_length») threshold in
+no-auto-rows s r l shingle threshold xs ys noise h =
+    let candidate = isCandidate r l (s .«run_length») shingle threshold in
     let d = sym (no-auto-drift s h candidate (candidateWith candidate s xs ys) (r .«base_dimension») xs ys noise) in
     let t = sym (no-auto-with s h candidate xs ys) in
     λ i. record { drift = d i; state = t i }
@@ -50,23 +51,7 @@ pub no-auto-run : (s : PredictorCorrector) (r : Reading) (l : LastDescriptor) (t
     → _≡_ {A = Counted} (record { drift = false; state = s }) (countedRun s r l threshold point noise x)
 unfolding countedRun
 no-auto-run s r l threshold point noise x h =
-    no-auto-rows s r l threshold (drop (length point - r .«base_dimension») point) (drop (length point - r .«base_dimension») x) noise h
-
-and-flat : (a c d e : Bool) → (((a && c) && d) && e) ≡ (a && (c && (d && e)))
-and-flat true true d e = refl
-and-flat true false d e = refl
-and-flat false c d e = refl
-
--- The candidate branch by what its calls answer.
-pub rows-are : (s : PredictorCorrector) (r : Reading) (l : LastDescriptor) (threshold : Float) (xs ys noise : List Float) (c : Bool) (t : PredictorCorrector) (d : Bool)
-    → c ≡ isCandidate r l (s .«run_length») threshold → t ≡ candidateWith c s xs ys
-    → d ≡ (((c && s .«auto_adjust») && ltb 2 (s .«run_length»)) && driftWithin (r .«base_dimension») (t .«deviations_actual») (t .«deviations_expected») xs ys noise)
-    → _≡_ {A = Counted} (record { drift = d; state = t }) (countedRows s r l threshold xs ys noise)
-unfolding countedRows isDrift
-rows-are s r l threshold xs ys noise c t d k q e =
-    let p = q ∙ ap (λ (x : Bool). candidateWith x s xs ys) k in
-    let o = e ∙ and-flat c (s .«auto_adjust») (ltb 2 (s .«run_length»)) _ ∙ ap₂ (λ (x : Bool) (u : PredictorCorrector). isDrift x s u (r .«base_dimension») xs ys noise) k p in
-    λ i. record { drift = o i; state = p i }
+    no-auto-rows s r l (r .«shingle_size») threshold (drop (length point - r .«base_dimension») point) (drop (length point - r .«base_dimension») x) noise h
 
 -- Not data drift.
 NotDrift : Verdict → Type 0

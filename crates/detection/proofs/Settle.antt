@@ -19,11 +19,12 @@ use Rattle.descriptor.specs.declared.Reading.{Reading}
 use Rattle.descriptor.specs.declared.LastDescriptor.{LastDescriptor}
 use Rattle.predictorcorrector.specs.State.{runGrown, stateCountsOk}
 use Rattle.predictorcorrector.specs.declared.PredictorCorrector.{PredictorCorrector}
+use Rattle.candidate.specs.Candidate.{countedRows}
+use Rattle.candidate.specs.declared.Counted.{Counted}
 use Rattle.detection.specs.Judging.{gap, block, start, expected, newestOf, candidateState, isDataDrift, raisedOr, settled, openVerdict, verdict, runAfterMode, correctedScore, entered, after, relativeIndex, kept}
 use Rattle.detection.specs.Judged.{Judged, outcome, outcomeOf, stateAfter, indexAfter, written}
-use Rattle.detection.specs.Steps.{branch, Branching, Writing, Branched, countedRows, countedRun, openOf, openOutcome, alarmOf, calmState}
+use Rattle.detection.specs.Steps.{branch, Branching, Writing, Branched, driftJudgment, raisedJudgment, countedRun, openOf, openOutcome, alarmOf, calmState}
 use Rattle.detection.specs.declared.Alarm.{Alarm}
-use Rattle.detection.specs.declared.Counted.{Counted}
 use Rattle.detection.specs.declared.Verdict.{Verdict}
 use Rattle.detection.specs.declared.Verdict.the-variants.{Quiet, Corrected, Raised, Skipped}
 use Rattle.detection.specs.declared.Outcome.{Outcome}
@@ -67,17 +68,19 @@ module _ (s : PredictorCorrector) (r : Reading) (l : LastDescriptor) (b : Lent) 
 
   -- The two ends of the candidate branch.
   module _ (j : Judgment) (t g : Float) (e h w : List Float) where
-    pub drift-branches : isDataDrift r l b s t ≡ true → j .outcome ≡ Accepted (Corrected t «DATA_DRIFT»)
-        → j .state ≡ entered (candidateState r l b s t) r l (correctedScore r l) → j .«relative_index» ≡ pos 0 → Branched s r l b t g j e h w e h w
-    unfolding raisedOr
-    drift-branches d o q i = record { says = rw d o; state = rw d q; index = rw d i; point = rw d; highs = rw d; lows = rw d }
+    pub drift-branches : isDataDrift r l b s t ≡ true → (c : PredictorCorrector) → c ≡ candidateState r l b s t → j ≡ driftJudgment c r l t → Branched s r l b t g j e h w e h w
+    unfolding raisedOr driftJudgment
+    drift-branches d c q i =
+        let p = i ∙ ap (λ (x : PredictorCorrector). driftJudgment x r l t) q in
+        record { says = rw d (ap (λ (x : Judgment). x .outcome) p); state = rw d (ap (λ (x : Judgment). x .state) p); index = rw d (ap (λ (x : Judgment). x .«relative_index») p); point = rw d; highs = rw d; lows = rw d }
 
-    pub raised-branches : (e′ h′ w′ : List Float) → isDataDrift r l b s t ≡ false → j .outcome ≡ Accepted (Raised t g)
-        → j .state ≡ entered (runGrown (candidateState r l b s t)) r l (correctedScore r l) → j .«relative_index» ≡ pos (block r l b) -ℤ pos (r .«shingle_size») +ℤ pos 1
+    pub raised-branches : (e′ h′ w′ : List Float) → isDataDrift r l b s t ≡ false → (c : PredictorCorrector) → c ≡ candidateState r l b s t → (k : ℕ) → k ≡ block r l b → j ≡ raisedJudgment c r l k t g
         → e′ ≡ expected r l b → h′ ≡ normalized (r .score) (b .high) (b .low) (b .high) → w′ ≡ normalized (r .score) (b .high) (b .low) (b .low)
         → Branched s r l b t g j e h w e′ h′ w′
-    unfolding raisedOr
-    raised-branches e′ h′ w′ d o q i x y z = record { says = rw d o; state = rw d q; index = rw d i; point = rw d x; highs = rw d y; lows = rw d z }
+    unfolding raisedOr raisedJudgment
+    raised-branches e′ h′ w′ d c q k m i x y z =
+        let p = i ∙ ap₂ (λ (u : PredictorCorrector) (n : ℕ). raisedJudgment u r l n t g) q m in
+        record { says = rw d (ap (λ (u : Judgment). u .outcome) p); state = rw d (ap (λ (u : Judgment). u .state) p); index = rw d (ap (λ (u : Judgment). u .«relative_index») p); point = rw d x; highs = rw d y; lows = rw d z }
 
   -- The candidate branch looks at five buffers.
   branched-lent : (j : Judgment) (t g : Float) (e h w e′ h′ w′ : List Float)

@@ -37,9 +37,10 @@ module _ (r : Reading) (l : LastDescriptor) (b : Lent) where
   unfolding gap
   gap-is g e = e
 
-  pub recent-is : (g : ℕ) (t : Bool) → g ≡ gap r l b → t ≡ isRecent (l .«has_anomaly») g (r .«shingle_size») → t ≡ recent r l b
-  unfolding recent
-  recent-is g t e q = q ∙ ap (λ (n : ℕ). isRecent (l .«has_anomaly») n (r .«shingle_size»)) e
+  pub quiet-is : (t : BasicThresholder) (q : Bool) → q ≡ (isRecent (l .«has_anomaly») (gapOf (r .«values_seen») (l .«has_anomaly») (l .anomaly .«values_seen»)) (r .«shingle_size») && Ieee.eq (opening t r (r .«corrected_score») .grade) zero32)
+      → q ≡ (recent r l b && Ieee.eq (opening t r (r .«corrected_score») .grade) zero32)
+  unfolding recent gap
+  quiet-is t q e = e
 
   pub pass-is : (g : ℕ) (f : Float) → g ≡ gap r l b
       → f ≡ centeredTransformPass (r .«base_dimension») (b .scale) (b .shift) (b .«difference_deviations») (applyBasicCorrector (b .point) g (r .«shingle_size») (r .«base_dimension») (l .«has_anomaly») (b .«last_expected») (b .«last_anomalous») (l .anomaly .«relative_index») (isDifferenced (r .«transform_method»)) (r .«time_augmented»))
@@ -47,29 +48,29 @@ module _ (r : Reading) (l : LastDescriptor) (b : Lent) where
   unfolding noisePass correctedPoint
   pass-is g f e q = q ∙ ap (λ (n : ℕ). centeredTransformPass (r .«base_dimension») (b .scale) (b .shift) (b .«difference_deviations») (applyBasicCorrector (b .point) n (r .«shingle_size») (r .«base_dimension») (l .«has_anomaly») (b .«last_expected») (b .«last_anomalous») (l .anomaly .«relative_index») (isDifferenced (r .«transform_method»)) (r .«time_augmented»))) e
 
-  pub block-is : (g k : ℕ) → g ≡ gap r l b → k ≡ blockOf (maxGapContribution (b .high) (b .low) (r .«base_dimension») g) → k ≡ block r l b
-  unfolding block
-  block-is g k e q = q ∙ ap (λ (n : ℕ). blockOf (maxGapContribution (b .high) (b .low) (r .«base_dimension») n)) e
+  pub block-is : (k : ℕ) → k ≡ blockOf (maxGapContribution (b .high) (b .low) (r .«base_dimension») (gapOf (r .«values_seen») (l .«has_anomaly») (l .anomaly .«values_seen»))) → k ≡ block r l b
+  unfolding block gap
+  block-is k e = e
 
-  pub start-is : (g s : ℕ) → g ≡ gap r l b → s ≡ blockOf (maxGapContribution (b .high) (b .low) (r .«base_dimension») g) * r .«base_dimension» → s ≡ start r l b
-  unfolding start
-  start-is g s e q = q ∙ ap (λ (n : ℕ). n * r .«base_dimension») (block-is g _ e refl)
+  pub start-is : (s : ℕ) → s ≡ blockOf (maxGapContribution (b .high) (b .low) (r .«base_dimension») (gapOf (r .«values_seen») (l .«has_anomaly») (l .anomaly .«values_seen»))) * r .«base_dimension» → s ≡ start r l b
+  unfolding start block gap
+  start-is s e = e
 
-  pub box-is : (s : ℕ) (d : Bool) (u : List Float) → s ≡ start r l b → d ≡ isDifferenced (r .«transform_method»)
-      → u ≡ uncertaintyBox (b .point) s (b .scale) (b .shift) (b .«difference_deviations») d (replicate (r .«base_dimension») zero32) → u ≡ box r l b
+  pub box-is : (s : ℕ) (u : List Float) → s ≡ start r l b
+      → u ≡ uncertaintyBox (b .point) s (b .scale) (b .shift) (b .«difference_deviations») (isDifferenced (r .«transform_method»)) (replicate (r .«base_dimension») zero32) → u ≡ box r l b
   unfolding box
-  box-is s d u e h q = q ∙ ap₂ (λ (n : ℕ) (t : Bool). uncertaintyBox (b .point) n (b .scale) (b .shift) (b .«difference_deviations») t (replicate (r .«base_dimension») zero32)) e h
+  box-is s u e q = q ∙ ap (λ (n : ℕ). uncertaintyBox (b .point) n (b .scale) (b .shift) (b .«difference_deviations») (isDifferenced (r .«transform_method»)) (replicate (r .«base_dimension») zero32)) e
 
   pub explained-is : (auto t : Bool) (u : List Float) (s : ℕ) → u ≡ box r l b → s ≡ start r l b
       → t ≡ (auto && explainedByConditionalField u (b .point) s (b .scale) (b .neighbours) (length (b .point))) → t ≡ (auto && explained r l b)
   unfolding explained
   explained-is auto t u s e h q = q ∙ ap₂ (λ (v : List Float) (n : ℕ). auto && explainedByConditionalField v (b .point) n (b .scale) (b .neighbours) (length (b .point))) e h
 
-  pub shingle-is : (g : ℕ) (t : Bool) (threshold : Float) → g ≡ gap r l b
-      → t ≡ (ltb g (r .«shingle_size») && not (trigger (b .high) (b .low) g (r .«base_dimension») (b .«ideal_high») (b .«ideal_low») (l .«has_anomaly») (l .anomaly .«has_attribution») (l .anomaly .score) threshold))
+  pub shingle-is : (t : Bool) (threshold : Float)
+      → t ≡ (ltb (gapOf (r .«values_seen») (l .«has_anomaly») (l .anomaly .«values_seen»)) (r .«shingle_size») && not (trigger (b .high) (b .low) (gapOf (r .«values_seen») (l .«has_anomaly») (l .anomaly .«values_seen»)) (r .«base_dimension») (b .«ideal_high») (b .«ideal_low») (l .«has_anomaly») (l .anomaly .«has_attribution») (l .anomaly .score) threshold))
       → t ≡ (ltb (gap r l b) (r .«shingle_size») && not (triggered r l b threshold))
-  unfolding triggered
-  shingle-is g t threshold e q = q ∙ ap (λ (n : ℕ). ltb n (r .«shingle_size») && not (trigger (b .high) (b .low) n (r .«base_dimension») (b .«ideal_high») (b .«ideal_low») (l .«has_anomaly») (l .anomaly .«has_attribution») (l .anomaly .score) threshold)) e
+  unfolding triggered gap
+  shingle-is t threshold e = e
 
   pub within-is : (t : Bool) (u : List Float) (s : ℕ) → u ≡ box r l b → s ≡ start r l b
       → t ≡ withinUnertaintyBox u s (b .scale) (b .point) (expectedPoint (b .high) (b .low) s (r .«base_dimension») (b .point) (b .median)) → t ≡ withinBox r l b

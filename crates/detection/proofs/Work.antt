@@ -1,24 +1,20 @@
 -- Parts of local work arrays that a call wrote, and what the leaves' contracts give where the lengths fit. Assumes nothing.
-use mathlib.Core.Path.{_≡_, refl, sym, ap, ap₂, _∙_}
+use mathlib.Core.Path.{_≡_, refl, sym, ap, _∙_}
 use mathlib.Core.Bool.{Bool, true, false, cond, not, _||_}
 use mathlib.Core.List.{List, [], _∷_, _++_}
-use Prim.Native.Nat.{ℕ, zero, suc, _+_, _-_, _≤_, _<_}
+use Prim.Native.Nat.{ℕ, zero, suc, _-_, _≤_}
 use native.Mathlib.Nat.{le-of-suc-le-suc, not-suc-le-zero}
 use native.Mathlib.Omega.{arith}
 use lib.Dec.{ltb}
 use lib.IntN.{ℤ}
-use native.Mathlib.Numerals.{add-one}
-use lib.ListN.{length, getD, take, drop, replicate, length-drop}
+use lib.ListN.{length, take, drop, replicate, length-drop}
 use lib.Seq.{take-at, take-all, drop-append-le}
 use borrow.Author.Tests.{leb-false, lt-ltb}
-use lib.Ieee.{Float, nan}
-use Rattle.deviation.specs.Const.{zero64}
-use Rattle.deviation.specs.Statistics.{fresh}
-use Rattle.deviation.specs.declared.Deviation.{Deviation}
+use lib.Ieee.{Float}
 use Rattle.corrector.specs.Corrector.{correctorFits, applyBasicCorrector, expectedFits}
 use Rattle.corrector.specs.Steps.{Correcting, Expecting}
 use Rattle.corrector.proofs.Kept.{corrects, expects}
-use Rattle.detection.specs.Judging.{isRecent, nearMeans, driftWithin}
+use Rattle.detection.specs.Judging.{isRecent}
 
 -- The front that a call wrote, of a work array.
 pub front-is : {A : Type 0} (w ys zs : List A) (d : ℕ) → length ys ≡ d → ys ≡ zs → take d (ys ++ drop d w) ≡ zs
@@ -54,20 +50,6 @@ not-recent point gap shingle base false e a i u t k = pick (ltb shingle gap) _
     pick true z = refl
     pick false z = refl
 not-recent point gap shingle base true e a i u t k = rw (lt-ltb shingle gap (leb-false gap shingle k))
-
--- An element that is there does not depend on the default.
-getD-any : {A : Type 0} (xs : List A) (i : ℕ) (a c : A) → i < length xs → getD xs i a ≡ getD xs i c
-getD-any [] i a c h = absurd (not-suc-le-zero h)
-getD-any (x ∷ xs) zero a c h = refl
-getD-any (x ∷ xs) (suc i) a c h = getD-any xs i a c (le-of-suc-le-suc h)
-
--- The drift test is that of the last coordinate.
-pub drift-last : (base y : ℕ) (ds es : List Deviation) (ns xs zs : List Float) (d₀ e₀ : Deviation) → base ≡ y + 1 → y < length ds → y < length es
-    → nearMeans (getD ds y d₀) (getD es y e₀) (getD ns y nan) (getD xs y nan) (getD zs y nan) ≡ driftWithin base ds es ns xs zs
-unfolding driftWithin
-drift-last base y ds es ns xs zs d₀ e₀ e h k =
-    ap₂ (λ (d c : Deviation). nearMeans d c (getD ns y nan) (getD xs y nan) (getD zs y nan)) (getD-any ds y d₀ (fresh zero64) h) (getD-any es y e₀ (fresh zero64) k)
-    ∙ ap (λ (n : ℕ). driftWithin n ds es ns xs zs) (sym (e ∙ add-one y))
 
 -- A part with a start of a list, to its end.
 pub tail-is : {A : Type 0} (xs : List A) (n : ℕ) → take (length xs - n) (drop n xs) ≡ drop n xs

@@ -1,123 +1,32 @@
 -- `detect_and_modify` exit by exit: what the watch says of an accepted reading, and the state and buffers that it leaves.
-use Prim.Native.Nat.{ℕ, zero, suc, _+_, _-_, _*_}
-use mathlib.Core.Bool.{Bool, true, false, cond, _&&_, _||_, not}
-use mathlib.Core.List.{List, [], _∷_}
-use lib.Dec.{leb, ltb}
+-- Its leaves are in `crates/scoring` and `crates/candidate`, and pass through here.
+use Prim.Native.Nat.{ℕ, _-_, _*_}
+use mathlib.Core.Bool.{Bool, cond, _&&_, not}
+use mathlib.Core.List.{List}
+use lib.Dec.{ltb}
 use lib.IntN.{ℤ, pos, _+ℤ_, _-ℤ_}
-use lib.ListN.{length, drop, getD, replicate}
+use lib.ListN.{length, drop, replicate}
 use lib.Ieee as Ieee
-use lib.Ieee.{Float, binary32, binary64, nan}
-use Rattle.ieee.specs.Round.{narrow}
-use Rattle.util.specs.Util.{maxf32, absf32}
-use Rattle.types.specs.Codes.{isDifferenced, isHeight}
-use Rattle.types.specs.declared.ScoringStrategy.{ScoringStrategy}
+use lib.Ieee.{Float, binary32}
+use Rattle.types.specs.Codes.{isDifferenced}
 use Rattle.types.specs.declared.CorrectionMode.{CorrectionMode}
 use Rattle.types.specs.declared.CorrectionMode.the-variants as Modes
 use Rattle.types.specs.declared.CorrectionMode.the-variants.{NOISE, «ANOMALY_IN_SHINGLE», «CONDITIONAL_FORECAST», FORECAST, «DATA_DRIFT»}
-use Rattle.deviation.specs.Statistics.{mean, deviation, fresh}
-use Rattle.deviation.specs.Const.{zero64}
-use Rattle.deviation.specs.declared.Deviation.{Deviation}
-use Rattle.basicthresholder.specs.Grades.{thresholdAndGrade, primaryThresholdAndGrade}
 use Rattle.basicthresholder.specs.declared.BasicThresholder.{BasicThresholder}
-use Rattle.basicthresholder.specs.declared.Graded.{Graded}
-use Rattle.divector.specs.DiVector.{maxGapContribution, normalized}
-use Rattle.divector.specs.declared.Block.{Block}
-use Rattle.divector.specs.declared.Block.the-variants as Blocks
+use Rattle.divector.specs.DiVector.{maxGapContribution}
 use Rattle.uncertainty_box.specs.Box.{uncertaintyBox, withinUnertaintyBox, explainedByConditionalField}
 use Rattle.uncertainty_box.specs.Pass.{centeredTransformPass}
 use Rattle.corrector.specs.Corrector.{applyBasicCorrector, expectedPoint, trigger}
 use Rattle.descriptor.specs.Lent.{Lent}
 use Rattle.descriptor.specs.declared.Reading.{Reading}
 use Rattle.descriptor.specs.declared.LastDescriptor.{LastDescriptor}
-use Rattle.predictorcorrector.specs.State.{withThresholder, runEnded, autoAdjusted, candidateCounted, runGrown, scoreCounted}
+use Rattle.predictorcorrector.specs.State.{runEnded, autoAdjusted, runGrown}
 use Rattle.predictorcorrector.specs.declared.PredictorCorrector.{PredictorCorrector}
-use Rattle.detection.specs.Const.{zero32, one32, two32, ten32, tenth32, fifth32, noiseFactor}
+unfoldable pub use Rattle.scoring.specs.Scores.{gapOf, isRecent, opening, correctedScore, entered, blockOf}
+unfoldable pub use Rattle.candidate.specs.Candidate.{isCandidate, candidateWith, isDrift}
+use Rattle.detection.specs.Const.{zero32}
 use Rattle.detection.specs.declared.Verdict.{Verdict}
 use Rattle.detection.specs.declared.Verdict.the-variants.{Quiet, Corrected, Raised, Skipped}
-
--- Readings since the last anomaly; without one, since the start.
-unfoldable pub gapOf : ℕ → Bool → ℕ → ℕ
-gapOf seen hasAnomaly lastSeen = seen - cond hasAnomaly lastSeen 0
-
--- The last anomaly is still in the shingle.
-unfoldable pub isRecent : Bool → ℕ → ℕ → Bool
-isRecent hasAnomaly gap shingle = hasAnomaly && leb gap shingle
-
--- Threshold and grade of a score, by the reading's strategy. Of the reading's own score: the opening grade.
-unfoldable pub opening : BasicThresholder → Reading → Float → Graded
-opening t r score =
-    cond (isHeight (r .«scoring_strategy»))
-    (thresholdAndGrade t score (r .«transform_method») (r .«shingle_size»))
-    (primaryThresholdAndGrade t score)
-
--- The score that counts as corrected: the corrected point's where the last anomaly is recent, otherwise the score itself.
-unfoldable pub usedScore : Bool → Reading → Float
-usedScore recent r = cond recent (r .«corrected_score») (r .score)
-
--- The block that a search answers. It is refused for no accepted reading.
-unfoldable pub blockOf : Block → ℕ
-blockOf (Blocks.At k) = k
-blockOf (Blocks.Refused why) = 0
-
--- strategy == last strategy
-unfoldable pub sameStrategy : ScoringStrategy → ScoringStrategy → Bool
-sameStrategy a b = cond (isHeight a) (isHeight b) (not (isHeight b))
-
--- How far a run of raised readings lifts the bar for a next candidate.
-unfoldable pub runShare : ℕ → ℕ → Float
-runShare run shingle =
-    maxf32 fifth32 (Ieee.div binary32 (Ieee.ofInt binary32 (pos run)) (Ieee.mul binary32 two32 (maxf32 ten32 (Ieee.ofInt binary32 (pos shingle)))))
-
--- The score is larger than the last, or by less smaller than the run allows.
-unfoldable pub stillHigh : Float → Float → Float → Float → Float → Bool
-stillHigh score threshold lastScore lastThreshold share =
-    Ieee.lt lastScore score
-    || Ieee.lt (Ieee.sub binary32 score (Ieee.mul binary32 (maxf32 threshold lastThreshold) (Ieee.add binary32 one32 share))) (Ieee.sub binary32 lastScore lastThreshold)
-
--- `candidate`.
-unfoldable pub isCandidate : Reading → LastDescriptor → ℕ → Float → Bool
-isCandidate r l run threshold =
-    sameStrategy (r .«scoring_strategy») (l .«scoring_strategy»)
-    && stillHigh (r .score) threshold (l .score) (l .threshold) (runShare run (r .«shingle_size»))
-
--- One coordinate of the drift test: the newest value is near the run's mean, and the newest expected value near the mean of those.
-unfoldable pub nearMeans : Deviation → Deviation → Float → Float → Float → Bool
-nearMeans actual expected newest newestExpected noise =
-    Ieee.lt (absf32 (Ieee.sub binary32 (narrow (mean actual)) newest))
-    (maxf32 (Ieee.mul binary32 two32 (narrow (deviation actual))) (Ieee.mul binary32 noiseFactor noise))
-    && Ieee.lt (absf32 (Ieee.sub binary32 (narrow (mean expected)) newestExpected))
-    (Ieee.add binary32
-    (Ieee.mul binary32 two32 (maxf32 (narrow (deviation expected)) (narrow (deviation actual))))
-    (Ieee.mul binary32 tenth32 (absf32 (narrow (Ieee.sub binary64 (mean actual) (mean expected))))))
-
--- The drift test over the first n coordinates. The Rust assigns `within` anew for each: the last alone decides.
-unfoldable pub driftWithin : ℕ → List Deviation → List Deviation → List Float → List Float → List Float → Bool
-driftWithin zero actual expected newest newestExpected noise = true
-driftWithin (suc y) actual expected newest newestExpected noise =
-    nearMeans (getD actual y (fresh zero64)) (getD expected y (fresh zero64)) (getD newest y nan) (getD newestExpected y nan) (getD noise y nan)
-
--- The state with a candidate's newest rows counted.
-unfoldable pub candidateWith : Bool → PredictorCorrector → List Float → List Float → PredictorCorrector
-candidateWith candidate s newest newestExpected = cond candidate (candidateCounted s newest newestExpected) s
-
--- Data drift: a candidate with auto adjust whose run is longer than two, near the means of the run that it is counted in.
-unfoldable pub isDrift : Bool → PredictorCorrector → PredictorCorrector → ℕ → List Float → List Float → List Float → Bool
-isDrift candidate s counted base newest newestExpected noise =
-    candidate
-    && (s .«auto_adjust»
-    && (ltb 2 (s .«run_length»)
-    && driftWithin base (counted .«deviations_actual») (counted .«deviations_expected») newest newestExpected noise))
-
--- `update_score`: every accepted reading but one of score 0 enters the statistics, once.
-unfoldable pub entered : PredictorCorrector → Reading → LastDescriptor → Float → PredictorCorrector
-entered s r l corrected =
-    withThresholder s
-    (scoreCounted (s .«basic_thresholder») (r .«scoring_strategy») (r .score) corrected (l .«scoring_strategy») (l .score))
-
--- The corrected score of a reading, by its gap.
-unfoldable pub correctedScore : Reading → LastDescriptor → Float
-correctedScore r l =
-    usedScore (isRecent (l .«has_anomaly») (gapOf (r .«values_seen») (l .«has_anomaly») (l .anomaly .«values_seen»)) (r .«shingle_size»)) r
 
 module _ (r : Reading) (l : LastDescriptor) (b : Lent) where
   unfoldable pub gap : ℕ
@@ -189,11 +98,11 @@ module _ (r : Reading) (l : LastDescriptor) (b : Lent) where
       (cond (Ieee.eq (opened .grade) zero32) (Quiet (opened .threshold)) (gradedVerdict t auto (opened .threshold) (opened .grade)))
 
   unfoldable pub candidateState : PredictorCorrector → Float → PredictorCorrector
-  candidateState s threshold = candidateWith (isCandidate r l (s .«run_length») threshold) s (newestOf (b .point)) (newestOf expected)
+  candidateState s threshold = candidateWith (isCandidate r l (s .«run_length») (r .«shingle_size») threshold) s (newestOf (b .point)) (newestOf expected)
 
   unfoldable pub isDataDrift : PredictorCorrector → Float → Bool
   isDataDrift s threshold =
-      isDrift (isCandidate r l (s .«run_length») threshold) s (candidateState s threshold) (r .«base_dimension») (newestOf (b .point)) (newestOf expected) (b .«difference_deviations»)
+      isDrift (isCandidate r l (s .«run_length») (r .«shingle_size») threshold) s (candidateState s threshold) (r .«base_dimension») (newestOf (b .point)) (newestOf expected) (b .«difference_deviations»)
 
   -- The last exit: data drift, or raised.
   unfoldable pub raisedOr : PredictorCorrector → Float → Float → Verdict

@@ -9,7 +9,7 @@ use lib.Ieee as Ieee
 use lib.Ieee.{Float, binary32}
 use Rattle.types.specs.declared.Answer.{Answer}
 use Rattle.types.specs.declared.Answer.the-variants as Answers
-use Rattle.types.specs.declared.CorrectionMode.the-variants.{NOISE, «ANOMALY_IN_SHINGLE»}
+use Rattle.types.specs.declared.CorrectionMode.the-variants.{NOISE, «ANOMALY_IN_SHINGLE», «DATA_DRIFT»}
 use Rattle.basicthresholder.specs.declared.BasicThresholder.{BasicThresholder}
 use Rattle.corrector.specs.Steps.{Expecting, Correcting}
 use Rattle.corrector.specs.Corrector.{expectedPoint}
@@ -20,9 +20,10 @@ use Rattle.descriptor.specs.declared.LastDescriptor.{LastDescriptor}
 use Rattle.divector.specs.DiVector.{normalized}
 use Rattle.predictorcorrector.specs.State.{runEnded, autoAdjusted, runGrown}
 use Rattle.predictorcorrector.specs.declared.PredictorCorrector.{PredictorCorrector}
+use Rattle.candidate.specs.Candidate.{countedRows}
+use Rattle.candidate.specs.declared.Counted.{Counted}
 use Rattle.detection.specs.Const.{zero32}
-use Rattle.detection.specs.Judging.{gapOf, recent, opening, noisePass, start, block, isCandidate, candidateWith, isDrift, candidateState, isDataDrift, raisedOr, expected, openVerdict, correctedScore, entered}
-use Rattle.detection.specs.declared.Counted.{Counted}
+use Rattle.detection.specs.Judging.{gapOf, recent, opening, noisePass, start, block, candidateState, isDataDrift, raisedOr, expected, openVerdict, correctedScore, entered}
 use Rattle.detection.specs.declared.Passed.{Passed}
 use Rattle.detection.specs.declared.Passed.the-variants.{Ended, Working}
 use Rattle.detection.specs.declared.Verdict.the-variants.{Quiet, Corrected, Raised, Skipped}
@@ -64,35 +65,16 @@ pub record Writing (b : Lent) (e h w : ℕ) : Type 0 where
   pub out-high-long : length (b .high) ≡ h
   pub out-low-long : length (b .high) ≡ w
 
--- What the candidate branch asks of a point and of the deviations, by their lengths.
-pub record Rows (r : Reading) (point noise : ℕ) : Type 0 where
+-- What the candidate branch asks of a point, by its length.
+pub record Rows (r : Reading) (point : ℕ) : Type 0 where
   pub shingle-most : r .«shingle_size» ≤ 64
-  pub base-least : 1 ≤ r .«base_dimension»
-  pub base-most : r .«base_dimension» ≤ 16
   pub point-most : point ≤ 1024
   pub base-within : r .«base_dimension» ≤ point
-  pub noise-long : noise ≡ r .«base_dimension»
 
--- The newest rows are as long as the base, by their lengths.
-pub record NewestRows (r : Reading) (newest newestExpected noise : ℕ) : Type 0 where
-  pub shingle-most : r .«shingle_size» ≤ 64
-  pub base-least : 1 ≤ r .«base_dimension»
-  pub base-most : r .«base_dimension» ≤ 16
-  pub newest-long : r .«base_dimension» ≤ newest
-  pub expected-long : r .«base_dimension» ≤ newestExpected
-  pub noise-long : r .«base_dimension» ≤ noise
-
--- The candidate branch by the newest rows.
-unfoldable pub countedRows : PredictorCorrector → Reading → LastDescriptor → Float → List Float → List Float → List Float → Counted
-countedRows s r l threshold newest newestExpected noise =
-    let candidate = isCandidate r l (s .«run_length») threshold in
-    let counted = candidateWith candidate s newest newestExpected in
-    record { drift = isDrift candidate s counted (r .«base_dimension») newest newestExpected noise; state = counted }
-
--- The same for a point and its expected point x.
+-- The candidate branch for a point and its expected point x.
 unfoldable pub countedRun : PredictorCorrector → Reading → LastDescriptor → Float → List Float → List Float → List Float → Counted
 countedRun s r l threshold point noise x =
-    countedRows s r l threshold (drop (length point - r .«base_dimension») point) (drop (length point - r .«base_dimension») x) noise
+    countedRows s r l (r .«shingle_size») threshold (drop (length point - r .«base_dimension») point) (drop (length point - r .«base_dimension») x) noise
 
 -- Up to the noise pass: the mode of an exit, or the working grade.
 unfoldable pub passed : Reading → LastDescriptor → Lent → BasicThresholder → Float → Passed
@@ -128,16 +110,19 @@ calmState s r l point (Accepted (Corrected t m)) = entered (autoAdjusted s point
 calmState s r l point (Accepted (Raised t g)) = s
 calmState s r l point (Accepted Skipped) = s
 
-pub record Calm (s : PredictorCorrector) (r : Reading) (l : LastDescriptor) (point : List Float) (o : Outcome) (j : Judgment) : Type 0 where
-  pub says : j .outcome ≡ o
-  pub state : j .state ≡ calmState s r l point o
-  pub index : j .«relative_index» ≡ pos 0
-
 -- What a raised reading leaves in the three buffers.
 pub record Written (r : Reading) (start : ℕ) (point high low median e h w : List Float) : Type 0 where
   pub point-is : e ≡ expectedPoint high low start (r .«base_dimension») point median
   pub highs : h ≡ normalized (r .score) high low high
   pub lows : w ≡ normalized (r .score) high low low
+
+-- The judgments of the two ends of the candidate branch, s being the state with its rows counted.
+unfoldable pub driftJudgment : PredictorCorrector → Reading → LastDescriptor → Float → Judgment
+driftJudgment s r l threshold = record { outcome = Accepted (Corrected threshold «DATA_DRIFT»); «relative_index» = pos 0; state = entered s r l (correctedScore r l) }
+
+unfoldable pub raisedJudgment : PredictorCorrector → Reading → LastDescriptor → ℕ → Float → Float → Judgment
+raisedJudgment s r l block threshold grade =
+    record { outcome = Accepted (Raised threshold grade); «relative_index» = pos block -ℤ pos (r .«shingle_size») +ℤ pos 1; state = entered (runGrown s) r l (correctedScore r l) }
 
 -- What the candidate branch leaves.
 pub record Branched (s : PredictorCorrector) (r : Reading) (l : LastDescriptor) (b : Lent) (t g : Float) (j : Judgment) (e h w e′ h′ w′ : List Float) : Type 0 where

@@ -1,23 +1,15 @@
 // predictorcorrector.rs: `detect_and_modify`. The stages are functions of their own; what the forest answers is lent.
 use basicthresholder::BasicThresholder;
-use basicthresholder::Graded;
+use candidate::Counted;
 use descriptor::LastDescriptor;
 use descriptor::Reading;
-use deviation::Deviation;
-use divector::Block;
-use ieee::narrow;
 use predictorcorrector::PredictorCorrector;
 use types::Answer;
 use types::CorrectionMode;
 use types::Refusal;
-use types::ScoringStrategy;
-use util::absf32;
-use util::maxf32;
 ghost use mathlib.Core.Path.{_≡_};
-ghost use mathlib.Core.Bool.{true, not, _&&_};
-ghost use lib.Dec.{ltb};
-ghost use lib.Ieee as Ieee;
-ghost use Prim.Native.Nat.{_≤_, _+_, _*_};
+ghost use mathlib.Core.Bool.{true};
+ghost use Prim.Native.Nat.{_≤_, _*_};
 ghost use lib.IntN.{pos, _+ℤ_, _-ℤ_};
 ghost use lib.ListN.{length, take, replicate};
 ghost use Rattle.types.specs.Codes.{isDifferenced};
@@ -52,162 +44,6 @@ pub struct Judgment {
     pub state: PredictorCorrector,
 }
 
-// Readings since the last anomaly; without one, since the start.
-fn gap_of(values_seen: usize, has_anomaly: bool, last_seen: usize) -> usize
-    ensures { λ r. ⌜ r ≡ Judging.gapOf «values_seen» «has_anomaly» «last_seen» ⌝ }
-{
-    if has_anomaly {
-        if last_seen <= values_seen {
-            return values_seen - last_seen;
-        }
-        return 0;
-    }
-    values_seen
-}
-
-fn is_recent(has_anomaly: bool, gap: usize, shingle_size: usize) -> bool
-    ensures { λ r. ⌜ r ≡ Judging.isRecent «has_anomaly» gap «shingle_size» ⌝ }
-{
-    if has_anomaly {
-        return gap <= shingle_size;
-    }
-    false
-}
-
-// Threshold and grade of a score, by the reading's strategy. Of the reading's own score: the opening grade.
-fn opening(t: BasicThresholder, r: Reading, score: f32) -> Graded
-    ensures { λ g. ⌜ g ≡ Judging.opening t r score ⌝ }
-{
-    let strategy = r.scoring_strategy;
-    let method = r.transform_method;
-    if strategy.is_height() {
-        return t.threshold_and_grade(score, method, r.shingle_size);
-    }
-    t.primary_threshold_and_grade(score)
-}
-
-fn used_score(recent: bool, r: Reading) -> f32
-    ensures { λ x. ⌜ x ≡ Judging.usedScore recent r ⌝ }
-{
-    if recent {
-        return r.corrected_score;
-    }
-    r.score
-}
-
-// The score that counts as corrected.
-fn corrected_score(r: Reading, l: LastDescriptor) -> f32
-    ensures { λ x. ⌜ x ≡ Judging.correctedScore r l ⌝ }
-{
-    let anomaly = l.anomaly;
-    let gap = gap_of(r.values_seen, l.has_anomaly, anomaly.values_seen);
-    used_score(is_recent(l.has_anomaly, gap, r.shingle_size), r)
-}
-
-fn same_strategy(a: ScoringStrategy, b: ScoringStrategy) -> bool
-    ensures { λ r. ⌜ r ≡ Judging.sameStrategy a b ⌝ }
-{
-    if a.is_height() {
-        return b.is_height();
-    }
-    !b.is_height()
-}
-
-fn run_share(run_length: u32, shingle_size: u32) -> f32
-    ensures { λ r. ⌜ r ≡ Judging.runShare «run_length» «shingle_size» ⌝ }
-{
-    maxf32(
-        0.2,
-        ieee::u32_to_f32(run_length) / (2.0 * maxf32(10.0, ieee::u32_to_f32(shingle_size))),
-    )
-}
-
-fn still_high(score: f32, threshold: f32, last_score: f32, last_threshold: f32, share: f32) -> bool
-    ensures { λ r. ⌜ r ≡ Judging.stillHigh score threshold «last_score» «last_threshold» share ⌝ }
-{
-    if score > last_score {
-        return true;
-    }
-    last_score - last_threshold > score - maxf32(threshold, last_threshold) * (1.0 + share)
-}
-
-fn is_candidate(r: Reading, l: LastDescriptor, run_length: u32, threshold: f32) -> bool
-    requires { ⌜ r .«shingle_size» ≤ 64 ⌝ }
-    ensures { λ b. ⌜ b ≡ Judging.isCandidate r l «run_length» threshold ⌝ }
-{
-    let strategy = r.scoring_strategy;
-    let last_strategy = l.scoring_strategy;
-    if same_strategy(strategy, last_strategy) {
-        let share = run_share(run_length, r.shingle_size as u32);
-        return still_high(r.score, threshold, l.score, l.threshold, share);
-    }
-    false
-}
-
-// One coordinate of the drift test; each root once.
-fn near_means(
-    actual: Deviation,
-    expected: Deviation,
-    newest: f32,
-    newest_expected: f32,
-    noise: f32,
-) -> bool
-    ensures { λ r. ⌜ r ≡ Judging.nearMeans actual expected newest «newest_expected» noise ⌝ }
-{
-    let mean = actual.mean();
-    let spread = narrow(actual.deviation());
-    let expected_mean = expected.mean();
-    let expected_spread = narrow(expected.deviation());
-    (absf32(narrow(mean) - newest) < maxf32(2.0 * spread, 1.0 * noise))
-        & (absf32(narrow(expected_mean) - newest_expected)
-            < 2.0 * maxf32(expected_spread, spread) + 0.1 * absf32(narrow(mean - expected_mean)))
-}
-
-fn block_of(block: Block) -> usize
-    ensures { λ r. ⌜ r ≡ Judging.blockOf block ⌝ }
-{
-    match block {
-        Block::At(k) => k,
-        Block::Refused(_) => 0,
-    }
-}
-
-// `update_score`, and the state with what it leaves.
-fn entered(
-    s: PredictorCorrector,
-    r: Reading,
-    l: LastDescriptor,
-    corrected: f32,
-) -> PredictorCorrector
-    ensures { λ t. ⌜ t ≡ Judging.entered s r l corrected ⌝ }
-{
-    let strategy = r.scoring_strategy;
-    let last_strategy = l.scoring_strategy;
-    let t = predictorcorrector::score_counted(
-        s.basic_thresholder,
-        strategy,
-        r.score,
-        corrected,
-        last_strategy,
-        l.score,
-    );
-    s.with_thresholder(t)
-}
-
-fn candidate_with(
-    candidate: bool,
-    s: PredictorCorrector,
-    newest: &[f32],
-    newest_expected: &[f32],
-) -> PredictorCorrector
-    ensures { λ t. ⌜ t ≡ Judging.candidateWith candidate s (now (newest .entry)) (now («newest_expected» .entry)) ⌝ }
-{
-    if candidate {
-        return s.candidate_counted(newest, newest_expected);
-    }
-    s
-}
-
 fn zeros() -> [f32; 1024] {
     [0.0f32; 1024]
 }
@@ -234,7 +70,7 @@ fn noise_pass(
     ensures { λ f. ⌜ f ≡ Pass.centeredTransformPass (r .«base_dimension») (now (scale .entry)) (now (shift .entry)) (now («difference_deviations» .entry)) (Corrector.applyBasicCorrector (now (point .entry)) gap (r .«shingle_size») (r .«base_dimension») (l .«has_anomaly») (now («last_expected» .entry)) (now («last_anomalous» .entry)) (l .anomaly .«relative_index») (isDifferenced (r .«transform_method»)) (r .«time_augmented»)) ⌝ }
 {
     let base = r.base_dimension;
-    if !is_recent(l.has_anomaly, gap, r.shingle_size) {
+    if !scoring::is_recent(l.has_anomaly, gap, r.shingle_size) {
         return uncertainty_box::centered_transform_pass(
             base,
             scale,
@@ -265,17 +101,18 @@ fn noise_pass(
 
 // The uncertainty box in the first `base` places.
 fn box_of(
-    point: &[f32],
+    r: Reading,
     start: usize,
-    base: usize,
+    point: &[f32],
     scale: &[f32],
     shift: &[f32],
     difference_deviations: &[f32],
-    differenced: bool,
 ) -> [f32; 16]
-    requires { ⌜ base ≤ 16 ⌝ }
-    ensures { λ r. ⌜ take base r ≡ Box.uncertaintyBox (now (point .entry)) start (now (scale .entry)) (now (shift .entry)) (now («difference_deviations» .entry)) differenced (replicate base zero32) ⌝ }
+    requires { ⌜ r .«base_dimension» ≤ 16 ⌝ }
+    ensures { λ u. ⌜ take (r .«base_dimension») u ≡ Box.uncertaintyBox (now (point .entry)) start (now (scale .entry)) (now (shift .entry)) (now («difference_deviations» .entry)) (isDifferenced (r .«transform_method»)) (replicate (r .«base_dimension») zero32) ⌝ }
 {
+    let base = r.base_dimension;
+    let method = r.transform_method;
     let mut out = sixteen();
     uncertainty_box::construct_uncertainty_box(
         point,
@@ -283,7 +120,7 @@ fn box_of(
         scale,
         shift,
         difference_deviations,
-        differenced,
+        method.is_differenced(),
         &mut out[..base],
     );
     out
@@ -309,77 +146,19 @@ fn within_expected(
     uncertainty_box::within_unertainty_box(uncertainty_box, start, scale, point, &work[..d])
 }
 
-// The corrected point's grade is 0, the last anomaly being recent.
-fn corrected_quiet(t: BasicThresholder, r: Reading, recent: bool) -> bool
-    ensures { λ b. ⌜ b ≡ (recent && Ieee.eq (Judging.opening t r (r .«corrected_score») .grade) zero32) ⌝ }
+fn block_start(block: usize, base: usize) -> usize
+    requires { ⌜ block ≤ 1024 ⌝ ∗ ⌜ base ≤ 16 ⌝ }
+    ensures { λ r. ⌜ r ≡ block * base ⌝ }
 {
-    if recent {
-        let opened = opening(t, r, r.corrected_score);
-        return opened.grade == 0.0;
-    }
-    false
+    block * base
 }
 
 // Where the block that contributes most starts.
-fn start_of(high: &[f64], low: &[f64], base: usize, gap: usize) -> usize
-    requires { ⌜ Judging.blockOf (DiVector.maxGapContribution (now high) (now low) base gap) ≤ 1024 ⌝ ∗ ⌜ base ≤ 16 ⌝ }
-    ensures { λ r. ⌜ r ≡ Judging.blockOf (DiVector.maxGapContribution (now (high .entry)) (now (low .entry)) base gap) * base ⌝ }
+fn start_of(r: Reading, l: LastDescriptor, high: &[f64], low: &[f64]) -> usize
+    requires { ⌜ Judging.blockOf (DiVector.maxGapContribution (now high) (now low) (r .«base_dimension») (Judging.gapOf (r .«values_seen») (l .«has_anomaly») (l .anomaly .«values_seen»))) ≤ 1024 ⌝ ∗ ⌜ r .«base_dimension» ≤ 16 ⌝ }
+    ensures { λ n. ⌜ n ≡ Judging.blockOf (DiVector.maxGapContribution (now (high .entry)) (now (low .entry)) (r .«base_dimension») (Judging.gapOf (r .«values_seen») (l .«has_anomaly») (l .anomaly .«values_seen»))) * r .«base_dimension» ⌝ }
 {
-    block_of(divector::max_gap_contribution(high, low, base, gap)) * base
-}
-
-fn auto_explained(
-    auto_adjust: bool,
-    uncertainty_box: &[f32],
-    point: &[f32],
-    start: usize,
-    scale: &[f32],
-    neighbours: &[f32],
-) -> bool
-    ensures { λ r. ⌜ r ≡ («auto_adjust» && Box.explainedByConditionalField (now («uncertainty_box» .entry)) (now (point .entry)) start (now (scale .entry)) (now (neighbours .entry)) (length (now (point .entry)))) ⌝ }
-{
-    if auto_adjust {
-        return uncertainty_box::explained_by_conditional_field(
-            uncertainty_box,
-            point,
-            start,
-            scale,
-            neighbours,
-            point.len(),
-        );
-    }
-    false
-}
-
-// The last anomaly is in the shingle, and the reading does not trigger anew.
-fn in_shingle(
-    r: Reading,
-    l: LastDescriptor,
-    gap: usize,
-    high: &[f64],
-    low: &[f64],
-    ideal_high: &[f64],
-    ideal_low: &[f64],
-    threshold: f32,
-) -> bool
-    ensures { λ b. ⌜ b ≡ (ltb gap (r .«shingle_size») && not (Corrector.trigger (now (high .entry)) (now (low .entry)) gap (r .«base_dimension») (now («ideal_high» .entry)) (now («ideal_low» .entry)) (l .«has_anomaly») (l .anomaly .«has_attribution») (l .anomaly .score) threshold)) ⌝ }
-{
-    let anomaly = l.anomaly;
-    if gap < r.shingle_size {
-        return !corrector::trigger(
-            high,
-            low,
-            gap,
-            r.base_dimension,
-            ideal_high,
-            ideal_low,
-            l.has_anomaly,
-            anomaly.has_attribution,
-            anomaly.score,
-            threshold,
-        );
-    }
-    false
+    block_start(scoring::anomaly_block(r, l, high, low), r.base_dimension)
 }
 
 // The exits past the noise pass, up to the candidate branch.
@@ -404,23 +183,12 @@ fn late_verdict(
     ensures { λ v. ⌜ v ≡ Judging.lateVerdict r l (Steps.late (now (point .entry)) (now (scale .entry)) (now (shift .entry)) (now («difference_deviations» .entry)) (now (high .entry)) (now (low .entry)) (now (median .entry)) (now («ideal_high» .entry)) (now («ideal_low» .entry)) (now (neighbours .entry))) «auto_adjust» threshold working ⌝ }
 {
     let base = r.base_dimension;
-    let method = r.transform_method;
-    let anomaly = l.anomaly;
-    let gap = gap_of(r.values_seen, l.has_anomaly, anomaly.values_seen);
-    let start = start_of(high, low, base, gap);
-    let edges = box_of(
-        point,
-        start,
-        base,
-        scale,
-        shift,
-        difference_deviations,
-        method.is_differenced(),
-    );
-    if auto_explained(auto_adjust, &edges[..base], point, start, scale, neighbours) {
+    let start = start_of(r, l, high, low);
+    let edges = box_of(r, start, point, scale, shift, difference_deviations);
+    if scoring::auto_explained(auto_adjust, &edges[..base], point, start, scale, neighbours) {
         return Verdict::Corrected(threshold, CorrectionMode::CONDITIONAL_FORECAST);
     }
-    if in_shingle(r, l, gap, high, low, ideal_high, ideal_low, threshold) {
+    if scoring::in_shingle(r, l, high, low, ideal_high, ideal_low, threshold) {
         return Verdict::Corrected(threshold, CorrectionMode::ANOMALY_IN_SHINGLE);
     }
     if within_expected(&edges[..base], start, base, scale, point, high, low, median) {
@@ -450,16 +218,14 @@ fn noise_exit(
     requires { ⌜ Steps.Correctable r l (Steps.passing (now point) (now scale) (now shift) (now «difference_deviations») (now «last_expected») (now «last_anomalous»)) ⌝ }
     ensures { λ p. ⌜ p ≡ Steps.passed r l (Steps.passing (now (point .entry)) (now (scale .entry)) (now (shift .entry)) (now («difference_deviations» .entry)) (now («last_expected» .entry)) (now («last_anomalous» .entry))) t grade ⌝ }
 {
-    let anomaly = l.anomaly;
-    let gap = gap_of(r.values_seen, l.has_anomaly, anomaly.values_seen);
-    if corrected_quiet(t, r, is_recent(l.has_anomaly, gap, r.shingle_size)) {
+    if scoring::corrected_quiet(t, r, l) {
         return Passed::Ended(CorrectionMode::ANOMALY_IN_SHINGLE);
     }
     let working = grade
         * noise_pass(
             r,
             l,
-            gap,
+            scoring::gap(r, l),
             point,
             scale,
             shift,
@@ -526,7 +292,7 @@ fn open_outcome(
     if r.score == 0.0 {
         return Outcome::Accepted(Verdict::Skipped);
     }
-    let opened = opening(t, r, r.score);
+    let opened = scoring::opening(t, r, r.score);
     let threshold = opened.threshold;
     if opened.grade == 0.0 {
         return Outcome::Accepted(Verdict::Quiet(threshold));
@@ -565,66 +331,6 @@ fn open_outcome(
     }
 }
 
-// The drift test of the last coordinate, which alone decides, where it is due.
-fn is_drift(
-    due: bool,
-    base: usize,
-    actual: [Deviation; 16],
-    expected: [Deviation; 16],
-    newest: &[f32],
-    newest_expected: &[f32],
-    noise: &[f32],
-) -> bool
-    requires { ⌜ 1 ≤ base ⌝ ∗ ⌜ base ≤ 16 ⌝ ∗ ⌜ base ≤ length (now newest) ⌝ ∗ ⌜ base ≤ length (now «newest_expected») ⌝ ∗ ⌜ base ≤ length (now noise) ⌝ }
-    ensures { λ r. ⌜ r ≡ (due && Judging.driftWithin base actual expected (now (newest .entry)) (now («newest_expected» .entry)) (now (noise .entry))) ⌝ }
-{
-    if due {
-        let y = base - 1;
-        return near_means(
-            actual[y],
-            expected[y],
-            newest[y],
-            newest_expected[y],
-            noise[y],
-        );
-    }
-    false
-}
-
-// The state with a candidate's newest rows counted, and whether that makes the reading data drift.
-struct Counted {
-    drift: bool,
-    state: PredictorCorrector,
-}
-
-fn count_rows(
-    s: PredictorCorrector,
-    r: Reading,
-    l: LastDescriptor,
-    threshold: f32,
-    newest: &[f32],
-    newest_expected: &[f32],
-    noise: &[f32],
-) -> Counted
-    requires { ⌜ Steps.NewestRows r (length (now newest)) (length (now «newest_expected»)) (length (now noise)) ⌝ }
-    ensures { λ c. ⌜ c ≡ Steps.countedRows s r l threshold (now (newest .entry)) (now («newest_expected» .entry)) (now (noise .entry)) ⌝ }
-{
-    let candidate = is_candidate(r, l, s.run_length, threshold);
-    let state = candidate_with(candidate, s, newest, newest_expected);
-    let actual = state.deviations_actual;
-    let expected = state.deviations_expected;
-    let drift = is_drift(
-        candidate & s.auto_adjust & (2 < s.run_length),
-        r.base_dimension,
-        actual,
-        expected,
-        newest,
-        newest_expected,
-        noise,
-    );
-    Counted { drift, state }
-}
-
 // Without auto adjust no row is counted, and nothing is data drift.
 fn candidate_run(
     s: PredictorCorrector,
@@ -638,7 +344,7 @@ fn candidate_run(
     low: &[f64],
     median: &[f32],
 ) -> Counted
-    requires { ⌜ Steps.Rows r (length (now point)) (length (now «difference_deviations»)) ⌝ ∗ ⌜ CorrectorSteps.Expecting (length (now high)) (length (now low)) start (r .«base_dimension») (length (now point)) (length (now median)) (length (now point)) ⌝ }
+    requires { ⌜ Steps.Rows r (length (now point)) ⌝ ∗ ⌜ CorrectorSteps.Expecting (length (now high)) (length (now low)) start (r .«base_dimension») (length (now point)) (length (now median)) (length (now point)) ⌝ }
     ensures { λ c. ⌜ c ≡ Steps.countedRun s r l threshold (now (point .entry)) (now («difference_deviations» .entry)) (Corrector.expectedPoint (now (high .entry)) (now (low .entry)) start (r .«base_dimension») (now (point .entry)) (now (median .entry))) ⌝ }
 {
     if !s.auto_adjust {
@@ -652,22 +358,16 @@ fn candidate_run(
     let newest = d - base;
     let mut work = zeros();
     corrector::expected_point(high, low, start, base, point, median, &mut work[..d]);
-    count_rows(
+    candidate::count_rows(
         s,
         r,
         l,
+        r.shingle_size as u32,
         threshold,
         &point[newest..],
         &work[newest..d],
         difference_deviations,
     )
-}
-
-fn block_start(block: usize, base: usize) -> usize
-    requires { ⌜ block ≤ 1024 ⌝ ∗ ⌜ base ≤ 16 ⌝ }
-    ensures { λ r. ⌜ r ≡ block * base ⌝ }
-{
-    block * base
 }
 
 // Counted back from the newest block, which is 0.
@@ -703,6 +403,35 @@ fn write_raised(
     );
 }
 
+// The judgments of the two ends of the candidate branch, s being the state with its rows counted.
+fn drift_judgment(s: PredictorCorrector, r: Reading, l: LastDescriptor, threshold: f32) -> Judgment
+    ensures { λ j. ⌜ j ≡ Steps.driftJudgment s r l threshold ⌝ }
+{
+    Judgment {
+        outcome: Outcome::Accepted(Verdict::Corrected(threshold, CorrectionMode::DATA_DRIFT)),
+        relative_index: 0,
+        state: scoring::entered(s, r, l, scoring::corrected_score(r, l)),
+    }
+}
+
+fn raised_judgment(
+    s: PredictorCorrector,
+    r: Reading,
+    l: LastDescriptor,
+    block: usize,
+    threshold: f32,
+    grade: f32,
+) -> Judgment
+    requires { ⌜ block ≤ 1024 ⌝ ∗ ⌜ r .«shingle_size» ≤ 64 ⌝ }
+    ensures { λ j. ⌜ j ≡ Steps.raisedJudgment s r l block threshold grade ⌝ }
+{
+    Judgment {
+        outcome: Outcome::Accepted(Verdict::Raised(threshold, grade)),
+        relative_index: relative_index(block, r.shingle_size),
+        state: scoring::entered(s.run_grown(), r, l, scoring::corrected_score(r, l)),
+    }
+}
+
 // The candidate branch: data drift, or raised, which alone writes the buffers and is one more of the run.
 fn raise(
     s: PredictorCorrector,
@@ -722,13 +451,8 @@ fn raise(
     requires { ⌜ Steps.Branching r l (Steps.branch (now point) (now «difference_deviations») (now high) (now low) (now median)) ⌝ ∗ ⌜ Steps.Writing (Steps.branch (now point) (now «difference_deviations») (now high) (now low) (now median)) (length (now expected)) (length (now «out_high»)) (length (now «out_low»)) ⌝ }
     ensures { λ j. ⌜ Steps.Branched s r l (Steps.branch (now (point .entry)) (now («difference_deviations» .entry)) (now (high .entry)) (now (low .entry)) (now (median .entry))) threshold grade j (now (expected .entry)) (now («out_high» .entry)) (now («out_low» .entry)) (now (expected .exit)) (now («out_high» .exit)) (now («out_low» .exit)) ⌝ }
 {
-    let base = r.base_dimension;
-    let shingle = r.shingle_size;
-    let anomaly = l.anomaly;
-    let gap = gap_of(r.values_seen, l.has_anomaly, anomaly.values_seen);
-    let block = block_of(divector::max_gap_contribution(high, low, base, gap));
-    let start = block_start(block, base);
-    let used = corrected_score(r, l);
+    let block = scoring::anomaly_block(r, l, high, low);
+    let start = block_start(block, r.base_dimension);
     let counted = candidate_run(
         s,
         r,
@@ -742,11 +466,7 @@ fn raise(
         median,
     );
     if counted.drift {
-        return Judgment {
-            outcome: Outcome::Accepted(Verdict::Corrected(threshold, CorrectionMode::DATA_DRIFT)),
-            relative_index: 0,
-            state: entered(counted.state, r, l, used),
-        };
+        return drift_judgment(counted.state, r, l, threshold);
     }
     write_raised(
         r,
@@ -759,11 +479,7 @@ fn raise(
         out_high,
         out_low,
     );
-    Judgment {
-        outcome: Outcome::Accepted(Verdict::Raised(threshold, grade)),
-        relative_index: relative_index(block, shingle),
-        state: entered(counted.state.run_grown(), r, l, used),
-    }
+    raised_judgment(counted.state, r, l, block, threshold, grade)
 }
 
 // Whether an outcome raises so far, and with what threshold and grade.
@@ -801,43 +517,28 @@ fn alarm_of(outcome: Outcome) -> Alarm
     }
 }
 
-// The judgment of an outcome that does not reach the candidate branch.
-fn calm_judgment(
+// The state after an outcome that does not reach the candidate branch.
+fn calm_state(
     s: PredictorCorrector,
     r: Reading,
     l: LastDescriptor,
     outcome: Outcome,
     point: &[f32],
-) -> Judgment
-    ensures { λ j. ⌜ Steps.Calm s r l (now (point .entry)) outcome j ⌝ }
+) -> PredictorCorrector
+    ensures { λ t. ⌜ t ≡ Steps.calmState s r l (now (point .entry)) outcome ⌝ }
 {
     match outcome {
-        Outcome::Refused(_) => Judgment {
-            outcome,
-            relative_index: 0,
-            state: s,
-        },
+        Outcome::Refused(_) => s,
         Outcome::Accepted(verdict) => match verdict {
-            Verdict::Quiet(_) => Judgment {
-                outcome,
-                relative_index: 0,
-                state: entered(s.run_ended(), r, l, r.score),
-            },
-            Verdict::Corrected(_, _) => Judgment {
-                outcome,
-                relative_index: 0,
-                state: entered(s.auto_adjusted(point), r, l, corrected_score(r, l)),
-            },
-            Verdict::Raised(_, _) => Judgment {
-                outcome,
-                relative_index: 0,
-                state: s,
-            },
-            Verdict::Skipped => Judgment {
-                outcome,
-                relative_index: 0,
-                state: s,
-            },
+            Verdict::Quiet(_) => scoring::entered(s.run_ended(), r, l, r.score),
+            Verdict::Corrected(_, _) => scoring::entered(
+                s.auto_adjusted(point),
+                r,
+                l,
+                scoring::corrected_score(r, l),
+            ),
+            Verdict::Raised(_, _) => s,
+            Verdict::Skipped => s,
         },
     }
 }
@@ -908,5 +609,9 @@ pub fn detect_and_modify(
             out_low,
         );
     }
-    calm_judgment(s, r, l, outcome, point)
+    Judgment {
+        outcome,
+        relative_index: 0,
+        state: calm_state(s, r, l, outcome, point),
+    }
 }

@@ -6,7 +6,8 @@ use denote.Ref.{now}
 use lib.ListN.{length, take, drop, length-take, length-append}
 use lib.Seq.{length-take-le}
 use lib.Ieee.{Float}
-use Rattle.detection.specs.Steps.{countedRows, countedRun}
+use Rattle.candidate.specs.Candidate.{countedRows}
+use Rattle.detection.specs.Steps.{countedRun}
 use Rattle.detection.proofs.Work.{not-true, tail-is, tail-of-front, expected-is}
 use Rattle.detection.proofs.Candidates.{no-auto-run}
 use borrow.Author.Needs.{needs}
@@ -31,6 +32,9 @@ slice-aggregate-expected-point c = let l : length (c .before .zeros .result) ≡
 expected-point-requires : tie.Need-expected-point-requires
 expected-point-requires c κs = search needs
 
+cast-count-rows : tie.Need-cast-count-rows
+cast-count-rows c = search needs
+
 mul-count-rows : tie.Need-mul-count-rows
 mul-count-rows c = search needs
 
@@ -54,10 +58,10 @@ part-count-rows-start-2 c = search needs
 
 part-count-rows-end-2 : tie.Need-part-count-rows-end-2
 part-count-rows-end-2 c =
-    let l : length (c .before .before .before .before .before .zeros .result) ≡ 1024 = search needs in
-    let k = c .before .before .before .before .before .before .before .before .before .before .before .before .before .pre .0 .point-most in
-    let long : length (c .before .before .before .expected-point .last .1 .1 .1 .1 .1 .1 .0) ≡ length (now (c .before .before .before .before .before .before .before .before .before .before .before .before .before .args .point)) = c .before .before .before .expected-point .kept .1 .1 .1 .1 .1 .1 .0 ∙ length-take-le (length (now (c .before .before .before .before .before .before .before .before .before .before .before .before .before .args .point))) (c .before .before .before .before .before .zeros .result) (omega arith) in
-    let whole : length (now (c .before .before .before .before .before .before .before .before .before .before .before .before .before .args .point)) ≤ length (c .before .before .before .expected-point .last .1 .1 .1 .1 .1 .1 .0 ++ drop (length (now (c .before .before .before .before .before .before .before .before .before .before .before .before .before .args .point))) (c .before .before .before .before .before .zeros .result)) = simp length-append (omega arith) in
+    let l : length (c .before .before .before .before .before .before .zeros .result) ≡ 1024 = search needs in
+    let k = c .before .before .before .before .before .before .before .before .before .before .before .before .before .before .pre .0 .point-most in
+    let long : length (c .before .before .before .before .expected-point .last .1 .1 .1 .1 .1 .1 .0) ≡ length (now (c .before .before .before .before .before .before .before .before .before .before .before .before .before .before .args .point)) = c .before .before .before .before .expected-point .kept .1 .1 .1 .1 .1 .1 .0 ∙ length-take-le (length (now (c .before .before .before .before .before .before .before .before .before .before .before .before .before .before .args .point))) (c .before .before .before .before .before .before .zeros .result) (omega arith) in
+    let whole : length (now (c .before .before .before .before .before .before .before .before .before .before .before .before .before .before .args .point)) ≤ length (c .before .before .before .before .expected-point .last .1 .1 .1 .1 .1 .1 .0 ++ drop (length (now (c .before .before .before .before .before .before .before .before .before .before .before .before .before .before .args .point))) (c .before .before .before .before .before .before .zeros .result)) = simp length-append (omega arith) in
     whole
 
 count-rows-requires : tie.Need-count-rows-requires
@@ -66,17 +70,17 @@ count-rows-requires c κs = search needs
 returns-2 : tie.Need-returns-2
 unfolding countedRun
 returns-2 c =
-    let a = c .before .before .before .before .before .before .before .before .before .before .before .before .before .before .before .args in
-    let l : length (c .before .before .before .before .before .before .before .zeros .result) ≡ 1024 = search needs in
-    let k = c .before .before .before .before .before .before .before .before .before .before .before .before .before .before .before .pre .0 .point-most in
+    let a = c .before .before .before .before .before .before .before .before .before .before .before .before .before .before .before .before .args in
+    let l : length (c .before .before .before .before .before .before .before .before .zeros .result) ≡ 1024 = search needs in
+    let k = c .before .before .before .before .before .before .before .before .before .before .before .before .before .before .before .before .pre .0 .point-most in
     let h : length (now (a .point)) - a .r .«base_dimension» ≤ length (now (a .point)) = omega arith in
-    let short : length (take (length (now (a .point))) (c .before .before .before .before .before .before .before .zeros .result)) ≡ length (now (a .point)) = length-take-le (length (now (a .point))) (c .before .before .before .before .before .before .before .zeros .result) (omega arith) in
-    let long = c .before .before .before .before .before .expected-point .kept .1 .1 .1 .1 .1 .1 .0 ∙ short in
-    let x = expected-is (length (now (a .high))) (length (now (a .low))) (a .start) (a .r .«base_dimension») (length (now (a .point))) (length (now (a .median))) (take (length (now (a .point))) (c .before .before .before .before .before .before .before .zeros .result)) _ _ short (c .before .before .before .before .before .before .before .before .before .before .before .before .before .before .before .pre .1) (c .before .before .before .before .before .expected-point .ensures) in
+    let short : length (take (length (now (a .point))) (c .before .before .before .before .before .before .before .before .zeros .result)) ≡ length (now (a .point)) = length-take-le (length (now (a .point))) (c .before .before .before .before .before .before .before .before .zeros .result) (omega arith) in
+    let long = c .before .before .before .before .before .before .expected-point .kept .1 .1 .1 .1 .1 .1 .0 ∙ short in
+    let x = expected-is (length (now (a .high))) (length (now (a .low))) (a .start) (a .r .«base_dimension») (length (now (a .point))) (length (now (a .median))) (take (length (now (a .point))) (c .before .before .before .before .before .before .before .before .zeros .result)) _ _ short (c .before .before .before .before .before .before .before .before .before .before .before .before .before .before .before .before .pre .1) (c .before .before .before .before .before .before .expected-point .ensures) in
     c .count-rows .ensures
-    ∙ ap₂ (λ (p e : List Float). countedRows (a .s) (a .r) (a .l) (a .threshold) p e (now (a .difference-deviations)))
+    ∙ ap₂ (λ (p e : List Float). countedRows (a .s) (a .r) (a .l) (a .r .«shingle_size») (a .threshold) p e (now (a .difference-deviations)))
     (tail-is (now (a .point)) (length (now (a .point)) - a .r .«base_dimension»))
-    (tail-of-front (c .before .before .before .before .before .before .before .zeros .result) (c .before .before .before .before .before .expected-point .last .1 .1 .1 .1 .1 .1 .0) _ (length (now (a .point)) - a .r .«base_dimension») (length (now (a .point))) h long x)
+    (tail-of-front (c .before .before .before .before .before .before .before .before .zeros .result) (c .before .before .before .before .before .before .expected-point .last .1 .1 .1 .1 .1 .1 .0) _ (length (now (a .point)) - a .r .«base_dimension») (length (now (a .point))) h long x)
 
 pub candidate-run-spec : {M : Type 1} → statement M
 candidate-run-spec =
@@ -88,6 +92,7 @@ candidate-run-spec =
     array-borrow-prefix-work
     slice-aggregate-expected-point
     expected-point-requires
+    cast-count-rows
     mul-count-rows
     sub-count-rows
     part-count-rows-start
@@ -95,6 +100,5 @@ candidate-run-spec =
     mul-count-rows-2
     sub-count-rows-2
     part-count-rows-start-2
-    part-count-rows-end-2
-    count-rows-requires
+    part-count-rows-end-2 count-rows-requires
     returns-2)

@@ -1,0 +1,186 @@
+// What a reading's scores and attribution say in `detect_and_modify`: steps that ask nothing of their caller.
+use basicthresholder::BasicThresholder;
+use basicthresholder::Graded;
+use descriptor::LastDescriptor;
+use descriptor::Reading;
+use divector::Block;
+use predictorcorrector::PredictorCorrector;
+ghost use mathlib.Core.Path.{_≡_};
+ghost use mathlib.Core.Bool.{not, _&&_};
+ghost use lib.Dec.{ltb};
+ghost use lib.Ieee as Ieee;
+ghost use lib.ListN.{length};
+ghost use Rattle.basicthresholder.specs.Const.{zero32};
+ghost use Rattle.divector.specs.DiVector as DiVector;
+ghost use Rattle.uncertainty_box.specs.Box as Box;
+ghost use Rattle.corrector.specs.Corrector as Corrector;
+ghost use Rattle.scoring.specs.Scores as Scores;
+
+// Readings since the last anomaly; without one, since the start.
+fn gap_of(values_seen: usize, has_anomaly: bool, last_seen: usize) -> usize
+    ensures { λ r. ⌜ r ≡ Scores.gapOf «values_seen» «has_anomaly» «last_seen» ⌝ }
+{
+    if has_anomaly {
+        if last_seen <= values_seen {
+            return values_seen - last_seen;
+        }
+        return 0;
+    }
+    values_seen
+}
+
+// The same of a reading.
+pub fn gap(r: Reading, l: LastDescriptor) -> usize
+    ensures { λ g. ⌜ g ≡ Scores.gapOf (r .«values_seen») (l .«has_anomaly») (l .anomaly .«values_seen») ⌝ }
+{
+    let anomaly = l.anomaly;
+    gap_of(r.values_seen, l.has_anomaly, anomaly.values_seen)
+}
+
+// The last anomaly is still in the shingle.
+pub fn is_recent(has_anomaly: bool, gap: usize, shingle_size: usize) -> bool
+    ensures { λ r. ⌜ r ≡ Scores.isRecent «has_anomaly» gap «shingle_size» ⌝ }
+{
+    if has_anomaly {
+        return gap <= shingle_size;
+    }
+    false
+}
+
+// The same of a reading.
+fn recent(r: Reading, l: LastDescriptor) -> bool
+    ensures { λ b. ⌜ b ≡ Scores.isRecent (l .«has_anomaly») (Scores.gapOf (r .«values_seen») (l .«has_anomaly») (l .anomaly .«values_seen»)) (r .«shingle_size») ⌝ }
+{
+    is_recent(l.has_anomaly, gap(r, l), r.shingle_size)
+}
+
+// Threshold and grade of a score, by the reading's strategy. Of the reading's own score: the opening grade.
+pub fn opening(t: BasicThresholder, r: Reading, score: f32) -> Graded
+    ensures { λ g. ⌜ g ≡ Scores.opening t r score ⌝ }
+{
+    let strategy = r.scoring_strategy;
+    let method = r.transform_method;
+    if strategy.is_height() {
+        return t.threshold_and_grade(score, method, r.shingle_size);
+    }
+    t.primary_threshold_and_grade(score)
+}
+
+fn used_score(recent: bool, r: Reading) -> f32
+    ensures { λ x. ⌜ x ≡ Scores.usedScore recent r ⌝ }
+{
+    if recent {
+        return r.corrected_score;
+    }
+    r.score
+}
+
+// The score that counts as corrected.
+pub fn corrected_score(r: Reading, l: LastDescriptor) -> f32
+    ensures { λ x. ⌜ x ≡ Scores.correctedScore r l ⌝ }
+{
+    used_score(recent(r, l), r)
+}
+
+// `update_score`, and the state with what it leaves.
+pub fn entered(
+    s: PredictorCorrector,
+    r: Reading,
+    l: LastDescriptor,
+    corrected: f32,
+) -> PredictorCorrector
+    ensures { λ t. ⌜ t ≡ Scores.entered s r l corrected ⌝ }
+{
+    let strategy = r.scoring_strategy;
+    let last_strategy = l.scoring_strategy;
+    let t = predictorcorrector::score_counted(
+        s.basic_thresholder,
+        strategy,
+        r.score,
+        corrected,
+        last_strategy,
+        l.score,
+    );
+    s.with_thresholder(t)
+}
+
+// The corrected point's grade is 0, the last anomaly being recent.
+pub fn corrected_quiet(t: BasicThresholder, r: Reading, l: LastDescriptor) -> bool
+    ensures { λ b. ⌜ b ≡ (Scores.isRecent (l .«has_anomaly») (Scores.gapOf (r .«values_seen») (l .«has_anomaly») (l .anomaly .«values_seen»)) (r .«shingle_size») && Ieee.eq (Scores.opening t r (r .«corrected_score») .grade) zero32) ⌝ }
+{
+    if recent(r, l) {
+        let opened = opening(t, r, r.corrected_score);
+        return opened.grade == 0.0;
+    }
+    false
+}
+
+fn block_of(block: Block) -> usize
+    ensures { λ r. ⌜ r ≡ Scores.blockOf block ⌝ }
+{
+    match block {
+        Block::At(k) => k,
+        Block::Refused(_) => 0,
+    }
+}
+
+// The block that contributes most.
+pub fn anomaly_block(r: Reading, l: LastDescriptor, high: &[f64], low: &[f64]) -> usize
+    ensures { λ k. ⌜ k ≡ Scores.blockOf (DiVector.maxGapContribution (now (high .entry)) (now (low .entry)) (r .«base_dimension») (Scores.gapOf (r .«values_seen») (l .«has_anomaly») (l .anomaly .«values_seen»))) ⌝ }
+{
+    block_of(divector::max_gap_contribution(high, low, r.base_dimension, gap(r, l)))
+}
+
+pub fn auto_explained(
+    auto_adjust: bool,
+    uncertainty_box: &[f32],
+    point: &[f32],
+    start: usize,
+    scale: &[f32],
+    neighbours: &[f32],
+) -> bool
+    ensures { λ r. ⌜ r ≡ («auto_adjust» && Box.explainedByConditionalField (now («uncertainty_box» .entry)) (now (point .entry)) start (now (scale .entry)) (now (neighbours .entry)) (length (now (point .entry)))) ⌝ }
+{
+    if auto_adjust {
+        return uncertainty_box::explained_by_conditional_field(
+            uncertainty_box,
+            point,
+            start,
+            scale,
+            neighbours,
+            point.len(),
+        );
+    }
+    false
+}
+
+// The last anomaly is in the shingle, and the reading does not trigger anew.
+pub fn in_shingle(
+    r: Reading,
+    l: LastDescriptor,
+    high: &[f64],
+    low: &[f64],
+    ideal_high: &[f64],
+    ideal_low: &[f64],
+    threshold: f32,
+) -> bool
+    ensures { λ b. ⌜ b ≡ (ltb (Scores.gapOf (r .«values_seen») (l .«has_anomaly») (l .anomaly .«values_seen»)) (r .«shingle_size») && not (Corrector.trigger (now (high .entry)) (now (low .entry)) (Scores.gapOf (r .«values_seen») (l .«has_anomaly») (l .anomaly .«values_seen»)) (r .«base_dimension») (now («ideal_high» .entry)) (now («ideal_low» .entry)) (l .«has_anomaly») (l .anomaly .«has_attribution») (l .anomaly .score) threshold)) ⌝ }
+{
+    let anomaly = l.anomaly;
+    let gap = gap(r, l);
+    if gap < r.shingle_size {
+        return !corrector::trigger(
+            high,
+            low,
+            gap,
+            r.base_dimension,
+            ideal_high,
+            ideal_low,
+            l.has_anomaly,
+            anomaly.has_attribution,
+            anomaly.score,
+            threshold,
+        );
+    }
+    false
+}
