@@ -2,11 +2,13 @@
 use mathlib.Core.Path.{_≡_, refl, sym, ap, ap₂, _∙_}
 use mathlib.Core.Bool.{Bool, true, false, _&&_}
 use mathlib.Core.List.{List, [], _∷_}
-use Prim.Native.Nat.{ℕ, zero, suc, _+_, _≤_, _<_}
+use Prim.Native.Nat.{ℕ, zero, suc, _+_, _-_, _≤_, _<_}
 use native.Mathlib.Nat.{le-of-suc-le-suc, not-suc-le-zero}
 use native.Mathlib.Numerals.{add-one}
+use native.Mathlib.Omega.{arith}
 use lib.Dec.{ltb}
-use lib.ListN.{length, getD, List·getD-eq-default}
+use lib.ListN.{length, getD, take, drop, length-drop, drop-of-length-le, List·getD-eq-default}
+use lib.Seq.{take-all}
 use lib.Ieee.{Float, nan}
 use Rattle.deviation.specs.Const.{zero64}
 use Rattle.deviation.specs.Statistics.{fresh}
@@ -51,3 +53,11 @@ rows-are s r l shingle threshold xs ys noise c t d k q e =
     let p = q ∙ ap (λ (x : Bool). candidateWith x s xs ys) k in
     let o = e ∙ and-flat c (s .«auto_adjust») (ltb 2 (s .«run_length»)) _ ∙ ap₂ (λ (x : Bool) (u : PredictorCorrector). isDrift x s u (r .«base_dimension») xs ys noise) k p in
     λ i. record { drift = o i; state = p i }
+
+-- A part with a start of a list, to its end.
+pub tail-is : {A : Type 0} (xs : List A) (n : ℕ) → take (length xs - n) (drop n xs) ≡ drop n xs
+tail-is xs n = take-all (length xs - n) (drop n xs) (simp length-drop (omega arith))
+
+-- Nothing stands past the end.
+pub past-end : {A : Type 0} (xs : List A) (n : ℕ) → length xs ≤ n → drop (length xs) xs ≡ drop n xs
+past-end xs n h = let k : length xs ≤ length xs = omega arith in drop-of-length-le xs k ∙ sym (drop-of-length-le xs h)

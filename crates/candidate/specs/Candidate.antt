@@ -1,10 +1,10 @@
 -- The candidate branch and its drift test.
-use Prim.Native.Nat.{ℕ, zero, suc}
+use Prim.Native.Nat.{ℕ, zero, suc, _-_}
 use mathlib.Core.Bool.{Bool, true, cond, _&&_, _||_, not}
 use mathlib.Core.List.{List}
 use lib.Dec.{ltb}
 use lib.IntN.{pos}
-use lib.ListN.{getD}
+use lib.ListN.{length, drop, getD}
 use lib.Ieee as Ieee
 use lib.Ieee.{Float, binary32, binary64, nan}
 use Rattle.ieee.specs.Round.{narrow}
@@ -75,3 +75,8 @@ countedRows s r l shingle threshold newest newestExpected noise =
     let candidate = isCandidate r l (s .«run_length») shingle threshold in
     let counted = candidateWith candidate s newest newestExpected in
     record { drift = isDrift candidate s counted (r .«base_dimension») newest newestExpected noise; state = counted }
+
+-- The same for a point and its expected point.
+unfoldable pub countedRun : PredictorCorrector → Reading → LastDescriptor → ℕ → Float → List Float → List Float → List Float → Counted
+countedRun s r l shingle threshold point expected noise =
+    countedRows s r l shingle threshold (drop (length point - r .«base_dimension») point) (drop (length point - r .«base_dimension») expected) noise

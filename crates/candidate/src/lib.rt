@@ -10,7 +10,8 @@ use util::maxf32;
 ghost use mathlib.Core.Path.{_≡_};
 ghost use mathlib.Core.Bool.{_&&_};
 ghost use lib.Ieee.{nan};
-ghost use lib.ListN.{getD};
+ghost use Prim.Native.Nat.{_-_};
+ghost use lib.ListN.{getD, drop};
 ghost use Rattle.candidate.specs.Candidate as Candidate;
 
 fn same_strategy(a: ScoringStrategy, b: ScoringStrategy) -> bool
@@ -138,7 +139,7 @@ pub struct Counted {
 }
 
 // The candidate branch by the newest rows.
-pub fn count_rows(
+fn count_rows(
     s: PredictorCorrector,
     r: Reading,
     l: LastDescriptor,
@@ -164,4 +165,51 @@ pub fn count_rows(
         noise,
     );
     Counted { drift, state }
+}
+
+// d - base, or 0.
+fn newest_start(d: usize, base: usize) -> usize
+    ensures { λ r. ⌜ r ≡ d - base ⌝ }
+{
+    if base <= d {
+        return d - base;
+    }
+    0
+}
+
+// What stands from a place on; nothing past the end.
+fn part_from(xs: &[f32], at: usize) -> &[f32]
+    ensures { λ r. ⌜ now r ≡ drop at (now (xs .entry)) ⌝ }
+{
+    if at <= xs.len() {
+        return &xs[at..];
+    }
+    let end = xs.len();
+    &xs[end..]
+}
+
+// The candidate branch for a point and its expected point.
+pub fn count_run(
+    s: PredictorCorrector,
+    r: Reading,
+    l: LastDescriptor,
+    shingle_size: u32,
+    threshold: f32,
+    point: &[f32],
+    expected: &[f32],
+    noise: &[f32],
+) -> Counted
+    ensures { λ c. ⌜ c ≡ Candidate.countedRun s r l «shingle_size» threshold (now (point .entry)) (now (expected .entry)) (now (noise .entry)) ⌝ }
+{
+    let at = newest_start(point.len(), r.base_dimension);
+    count_rows(
+        s,
+        r,
+        l,
+        shingle_size,
+        threshold,
+        part_from(point, at),
+        part_from(expected, at),
+        noise,
+    )
 }

@@ -15,11 +15,10 @@ use Rattle.descriptor.specs.declared.Reading.{Reading}
 use Rattle.descriptor.specs.declared.LastDescriptor.{LastDescriptor}
 use Rattle.predictorcorrector.specs.State.{candidateCounted, autoAdjusted}
 use Rattle.predictorcorrector.specs.declared.PredictorCorrector.{PredictorCorrector}
-use Rattle.candidate.specs.Candidate.{countedRows}
+use Rattle.candidate.specs.Candidate.{countedRows, countedRun}
 use Rattle.candidate.specs.declared.Counted.{Counted}
 use Rattle.detection.specs.Const.{zero32}
 use Rattle.detection.specs.Judging.{isCandidate, candidateWith, isDrift, gap, recent, opening, noisePass, explained, triggered, withinBox, lateVerdict, gradedVerdict, openVerdict, runAfterMode}
-use Rattle.detection.specs.Steps.{countedRun}
 use Rattle.detection.specs.declared.Verdict.{Verdict}
 use Rattle.detection.specs.declared.Verdict.the-variants.{Quiet, Corrected, Raised, Skipped}
 
@@ -47,11 +46,11 @@ no-auto-rows s r l shingle threshold xs ys noise h =
     let t = sym (no-auto-with s h candidate xs ys) in
     λ i. record { drift = d i; state = t i }
 
-pub no-auto-run : (s : PredictorCorrector) (r : Reading) (l : LastDescriptor) (threshold : Float) (point noise x : List Float) → s .«auto_adjust» ≡ false
-    → _≡_ {A = Counted} (record { drift = false; state = s }) (countedRun s r l threshold point noise x)
+pub no-auto-run : (s : PredictorCorrector) (r : Reading) (l : LastDescriptor) (shingle : ℕ) (threshold : Float) (point x noise : List Float) → s .«auto_adjust» ≡ false
+    → _≡_ {A = Counted} (record { drift = false; state = s }) (countedRun s r l shingle threshold point x noise)
 unfolding countedRun
-no-auto-run s r l threshold point noise x h =
-    no-auto-rows s r l (r .«shingle_size») threshold (drop (length point - r .«base_dimension») point) (drop (length point - r .«base_dimension») x) noise h
+no-auto-run s r l shingle threshold point x noise h =
+    no-auto-rows s r l shingle threshold (drop (length point - r .«base_dimension») point) (drop (length point - r .«base_dimension») x) noise h
 
 -- Not data drift.
 NotDrift : Verdict → Type 0

@@ -12,19 +12,23 @@ use Rattle.types.specs.declared.Answer.{Answer}
 use Rattle.types.specs.declared.Answer.the-variants as Answers
 use Rattle.types.specs.declared.CorrectionMode.the-variants.{«DATA_DRIFT»}
 use Rattle.divector.specs.DiVector.{normalized}
+use Rattle.divector.proofs.Laws.{one-length-true}
 use Rattle.corrector.specs.Corrector.{expectedPoint}
+use Rattle.corrector.specs.Steps.{Expecting}
+use Rattle.corrector.proofs.Kept.{expects}
 use Rattle.descriptor.specs.Checks.{answerOf}
 use Rattle.descriptor.specs.Lent.{Lent}
 use Rattle.descriptor.specs.declared.Reading.{Reading}
 use Rattle.descriptor.specs.declared.LastDescriptor.{LastDescriptor}
 use Rattle.predictorcorrector.specs.State.{runGrown, stateCountsOk}
 use Rattle.predictorcorrector.specs.declared.PredictorCorrector.{PredictorCorrector}
-use Rattle.candidate.specs.Candidate.{countedRows}
+use Rattle.scoring.specs.Scores.{calmState, Written}
+use Rattle.candidate.specs.Candidate.{countedRows, countedRun}
 use Rattle.candidate.specs.declared.Counted.{Counted}
 use Rattle.detection.specs.Judging.{gap, block, start, expected, newestOf, candidateState, isDataDrift, raisedOr, settled, openVerdict, verdict, runAfterMode, correctedScore, entered, after, relativeIndex, kept}
 use Rattle.detection.specs.Judged.{Judged, outcome, outcomeOf, stateAfter, indexAfter, written}
-use Rattle.detection.specs.Steps.{branch, Branching, Writing, Branched, driftJudgment, raisedJudgment, countedRun, openOf, openOutcome, alarmOf, calmState}
-use Rattle.detection.specs.declared.Alarm.{Alarm}
+use Rattle.detection.specs.Steps.{branch, Branching, Writing, Branched, branchJudgment, openOf, openOutcome, courseOf}
+use Rattle.detection.specs.declared.Course.{Course}
 use Rattle.detection.specs.declared.Verdict.{Verdict}
 use Rattle.detection.specs.declared.Verdict.the-variants.{Quiet, Corrected, Raised, Skipped}
 use Rattle.detection.specs.declared.Outcome.{Outcome}
@@ -40,17 +44,21 @@ pub expected-at : (r : Reading) (l : LastDescriptor) (b : Lent) (n : ℕ) → n 
 unfolding expected
 expected-at r l b n e = ap (λ (m : ℕ). expectedPoint (b .high) (b .low) m (r .«base_dimension») (b .point) (b .median)) e
 
--- An outcome with an alarm is raised so far.
-alarmed : (v : Verdict) → alarmOf (Accepted v) .on ≡ true → v ≡ Raised (alarmOf (Accepted v) .threshold) (alarmOf (Accepted v) .grade)
-unfolding alarmOf
-alarmed (Quiet t) h = absurd (false-true h)
-alarmed (Corrected t m) h = absurd (false-true h)
-alarmed (Raised t g) h = refl
-alarmed Skipped h = absurd (false-true h)
+-- The course of an outcome that is raised so far has its threshold and grade.
+raised-is : (v : Verdict) → courseOf (Accepted v) .raised ≡ true → v ≡ Raised (courseOf (Accepted v) .threshold) (courseOf (Accepted v) .grade)
+unfolding courseOf
+raised-is (Quiet t) h = absurd (false-true h)
+raised-is (Corrected t m) h = absurd (false-true h)
+raised-is (Raised t g) h = refl
+raised-is Skipped h = absurd (false-true h)
 
-refused-calm : (why : Refusal) → alarmOf (Refused why) .on ≡ true → ⊥
-unfolding alarmOf
+refused-calm : (why : Refusal) → courseOf (Refused why) .raised ≡ true → ⊥
+unfolding courseOf
 refused-calm why h = false-true h
+
+-- The state after an outcome that does not reach the candidate branch.
+abbrev calmAfter : PredictorCorrector → Reading → LastDescriptor → List Float → Outcome → PredictorCorrector
+calmAfter s r l point o = calmState s r l (courseOf o .quiet) (courseOf o .corrected) point
 
 module _ (s : PredictorCorrector) (r : Reading) (l : LastDescriptor) (b : Lent) where
   pub start-by : (k n : ℕ) → k ≡ block r l b → n ≡ k * r .«base_dimension» → n ≡ start r l b
@@ -59,28 +67,43 @@ module _ (s : PredictorCorrector) (r : Reading) (l : LastDescriptor) (b : Lent) 
 
   -- The candidate branch, for where the block starts.
   pub run-is : (n : ℕ) (threshold : Float) (c : Counted) → n ≡ start r l b
-      → c ≡ countedRun s r l threshold (b .point) (b .«difference_deviations») (expectedPoint (b .high) (b .low) n (r .«base_dimension») (b .point) (b .median))
+      → c ≡ countedRun s r l (r .«shingle_size») threshold (b .point) (expectedPoint (b .high) (b .low) n (r .«base_dimension») (b .point) (b .median)) (b .«difference_deviations»)
       → (c .drift ≡ isDataDrift r l b s threshold) × (c .state ≡ candidateState r l b s threshold)
   unfolding countedRun countedRows isDataDrift candidateState expected newestOf
   run-is n threshold c e q =
-      let p = q ∙ ap (λ (m : ℕ). countedRun s r l threshold (b .point) (b .«difference_deviations») (expectedPoint (b .high) (b .low) m (r .«base_dimension») (b .point) (b .median))) e in
+      let p = q ∙ ap (λ (m : ℕ). countedRun s r l (r .«shingle_size») threshold (b .point) (expectedPoint (b .high) (b .low) m (r .«base_dimension») (b .point) (b .median)) (b .«difference_deviations»)) e in
       (ap (λ (x : Counted). x .drift) p, ap (λ (x : Counted). x .state) p)
+
+  -- What is written past the last test: the lengths fit.
+  pub buffers-are : (n : ℕ) → n ≡ start r l b → (e h w e′ h′ w′ : List Float)
+      → Expecting (length (b .high)) (length (b .low)) (start r l b) (r .«base_dimension») (length (b .point)) (length (b .median)) (length (b .point)) → Writing b (length e) (length h) (length w)
+      → Written r n (b .point) (b .high) (b .low) (b .median) e h w e′ h′ w′
+      → (e′ ≡ expected r l b) × (h′ ≡ normalized (r .score) (b .high) (b .low) (b .high)) × (w′ ≡ normalized (r .score) (b .high) (b .low) (b .low))
+  buffers-are n q e h w e′ h′ w′ f g p =
+      let at = subst (λ (m : ℕ). Expecting (length (b .high)) (length (b .low)) n (r .«base_dimension») (length (b .point)) (length (b .median)) m) (sym (g .expected-long))
+      (subst (λ (m : ℕ). Expecting (length (b .high)) (length (b .low)) m (r .«base_dimension») (length (b .point)) (length (b .median)) (length (b .point))) (sym q) f) in
+      let fits = expects (length (b .high)) (length (b .low)) n (r .«base_dimension») (length (b .point)) (length (b .median)) (length e) at in
+      let alike = one-length-true (length (b .high)) (length (b .low)) (length h) (length w) (record { second = sym (g .low-long); third = sym (g .out-high-long); fourth = sym (g .out-low-long) }) in
+      (p .point-is ∙ (rw fits) ∙ expected-at r l b n q, p .highs ∙ rw alike, p .lows ∙ rw alike)
 
   -- The two ends of the candidate branch.
   module _ (j : Judgment) (t g : Float) (e h w : List Float) where
-    pub drift-branches : isDataDrift r l b s t ≡ true → (c : PredictorCorrector) → c ≡ candidateState r l b s t → j ≡ driftJudgment c r l t → Branched s r l b t g j e h w e h w
-    unfolding raisedOr driftJudgment
-    drift-branches d c q i =
-        let p = i ∙ ap (λ (x : PredictorCorrector). driftJudgment x r l t) q in
-        record { says = rw d (ap (λ (x : Judgment). x .outcome) p); state = rw d (ap (λ (x : Judgment). x .state) p); index = rw d (ap (λ (x : Judgment). x .«relative_index») p); point = rw d; highs = rw d; lows = rw d }
+    module _ (c : Counted) (k : ℕ) (d : c .drift ≡ isDataDrift r l b s t) (q : c .state ≡ candidateState r l b s t) (m : k ≡ block r l b) (i : j ≡ branchJudgment c r l k t g) where
+      is : j ≡ branchJudgment (record { drift = isDataDrift r l b s t; state = candidateState r l b s t }) r l (block r l b) t g
+      is = i ∙ (λ n. branchJudgment (record { drift = d n; state = q n }) r l (m n) t g)
 
-    pub raised-branches : (e′ h′ w′ : List Float) → isDataDrift r l b s t ≡ false → (c : PredictorCorrector) → c ≡ candidateState r l b s t → (k : ℕ) → k ≡ block r l b → j ≡ raisedJudgment c r l k t g
-        → e′ ≡ expected r l b → h′ ≡ normalized (r .score) (b .high) (b .low) (b .high) → w′ ≡ normalized (r .score) (b .high) (b .low) (b .low)
-        → Branched s r l b t g j e h w e′ h′ w′
-    unfolding raisedOr raisedJudgment
-    raised-branches e′ h′ w′ d c q k m i x y z =
-        let p = i ∙ ap₂ (λ (u : PredictorCorrector) (n : ℕ). raisedJudgment u r l n t g) q m in
-        record { says = rw d (ap (λ (u : Judgment). u .outcome) p); state = rw d (ap (λ (u : Judgment). u .state) p); index = rw d (ap (λ (u : Judgment). u .«relative_index») p); point = rw d x; highs = rw d y; lows = rw d z }
+      pub drift-branches : c .drift ≡ true → Branched s r l b t g j e h w e h w
+      unfolding raisedOr branchJudgment
+      drift-branches y =
+          let z = sym d ∙ y in
+          record { says = rw z (ap (λ (x : Judgment). x .outcome) is ∙ rw z); state = rw z (ap (λ (x : Judgment). x .state) is ∙ rw z); index = rw z (ap (λ (x : Judgment). x .«relative_index») is ∙ rw z); point = rw z; highs = rw z; lows = rw z }
+
+      pub raised-branches : (e′ h′ w′ : List Float) → c .drift ≡ false → e′ ≡ expected r l b → h′ ≡ normalized (r .score) (b .high) (b .low) (b .high) → w′ ≡ normalized (r .score) (b .high) (b .low) (b .low)
+          → Branched s r l b t g j e h w e′ h′ w′
+      unfolding raisedOr branchJudgment
+      raised-branches e′ h′ w′ y u v x =
+          let z = sym d ∙ y in
+          record { says = rw z (ap (λ (n : Judgment). n .outcome) is ∙ rw z); state = rw z (ap (λ (n : Judgment). n .state) is ∙ rw z); index = rw z (ap (λ (n : Judgment). n .«relative_index») is ∙ rw z); point = rw z u; highs = rw z v; lows = rw z x }
 
   -- The candidate branch looks at five buffers.
   branched-lent : (j : Judgment) (t g : Float) (e h w e′ h′ w′ : List Float)
@@ -126,9 +149,9 @@ module _ (s : PredictorCorrector) (r : Reading) (l : LastDescriptor) (b : Lent) 
           lows = p .lows ∙ drift-kept d t g w (normalized (r .score) (b .high) (b .low) (b .low));
         }
 
-    calm-leaves : (v : Verdict) → v ≡ openVerdict r l b (s .«basic_thresholder») (s .«auto_adjust») → alarmOf (Accepted v) .on ≡ false → j .outcome ≡ Accepted v
-        → j .state ≡ calmState s r l (b .point) (Accepted v) → j .«relative_index» ≡ pos 0 → Leaves (settled r l b s v) e h w
-    unfolding settled after relativeIndex kept calmState alarmOf
+    calm-leaves : (v : Verdict) → v ≡ openVerdict r l b (s .«basic_thresholder») (s .«auto_adjust») → courseOf (Accepted v) .raised ≡ false → j .outcome ≡ Accepted v
+        → j .state ≡ calmAfter s r l (b .point) (Accepted v) → j .«relative_index» ≡ pos 0 → Leaves (settled r l b s v) e h w
+    unfolding settled after relativeIndex kept calmState courseOf
     calm-leaves (Quiet t) q a o p i = record { says = o; state = p; index = i; point = refl; highs = refl; lows = refl }
     calm-leaves (Corrected t m) q a o p i =
         record { says = o; state = p ∙ ap (λ (x : PredictorCorrector). entered x r l (correctedScore r l)) (corrected-adjusts r l b s (s .«basic_thresholder») (s .«auto_adjust») t m q); index = i; point = refl; highs = refl; lows = refl }
@@ -141,44 +164,43 @@ module _ (s : PredictorCorrector) (r : Reading) (l : LastDescriptor) (b : Lent) 
     done-judged e′ h′ w′ a p = record { says = rw a (p .says); state = rw a (p .state); index = rw a (p .index); point = rw a (p .point); highs = rw a (p .highs); lows = rw a (p .lows) }
 
     refused-judged : (why : Refusal) → answerOf r l b (s .«base_dimension») (length e) (length h) (length w) (stateCountsOk s) ≡ Answers.Refused why
-        → j .outcome ≡ Refused why → j .state ≡ calmState s r l (b .point) (Refused why) → j .«relative_index» ≡ pos 0 → Judged s r l b j e h w e h w
-    unfolding outcome outcomeOf stateAfter indexAfter written calmState
+        → j .outcome ≡ Refused why → j .state ≡ calmAfter s r l (b .point) (Refused why) → j .«relative_index» ≡ pos 0 → Judged s r l b j e h w e h w
+    unfolding outcome outcomeOf stateAfter indexAfter written calmState courseOf
     refused-judged why a o q i = record { says = rw a o; state = rw a q; index = rw a i; point = rw a; highs = rw a; lows = rw a }
 
     -- By the answer of the entry checks.
-    raised-by : (a : Answer) → answerOf r l b (s .«base_dimension») (length e) (length h) (length w) (stateCountsOk s) ≡ a → (e′ h′ w′ : List Float) (t g : Float)
-        → alarmOf (openOf r l b (s .«basic_thresholder») (s .«auto_adjust») a) ≡ record { on = true; threshold = t; grade = g }
-        → Branched s r l (branch (b .point) (b .«difference_deviations») (b .high) (b .low) (b .median)) t g j e h w e′ h′ w′ → Judged s r l b j e h w e′ h′ w′
+    raised-by : (a : Answer) → answerOf r l b (s .«base_dimension») (length e) (length h) (length w) (stateCountsOk s) ≡ a → (e′ h′ w′ : List Float) (c : Course)
+        → c ≡ courseOf (openOf r l b (s .«basic_thresholder») (s .«auto_adjust») a) → c .raised ≡ true
+        → Branched s r l (branch (b .point) (b .«difference_deviations») (b .high) (b .low) (b .median)) (c .threshold) (c .grade) j e h w e′ h′ w′ → Judged s r l b j e h w e′ h′ w′
     unfolding openOf
-    raised-by Answers.Done q e′ h′ w′ t g k p =
+    raised-by Answers.Done q e′ h′ w′ c of k p =
         let v = openVerdict r l b (s .«basic_thresholder») (s .«auto_adjust») in
-        let m = alarmed v (ap (λ (x : Alarm). x .on) k) ∙ ap₂ Raised (ap (λ (x : Alarm). x .threshold) k) (ap (λ (x : Alarm). x .grade) k) in
-        done-judged e′ h′ w′ q (subst (λ (x : Verdict). Leaves (settled r l b s x) e′ h′ w′) (sym m) (branched-leaves t g e′ h′ w′ (branched-lent j t g e h w e′ h′ w′ p)))
-    raised-by (Answers.Refused why) q e′ h′ w′ t g k p = absurd (refused-calm why (ap (λ (x : Alarm). x .on) k))
+        let m = raised-is v (sym (ap (λ (x : Course). x .raised) of) ∙ k) ∙ sym (ap (λ (x : Course). Raised (x .threshold) (x .grade)) of) in
+        done-judged e′ h′ w′ q (subst (λ (x : Verdict). Leaves (settled r l b s x) e′ h′ w′) (sym m) (branched-leaves (c .threshold) (c .grade) e′ h′ w′ (branched-lent j (c .threshold) (c .grade) e h w e′ h′ w′ p)))
+    raised-by (Answers.Refused why) q e′ h′ w′ c of k p = absurd (refused-calm why (sym (ap (λ (x : Course). x .raised) of) ∙ k))
 
     calm-by : (a : Answer) → answerOf r l b (s .«base_dimension») (length e) (length h) (length w) (stateCountsOk s) ≡ a
-        → alarmOf (openOf r l b (s .«basic_thresholder») (s .«auto_adjust») a) .on ≡ false → j .outcome ≡ openOf r l b (s .«basic_thresholder») (s .«auto_adjust») a
-        → j .state ≡ calmState s r l (b .point) (openOf r l b (s .«basic_thresholder») (s .«auto_adjust») a) → j .«relative_index» ≡ pos 0 → Judged s r l b j e h w e h w
+        → courseOf (openOf r l b (s .«basic_thresholder») (s .«auto_adjust») a) .raised ≡ false → j .outcome ≡ openOf r l b (s .«basic_thresholder») (s .«auto_adjust») a
+        → j .state ≡ calmAfter s r l (b .point) (openOf r l b (s .«basic_thresholder») (s .«auto_adjust») a) → j .«relative_index» ≡ pos 0 → Judged s r l b j e h w e h w
     unfolding openOf
     calm-by Answers.Done q k o p i = done-judged e h w q (calm-leaves (openVerdict r l b (s .«basic_thresholder») (s .«auto_adjust»)) refl k o p i)
     calm-by (Answers.Refused why) q k o p i = refused-judged why q o p i
 
-    module _ (o : Outcome) (is : o ≡ openOutcome r l b (s .«basic_thresholder») (s .«auto_adjust») (s .«base_dimension») (length e) (length h) (length w) (stateCountsOk s)) (a : Alarm) (of : a ≡ alarmOf o) where
-      pub raised-judged : (e′ h′ w′ : List Float) → a .on ≡ true → Branched s r l (branch (b .point) (b .«difference_deviations») (b .high) (b .low) (b .median)) (a .threshold) (a .grade) j e h w e′ h′ w′
+    module _ (o : Outcome) (is : o ≡ openOutcome r l b (s .«basic_thresholder») (s .«auto_adjust») (s .«base_dimension») (length e) (length h) (length w) (stateCountsOk s)) (a : Course) (of : a ≡ courseOf o) where
+      pub raised-judged : (e′ h′ w′ : List Float) → a .raised ≡ true → Branched s r l (branch (b .point) (b .«difference_deviations») (b .high) (b .low) (b .median)) (a .threshold) (a .grade) j e h w e′ h′ w′
           → Judged s r l b j e h w e′ h′ w′
       unfolding openOutcome
       raised-judged e′ h′ w′ k p =
-          raised-by (answerOf r l b (s .«base_dimension») (length e) (length h) (length w) (stateCountsOk s)) refl e′ h′ w′ (a .threshold) (a .grade)
-          (sym (of ∙ ap alarmOf is) ∙ (λ i. record { on = k i; threshold = a .threshold; grade = a .grade })) p
+          raised-by (answerOf r l b (s .«base_dimension») (length e) (length h) (length w) (stateCountsOk s)) refl e′ h′ w′ a (of ∙ ap courseOf is) k p
 
-      pub calm-judged : a .on ≡ false → j .outcome ≡ o → j .state ≡ calmState s r l (b .point) o → j .«relative_index» ≡ pos 0 → Judged s r l b j e h w e h w
+      pub calm-judged : a .raised ≡ false → j .outcome ≡ o → j .state ≡ calmState s r l (a .quiet) (a .corrected) (b .point) → j .«relative_index» ≡ pos 0 → Judged s r l b j e h w e h w
       unfolding openOutcome
       calm-judged k q p i =
-          calm-by (answerOf r l b (s .«base_dimension») (length e) (length h) (length w) (stateCountsOk s)) refl (sym (ap (λ (x : Alarm). x .on) (of ∙ ap alarmOf is)) ∙ k) (q ∙ is) (p ∙ ap (calmState s r l (b .point)) is) i
+          calm-by (answerOf r l b (s .«base_dimension») (length e) (length h) (length w) (stateCountsOk s)) refl (sym (ap (λ (x : Course). x .raised) (of ∙ ap courseOf is)) ∙ k) (q ∙ is) (p ∙ ap (λ (x : Course). calmState s r l (x .quiet) (x .corrected) (b .point)) (of ∙ ap courseOf is)) i
 
   -- What the candidate branch asks.
   module _ (e h w : ℕ) where
-    fits-by : (a : Answer) → answerOf r l b (s .«base_dimension») e h w (stateCountsOk s) ≡ a → alarmOf (openOf r l b (s .«basic_thresholder») (s .«auto_adjust») a) .on ≡ true
+    fits-by : (a : Answer) → answerOf r l b (s .«base_dimension») e h w (stateCountsOk s) ≡ a → courseOf (openOf r l b (s .«basic_thresholder») (s .«auto_adjust») a) .raised ≡ true
         → Branching r l (branch (b .point) (b .«difference_deviations») (b .high) (b .low) (b .median)) × Writing (branch (b .point) (b .«difference_deviations») (b .high) (b .low) (b .median)) e h w
     unfolding openOf
     fits-by Answers.Done q k =
@@ -186,7 +208,7 @@ module _ (s : PredictorCorrector) (r : Reading) (l : LastDescriptor) (b : Lent) 
         (for-branch r l b (s .«base_dimension») e h w (stateCountsOk s) q, record { expected-long = f .expected-long; low-long = f .low-long; out-high-long = f .out-high-long; out-low-long = f .out-low-long })
     fits-by (Answers.Refused why) q k = absurd (refused-calm why k)
 
-    pub raise-fits : (o : Outcome) → o ≡ openOutcome r l b (s .«basic_thresholder») (s .«auto_adjust») (s .«base_dimension») e h w (stateCountsOk s) → (a : Alarm) → a ≡ alarmOf o → a .on ≡ true
+    pub raise-fits : (o : Outcome) → o ≡ openOutcome r l b (s .«basic_thresholder») (s .«auto_adjust») (s .«base_dimension») e h w (stateCountsOk s) → (a : Course) → a ≡ courseOf o → a .raised ≡ true
         → Branching r l (branch (b .point) (b .«difference_deviations») (b .high) (b .low) (b .median)) × Writing (branch (b .point) (b .«difference_deviations») (b .high) (b .low) (b .median)) e h w
     unfolding openOutcome
-    raise-fits o is a of k = fits-by (answerOf r l b (s .«base_dimension») e h w (stateCountsOk s)) refl (sym (ap (λ (x : Alarm). x .on) (of ∙ ap alarmOf is)) ∙ k)
+    raise-fits o is a of k = fits-by (answerOf r l b (s .«base_dimension») e h w (stateCountsOk s)) refl (sym (ap (λ (x : Course). x .raised) (of ∙ ap courseOf is)) ∙ k)

@@ -4,7 +4,7 @@ use Prim.Native.Nat.{ℕ, _≤_, _+_, _-_}
 use mathlib.Core.Bool.{Bool, true, false, cond, _&&_}
 use mathlib.Core.List.{List, []}
 use lib.IntN.{ℤ, pos, _+ℤ_, _-ℤ_}
-use lib.ListN.{length, drop}
+use lib.ListN.{length}
 use lib.Ieee as Ieee
 use lib.Ieee.{Float, binary32}
 use Rattle.types.specs.declared.Answer.{Answer}
@@ -12,15 +12,13 @@ use Rattle.types.specs.declared.Answer.the-variants as Answers
 use Rattle.types.specs.declared.CorrectionMode.the-variants.{NOISE, «ANOMALY_IN_SHINGLE», «DATA_DRIFT»}
 use Rattle.basicthresholder.specs.declared.BasicThresholder.{BasicThresholder}
 use Rattle.corrector.specs.Steps.{Expecting, Correcting}
-use Rattle.corrector.specs.Corrector.{expectedPoint}
 use Rattle.descriptor.specs.Checks.{answerOf}
 use Rattle.descriptor.specs.Lent.{Lent, lent}
 use Rattle.descriptor.specs.declared.Reading.{Reading}
 use Rattle.descriptor.specs.declared.LastDescriptor.{LastDescriptor}
 use Rattle.divector.specs.DiVector.{normalized}
-use Rattle.predictorcorrector.specs.State.{runEnded, autoAdjusted, runGrown}
+use Rattle.predictorcorrector.specs.State.{runGrown}
 use Rattle.predictorcorrector.specs.declared.PredictorCorrector.{PredictorCorrector}
-use Rattle.candidate.specs.Candidate.{countedRows}
 use Rattle.candidate.specs.declared.Counted.{Counted}
 use Rattle.detection.specs.Const.{zero32}
 use Rattle.detection.specs.Judging.{gapOf, recent, opening, noisePass, start, block, candidateState, isDataDrift, raisedOr, expected, openVerdict, correctedScore, entered}
@@ -29,7 +27,7 @@ use Rattle.detection.specs.declared.Passed.the-variants.{Ended, Working}
 use Rattle.detection.specs.declared.Verdict.the-variants.{Quiet, Corrected, Raised, Skipped}
 use Rattle.detection.specs.declared.Outcome.{Outcome}
 use Rattle.detection.specs.declared.Outcome.the-variants.{Accepted, Refused}
-use Rattle.detection.specs.declared.Alarm.{Alarm}
+use Rattle.detection.specs.declared.Course.{Course}
 use Rattle.detection.specs.declared.Judgment.{Judgment}
 
 -- The buffers that a stage is lent; the others are left empty, and its definitions do not look at them.
@@ -65,17 +63,6 @@ pub record Writing (b : Lent) (e h w : ℕ) : Type 0 where
   pub out-high-long : length (b .high) ≡ h
   pub out-low-long : length (b .high) ≡ w
 
--- What the candidate branch asks of a point, by its length.
-pub record Rows (r : Reading) (point : ℕ) : Type 0 where
-  pub shingle-most : r .«shingle_size» ≤ 64
-  pub point-most : point ≤ 1024
-  pub base-within : r .«base_dimension» ≤ point
-
--- The candidate branch for a point and its expected point x.
-unfoldable pub countedRun : PredictorCorrector → Reading → LastDescriptor → Float → List Float → List Float → List Float → Counted
-countedRun s r l threshold point noise x =
-    countedRows s r l (r .«shingle_size») threshold (drop (length point - r .«base_dimension») point) (drop (length point - r .«base_dimension») x) noise
-
 -- Up to the noise pass: the mode of an exit, or the working grade.
 unfoldable pub passed : Reading → LastDescriptor → Lent → BasicThresholder → Float → Passed
 passed r l b t grade =
@@ -91,38 +78,22 @@ openOf r l b t auto (Answers.Refused why) = Refused why
 unfoldable pub openOutcome : Reading → LastDescriptor → Lent → BasicThresholder → Bool → ℕ → ℕ → ℕ → ℕ → Bool → Outcome
 openOutcome r l b t auto base e h w ok = openOf r l b t auto (answerOf r l b base e h w ok)
 
--- Whether an outcome raises so far, and with what threshold and grade.
-abbrev pub noAlarm : Alarm
-noAlarm = record { on = false; threshold = zero32; grade = zero32 }
+-- What an outcome does: raised so far, with its threshold and grade, or else quiet, corrected, or neither.
+abbrev pub calm : Bool → Bool → Course
+calm quiet corrected = record { raised = false; quiet = quiet; corrected = corrected; threshold = zero32; grade = zero32 }
 
-unfoldable pub alarmOf : Outcome → Alarm
-alarmOf (Refused why) = noAlarm
-alarmOf (Accepted (Quiet t)) = noAlarm
-alarmOf (Accepted (Corrected t m)) = noAlarm
-alarmOf (Accepted (Raised t g)) = record { on = true; threshold = t; grade = g }
-alarmOf (Accepted Skipped) = noAlarm
+unfoldable pub courseOf : Outcome → Course
+courseOf (Refused why) = calm false false
+courseOf (Accepted (Quiet t)) = calm true false
+courseOf (Accepted (Corrected t m)) = calm false true
+courseOf (Accepted (Raised t g)) = record { raised = true; quiet = false; corrected = false; threshold = t; grade = g }
+courseOf (Accepted Skipped) = calm false false
 
--- The state after an outcome that does not reach the candidate branch.
-unfoldable pub calmState : PredictorCorrector → Reading → LastDescriptor → List Float → Outcome → PredictorCorrector
-calmState s r l point (Refused why) = s
-calmState s r l point (Accepted (Quiet t)) = entered (runEnded s) r l (r .score)
-calmState s r l point (Accepted (Corrected t m)) = entered (autoAdjusted s point) r l (correctedScore r l)
-calmState s r l point (Accepted (Raised t g)) = s
-calmState s r l point (Accepted Skipped) = s
-
--- What a raised reading leaves in the three buffers.
-pub record Written (r : Reading) (start : ℕ) (point high low median e h w : List Float) : Type 0 where
-  pub point-is : e ≡ expectedPoint high low start (r .«base_dimension») point median
-  pub highs : h ≡ normalized (r .score) high low high
-  pub lows : w ≡ normalized (r .score) high low low
-
--- The judgments of the two ends of the candidate branch, s being the state with its rows counted.
-unfoldable pub driftJudgment : PredictorCorrector → Reading → LastDescriptor → Float → Judgment
-driftJudgment s r l threshold = record { outcome = Accepted (Corrected threshold «DATA_DRIFT»); «relative_index» = pos 0; state = entered s r l (correctedScore r l) }
-
-unfoldable pub raisedJudgment : PredictorCorrector → Reading → LastDescriptor → ℕ → Float → Float → Judgment
-raisedJudgment s r l block threshold grade =
-    record { outcome = Accepted (Raised threshold grade); «relative_index» = pos block -ℤ pos (r .«shingle_size») +ℤ pos 1; state = entered (runGrown s) r l (correctedScore r l) }
+-- The judgment at either end of the candidate branch.
+unfoldable pub branchJudgment : Counted → Reading → LastDescriptor → ℕ → Float → Float → Judgment
+branchJudgment c r l block threshold grade =
+    cond (c .drift) (record { outcome = Accepted (Corrected threshold «DATA_DRIFT»); «relative_index» = pos 0; state = entered (c .state) r l (correctedScore r l) })
+    (record { outcome = Accepted (Raised threshold grade); «relative_index» = pos block -ℤ pos (r .«shingle_size») +ℤ pos 1; state = entered (runGrown (c .state)) r l (correctedScore r l) })
 
 -- What the candidate branch leaves.
 pub record Branched (s : PredictorCorrector) (r : Reading) (l : LastDescriptor) (b : Lent) (t g : Float) (j : Judgment) (e h w e′ h′ w′ : List Float) : Type 0 where

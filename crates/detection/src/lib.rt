@@ -19,6 +19,7 @@ ghost use Rattle.uncertainty_box.specs.Pass as Pass;
 ghost use Rattle.corrector.specs.Corrector as Corrector;
 ghost use Rattle.corrector.specs.Steps as CorrectorSteps;
 ghost use Rattle.descriptor.specs.Lent.{lent};
+ghost use Rattle.candidate.specs.Candidate.{countedRun};
 ghost use Rattle.detection.specs.Const.{zero32};
 ghost use Rattle.detection.specs.Judging as Judging;
 ghost use Rattle.detection.specs.Judged as Judged;
@@ -344,8 +345,8 @@ fn candidate_run(
     low: &[f64],
     median: &[f32],
 ) -> Counted
-    requires { ⌜ Steps.Rows r (length (now point)) ⌝ ∗ ⌜ CorrectorSteps.Expecting (length (now high)) (length (now low)) start (r .«base_dimension») (length (now point)) (length (now median)) (length (now point)) ⌝ }
-    ensures { λ c. ⌜ c ≡ Steps.countedRun s r l threshold (now (point .entry)) (now («difference_deviations» .entry)) (Corrector.expectedPoint (now (high .entry)) (now (low .entry)) start (r .«base_dimension») (now (point .entry)) (now (median .entry))) ⌝ }
+    requires { ⌜ r .«shingle_size» ≤ 64 ⌝ ∗ ⌜ length (now point) ≤ 1024 ⌝ ∗ ⌜ CorrectorSteps.Expecting (length (now high)) (length (now low)) start (r .«base_dimension») (length (now point)) (length (now median)) (length (now point)) ⌝ }
+    ensures { λ c. ⌜ c ≡ countedRun s r l (r .«shingle_size») threshold (now (point .entry)) (Corrector.expectedPoint (now (high .entry)) (now (low .entry)) start (r .«base_dimension») (now (point .entry)) (now (median .entry))) (now («difference_deviations» .entry)) ⌝ }
 {
     if !s.auto_adjust {
         return Counted {
@@ -354,18 +355,24 @@ fn candidate_run(
         };
     }
     let d = point.len();
-    let base = r.base_dimension;
-    let newest = d - base;
     let mut work = zeros();
-    corrector::expected_point(high, low, start, base, point, median, &mut work[..d]);
-    candidate::count_rows(
+    corrector::expected_point(
+        high,
+        low,
+        start,
+        r.base_dimension,
+        point,
+        median,
+        &mut work[..d],
+    );
+    candidate::count_run(
         s,
         r,
         l,
         r.shingle_size as u32,
         threshold,
-        &point[newest..],
-        &work[newest..d],
+        point,
+        &work[..d],
         difference_deviations,
     )
 }
@@ -378,44 +385,9 @@ fn relative_index(block: usize, shingle_size: usize) -> i32
     (block as i32) - (shingle_size as i32) + 1
 }
 
-// Past the last test: the buffers are written.
-fn write_raised(
-    r: Reading,
-    start: usize,
-    point: &[f32],
-    high: &[f64],
-    low: &[f64],
-    median: &[f32],
-    expected: &mut [f32],
-    out_high: &mut [f64],
-    out_low: &mut [f64],
-)
-    requires { ⌜ CorrectorSteps.Expecting (length (now high)) (length (now low)) start (r .«base_dimension») (length (now point)) (length (now median)) (length (now expected)) ⌝ ∗ ⌜ DiVector.oneLength (length (now high)) (length (now low)) (length (now «out_high»)) (length (now «out_low»)) ≡ true ⌝ }
-    ensures { λ _. ⌜ Steps.Written r start (now (point .entry)) (now (high .entry)) (now (low .entry)) (now (median .entry)) (now (expected .exit)) (now («out_high» .exit)) (now («out_low» .exit)) ⌝ }
-{
-    corrector::expected_point(high, low, start, r.base_dimension, point, median, expected);
-    divector::normalize_into(
-        high,
-        low,
-        std::num::f32_to_f64_with_nan(r.score),
-        out_high,
-        out_low,
-    );
-}
-
-// The judgments of the two ends of the candidate branch, s being the state with its rows counted.
-fn drift_judgment(s: PredictorCorrector, r: Reading, l: LastDescriptor, threshold: f32) -> Judgment
-    ensures { λ j. ⌜ j ≡ Steps.driftJudgment s r l threshold ⌝ }
-{
-    Judgment {
-        outcome: Outcome::Accepted(Verdict::Corrected(threshold, CorrectionMode::DATA_DRIFT)),
-        relative_index: 0,
-        state: scoring::entered(s, r, l, scoring::corrected_score(r, l)),
-    }
-}
-
-fn raised_judgment(
-    s: PredictorCorrector,
+// The judgment at either end of the candidate branch.
+fn branch_judgment(
+    counted: Counted,
     r: Reading,
     l: LastDescriptor,
     block: usize,
@@ -423,12 +395,20 @@ fn raised_judgment(
     grade: f32,
 ) -> Judgment
     requires { ⌜ block ≤ 1024 ⌝ ∗ ⌜ r .«shingle_size» ≤ 64 ⌝ }
-    ensures { λ j. ⌜ j ≡ Steps.raisedJudgment s r l block threshold grade ⌝ }
+    ensures { λ j. ⌜ j ≡ Steps.branchJudgment counted r l block threshold grade ⌝ }
 {
+    let used = scoring::corrected_score(r, l);
+    if counted.drift {
+        return Judgment {
+            outcome: Outcome::Accepted(Verdict::Corrected(threshold, CorrectionMode::DATA_DRIFT)),
+            relative_index: 0,
+            state: scoring::entered(counted.state, r, l, used),
+        };
+    }
     Judgment {
         outcome: Outcome::Accepted(Verdict::Raised(threshold, grade)),
         relative_index: relative_index(block, r.shingle_size),
-        state: scoring::entered(s.run_grown(), r, l, scoring::corrected_score(r, l)),
+        state: scoring::entered(counted.state.run_grown(), r, l, used),
     }
 }
 
@@ -466,9 +446,9 @@ fn raise(
         median,
     );
     if counted.drift {
-        return drift_judgment(counted.state, r, l, threshold);
+        return branch_judgment(counted, r, l, block, threshold, grade);
     }
-    write_raised(
+    scoring::write_raised(
         r,
         start,
         point,
@@ -479,66 +459,46 @@ fn raise(
         out_high,
         out_low,
     );
-    raised_judgment(counted.state, r, l, block, threshold, grade)
+    branch_judgment(counted, r, l, block, threshold, grade)
 }
 
-// Whether an outcome raises so far, and with what threshold and grade.
-struct Alarm {
-    on: bool,
+// What an outcome does: raised so far, with its threshold and grade, or else quiet, corrected, or neither.
+struct Course {
+    raised: bool,
+    quiet: bool,
+    corrected: bool,
     threshold: f32,
     grade: f32,
 }
 
-fn no_alarm() -> Alarm
-    ensures { λ a. ⌜ a ≡ Steps.noAlarm ⌝ }
+fn calm(quiet: bool, corrected: bool) -> Course
+    ensures { λ c. ⌜ c ≡ Steps.calm quiet corrected ⌝ }
 {
-    Alarm {
-        on: false,
+    Course {
+        raised: false,
+        quiet,
+        corrected,
         threshold: 0.0,
         grade: 0.0,
     }
 }
 
-fn alarm_of(outcome: Outcome) -> Alarm
-    ensures { λ a. ⌜ a ≡ Steps.alarmOf outcome ⌝ }
+fn course_of(outcome: Outcome) -> Course
+    ensures { λ c. ⌜ c ≡ Steps.courseOf outcome ⌝ }
 {
     match outcome {
-        Outcome::Refused(_) => no_alarm(),
+        Outcome::Refused(_) => calm(false, false),
         Outcome::Accepted(verdict) => match verdict {
-            Verdict::Quiet(_) => no_alarm(),
-            Verdict::Corrected(_, _) => no_alarm(),
-            Verdict::Raised(threshold, grade) => Alarm {
-                on: true,
+            Verdict::Quiet(_) => calm(true, false),
+            Verdict::Corrected(_, _) => calm(false, true),
+            Verdict::Raised(threshold, grade) => Course {
+                raised: true,
+                quiet: false,
+                corrected: false,
                 threshold,
                 grade,
             },
-            Verdict::Skipped => no_alarm(),
-        },
-    }
-}
-
-// The state after an outcome that does not reach the candidate branch.
-fn calm_state(
-    s: PredictorCorrector,
-    r: Reading,
-    l: LastDescriptor,
-    outcome: Outcome,
-    point: &[f32],
-) -> PredictorCorrector
-    ensures { λ t. ⌜ t ≡ Steps.calmState s r l (now (point .entry)) outcome ⌝ }
-{
-    match outcome {
-        Outcome::Refused(_) => s,
-        Outcome::Accepted(verdict) => match verdict {
-            Verdict::Quiet(_) => scoring::entered(s.run_ended(), r, l, r.score),
-            Verdict::Corrected(_, _) => scoring::entered(
-                s.auto_adjusted(point),
-                r,
-                l,
-                scoring::corrected_score(r, l),
-            ),
-            Verdict::Raised(_, _) => s,
-            Verdict::Skipped => s,
+            Verdict::Skipped => calm(false, false),
         },
     }
 }
@@ -591,14 +551,14 @@ pub fn detect_and_modify(
         out_high.len(),
         out_low.len(),
     );
-    let alarm = alarm_of(outcome);
-    if alarm.on {
+    let course = course_of(outcome);
+    if course.raised {
         return raise(
             s,
             r,
             l,
-            alarm.threshold,
-            alarm.grade,
+            course.threshold,
+            course.grade,
             point,
             difference_deviations,
             high,
@@ -612,6 +572,6 @@ pub fn detect_and_modify(
     Judgment {
         outcome,
         relative_index: 0,
-        state: calm_state(s, r, l, outcome, point),
+        state: scoring::calm_state(s, r, l, course.quiet, course.corrected, point),
     }
 }

@@ -1,17 +1,22 @@
 -- What a reading's scores count for, and the block that its attribution names.
 use Prim.Native.Nat.{ℕ, _-_}
 use mathlib.Core.Bool.{Bool, cond, _&&_}
+use mathlib.Core.Path.{_≡_}
+use mathlib.Core.List.{List}
 use lib.Dec.{leb}
+use lib.ListN.{length}
 use lib.Ieee.{Float}
 use Rattle.types.specs.Codes.{isHeight}
 use Rattle.basicthresholder.specs.Grades.{thresholdAndGrade, primaryThresholdAndGrade}
 use Rattle.basicthresholder.specs.declared.BasicThresholder.{BasicThresholder}
 use Rattle.basicthresholder.specs.declared.Graded.{Graded}
+use Rattle.corrector.specs.Corrector.{expectedFits, expectedPoint}
+use Rattle.divector.specs.DiVector.{allAlike, normalized}
 use Rattle.divector.specs.declared.Block.{Block}
 use Rattle.divector.specs.declared.Block.the-variants as Blocks
 use Rattle.descriptor.specs.declared.Reading.{Reading}
 use Rattle.descriptor.specs.declared.LastDescriptor.{LastDescriptor}
-use Rattle.predictorcorrector.specs.State.{withThresholder, scoreCounted}
+use Rattle.predictorcorrector.specs.State.{withThresholder, runEnded, autoAdjusted, scoreCounted}
 use Rattle.predictorcorrector.specs.declared.PredictorCorrector.{PredictorCorrector}
 
 -- Readings since the last anomaly; without one, since the start.
@@ -48,3 +53,14 @@ entered s r l corrected =
 unfoldable pub blockOf : Block → ℕ
 blockOf (Blocks.At k) = k
 blockOf (Blocks.Refused why) = 0
+
+-- The state after a reading that does not reach the candidate branch, and is quiet, corrected, or neither.
+unfoldable pub calmState : PredictorCorrector → Reading → LastDescriptor → Bool → Bool → List Float → PredictorCorrector
+calmState s r l quiet corrected point =
+    cond quiet (entered (runEnded s) r l (r .score)) (cond corrected (entered (autoAdjusted s point) r l (correctedScore r l)) s)
+
+-- What a raised reading leaves in the three buffers, e (expected point), h and w (normalised attribution) at entry and e′, h′ and w′ at exit.
+pub record Written (r : Reading) (start : ℕ) (point high low median e h w e′ h′ w′ : List Float) : Type 0 where
+  pub point-is : e′ ≡ cond (expectedFits (length high) (length low) start (r .«base_dimension») (length point) (length median) (length e)) (expectedPoint high low start (r .«base_dimension») point median) e
+  pub highs : h′ ≡ cond (allAlike high low h w) (normalized (r .score) high low high) h
+  pub lows : w′ ≡ cond (allAlike high low h w) (normalized (r .score) high low low) w

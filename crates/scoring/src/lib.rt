@@ -184,3 +184,47 @@ pub fn in_shingle(
     }
     false
 }
+
+// The state after a reading that does not reach the candidate branch, and is quiet, corrected, or neither.
+pub fn calm_state(
+    s: PredictorCorrector,
+    r: Reading,
+    l: LastDescriptor,
+    quiet: bool,
+    corrected: bool,
+    point: &[f32],
+) -> PredictorCorrector
+    ensures { λ t. ⌜ t ≡ Scores.calmState s r l quiet corrected (now (point .entry)) ⌝ }
+{
+    if quiet {
+        return entered(s.run_ended(), r, l, r.score);
+    }
+    if corrected {
+        return entered(s.auto_adjusted(point), r, l, corrected_score(r, l));
+    }
+    s
+}
+
+// The expected point and the normalised attribution, each written where the lengths fit.
+pub fn write_raised(
+    r: Reading,
+    start: usize,
+    point: &[f32],
+    high: &[f64],
+    low: &[f64],
+    median: &[f32],
+    expected: &mut [f32],
+    out_high: &mut [f64],
+    out_low: &mut [f64],
+)
+    ensures { λ _. ⌜ Scores.Written r start (now (point .entry)) (now (high .entry)) (now (low .entry)) (now (median .entry)) (now (expected .entry)) (now («out_high» .entry)) (now («out_low» .entry)) (now (expected .exit)) (now («out_high» .exit)) (now («out_low» .exit)) ⌝ }
+{
+    corrector::expected_point(high, low, start, r.base_dimension, point, median, expected);
+    divector::normalize_into(
+        high,
+        low,
+        std::num::f32_to_f64_with_nan(r.score),
+        out_high,
+        out_low,
+    );
+}
