@@ -84,7 +84,8 @@ fn strategy(s: ScoringStrategy) -> u8 {
     (s != ScoringStrategy::EXPECTED_INVERSE_HEIGHT) as u8
 }
 
-fn reading_bytes(r: &Reading) -> Vec<u8> {
+/// A reading's bytes, and those of its last descriptor.
+pub fn reading_bytes(r: &Reading) -> Vec<u8> {
     let mut out = Vec::new();
     out.extend((r.shingle as u32).to_le_bytes());
     out.extend((r.base as u32).to_le_bytes());
@@ -95,7 +96,7 @@ fn reading_bytes(r: &Reading) -> Vec<u8> {
     out
 }
 
-fn last_bytes(r: &Reading) -> Vec<u8> {
+pub fn last_bytes(r: &Reading) -> Vec<u8> {
     let mut out = vec![strategy(r.last.scoring_strategy)];
     out.extend(r.last.score.to_le_bytes());
     out.extend(r.last.threshold.to_le_bytes());

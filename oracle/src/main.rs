@@ -68,6 +68,7 @@ fn run(name: &str, seed: u64) -> u64 {
     if name == "sample" {
         sample::write(&mut Random::new(seed)).expect("a sample written");
         vector_sample::write(&mut Random::new(seed)).expect("vector calls written");
+        parts::exits::write().expect("readings written");
         return 0;
     }
     let part = PARTS.iter().find(|p| p.name == name).expect("a known part");

@@ -1,5 +1,14 @@
-//! The script of the program nine_exits, judged by the Rust: its lines are the program's expected
-//! output. What document 01's table refuses is not handed to the Rust.
+//! The script of the program nine_exits, judged by the Rust: its readings as bytes are the program's
+//! input, its lines the program's expected output. What document 01's table refuses is not handed to
+//! the Rust.
+//!
+//! In the script a reading is 22 lines of 85 bytes: a title, then a name and eight words of eight
+//! hexadecimal digits, dashes standing for 0; a float is its f32 bits. For the program it is the
+//! title (40 bytes), the state (1310), the reading (23), the last descriptor (23), the lengths of the
+//! buffers of D floats, of base floats and of the neighbours, and the floats of lines 10 to 21.
+
+use std::fs;
+use std::io::Result;
 
 use rcflib::common::descriptor::{AnomalyInformation, Descriptor};
 use rcflib::common::deviation::Deviation;
@@ -9,22 +18,26 @@ use rcflib::trcf::basicthresholder::{BasicThresholder, Numbers};
 use rcflib::trcf::predictorcorrector::{PredictorCorrector, State};
 use rcflib::trcf::types::{CorrectionMode, ScoringStrategy};
 
+use crate::bytes::Bytes;
+use crate::chain::{last_bytes, reading_bytes, verdict_bytes, ACTUAL, EXPECTED, STATE, VERDICT};
 use crate::random::Random;
 use crate::readings::making::no_anomaly;
-use crate::readings::{verdict, Reading, Verdict, METHODS};
+use crate::readings::{states, verdict, Reading, Verdict, METHODS};
 use crate::tally::Tally;
 
-const SCRIPT: &str = "crates/nine_exits/stdin";
-const EXPECTED: &str = "crates/nine_exits/stdout";
+const SCRIPT: &str = "oracle/exits.txt";
+const READINGS: &str = "crates/nine_exits/stdin";
+const LINES: &str = "crates/nine_exits/stdout";
 
-/// A reading's bytes, those of a line, and where a line's first word starts.
+/// A reading's bytes in the script, those of a line, and where a line's first word starts.
 const READING: usize = 22 * LINE;
 const LINE: usize = 85;
 const FIRST: usize = 13;
 
-/// How much of a title is printed, and how long every buffer is.
+/// How much of a title is printed, how long every buffer is, and a reading's bytes for the program.
 const TITLE: usize = 40;
 const ROOM: usize = 8;
+const RECORD: usize = 1783;
 
 const MOST: u32 = 16_777_215;
 
@@ -172,56 +185,40 @@ impl Text<'_> {
             0
         }
     }
+
+    /// The state before the reading. A list entry that the Rust does not have is like the others.
+    fn state_bytes(&self) -> Vec<u8> {
+        let mut out = vec![0; STATE];
+        for (start, line) in [(ACTUAL, 5), (EXPECTED, 6)] {
+            let entry = self.statistic(line).bytes();
+            for at in (start..).step_by(entry.len()).take(16) {
+                out[at..at + entry.len()].copy_from_slice(&entry);
+            }
+        }
+        states::put(&self.state(), self.size(1, 2), &mut out);
+        out
+    }
+
+    /// The reading as the program takes it.
+    fn record(&self) -> Vec<u8> {
+        let reading = self.reading();
+        let mut out = self.0[..TITLE].as_bytes().to_vec();
+        out.extend(self.state_bytes());
+        out.extend(reading_bytes(&reading));
+        out.extend(last_bytes(&reading));
+        out.extend((0..3).map(|k| self.word(9, k) as u8));
+        let rows = (10..22).flat_map(|line| self.row(line, ROOM));
+        out.extend(rows.flat_map(f32::to_le_bytes));
+        out
+    }
 }
 
 fn mix(sum: u64, bits: u64) -> u64 {
     sum.rotate_left(7).wrapping_add(bits)
 }
 
-fn mix_f32(sum: u64, x: f32) -> u64 {
-    mix(sum, x.to_bits() as u64)
-}
-
-fn mix_f64(sum: u64, x: f64) -> u64 {
-    mix(sum, x.to_bits())
-}
-
-fn mix_statistic(sum: u64, d: &Deviation) -> u64 {
-    let numbers = [d.discount, d.weight, d.sum_squared, d.sum, d.count as f64];
-    numbers.into_iter().fold(sum, mix_f64)
-}
-
-fn mix_thresholder(t: &Numbers) -> u64 {
-    let sum = mix_f64(mix_f32(0, t.elasticity), t.count as f64);
-    let sum = mix_f32(mix_f32(sum, t.score_differencing), t.last_score);
-    let sum = mix_statistic(sum, &t.primary_deviation);
-    let sum = mix_statistic(sum, &t.secondary_deviation);
-    let sum = mix_statistic(sum, &t.threshold_deviation);
-    let settings = [
-        t.absolute_threshold,
-        t.absolute_score_fraction,
-        t.lower_threshold,
-        t.factor_adjustment_threshold,
-        t.initial_threshold,
-        t.z_factor,
-    ];
-    settings.into_iter().fold(sum, mix_f32)
-}
-
-/// Of each list the first two entries; one that does not exist is as the script has it.
-fn state_sum(text: &Text, state: &State) -> u64 {
-    let sum = mix(
-        mix_thresholder(&state.basic_thresholder),
-        state.run_length as u64,
-    );
-    let lists = [
-        (&state.deviations_actual, 5),
-        (&state.deviations_expected, 6),
-    ];
-    lists.into_iter().fold(sum, |sum, (list, line)| {
-        let entry = |k: usize| list.get(k).cloned().unwrap_or(text.statistic(line));
-        mix_statistic(mix_statistic(sum, &entry(0)), &entry(1))
-    })
+fn bytes_sum(bytes: &[u8]) -> u64 {
+    bytes.iter().fold(0, |sum, &b| mix(sum, b as u64))
 }
 
 /// A buffer of minus ones, the start of it overwritten.
@@ -231,24 +228,17 @@ fn buffer<T: Copy>(blank: T, start: &[T]) -> [T; ROOM] {
     buffer
 }
 
-fn buffers_sum(expected: &[f32], attribution: &DiVector) -> u64 {
-    let sum = buffer(-1.0, expected).into_iter().fold(0, mix_f32);
-    let sum = buffer(-1.0, &attribution.high)
-        .into_iter()
-        .fold(sum, mix_f64);
-    buffer(-1.0, &attribution.low)
-        .into_iter()
-        .fold(sum, mix_f64)
-}
-
-/// Kind, code, threshold and grade.
-fn words(verdict: Verdict) -> (&'static str, u32, f32, f32) {
-    match verdict {
-        Verdict::Skipped => ("skipped", 0, 0.0, 0.0),
-        Verdict::Quiet(threshold) => ("quiet", 0, threshold, 0.0),
-        Verdict::Corrected(threshold, mode) => ("corrected", mode as u32, threshold, 0.0),
-        Verdict::Raised(threshold, grade) => ("raised", 0, threshold, grade),
-    }
+/// Of each place the expected point's bits, then those of high and low.
+fn buffers_sum(result: &Descriptor) -> u64 {
+    let expected = buffer(-1.0, result.expected_rcf_point.as_deref().unwrap_or(&[]));
+    let attribution = result.attribution.as_ref();
+    let high = buffer(-1.0, attribution.map_or(&[], |v| &v.high));
+    let low = buffer(-1.0, attribution.map_or(&[], |v| &v.low));
+    (0..ROOM).fold(0, |sum, k| {
+        let sum = mix(sum, expected[k].plain().to_bits() as u64);
+        let sum = mix(sum, high[k].plain().to_bits());
+        mix(sum, low[k].plain().to_bits())
+    })
 }
 
 /// The exit by its place in `detect_and_modify`. Two give ANOMALY_IN_SHINGLE: the first asks for no
@@ -269,57 +259,78 @@ fn exit(verdict: Verdict, calls: &[Call]) -> usize {
     }
 }
 
-/// The line of one reading; an accepted one marks its exit, a refused one its number.
-fn line(text: &Text, exits: &mut [bool; 9], refusals: &mut [bool; 7]) -> String {
-    let nothing = DiVector {
-        high: vec![],
-        low: vec![],
-    };
-    let refusal = text.refusal();
-    let mut state = text.state();
-    let mut said = ("refused", refusal, 0.0, 0.0);
-    let mut result = Descriptor::default();
-    refusals[refusal as usize] = true;
-    if refusal == 0 {
-        let mut chain = PredictorCorrector::of_state(state);
-        let calls;
-        (result, calls) = text.reading().judge(&mut chain);
-        state = chain.state();
-        said = words(verdict(&result));
-        exits[exit(verdict(&result), &calls)] = true;
+/// What the script makes: the program's input, its output, and which exits and refusals come up.
+#[derive(Default)]
+struct Made {
+    records: Vec<u8>,
+    lines: String,
+    exits: [bool; 9],
+    refusals: [bool; 7],
+}
+
+impl Made {
+    fn of_script() -> Result<Self> {
+        let script = fs::read_to_string(SCRIPT)?;
+        let mut made = Made::default();
+        for at in (0..script.len()).step_by(READING) {
+            let text = Text(&script[at..at + READING]);
+            made.records.extend(text.record());
+            made.judge(&text);
+        }
+        Ok(made)
     }
-    let (kind, code, threshold, grade) = said;
-    let expected = result.expected_rcf_point.unwrap_or_default();
-    format!(
-        "{}{kind} {code} {:08x} {:08x} {:>2} {:016x} {:016x}\n",
-        &text.0[..TITLE],
-        threshold.to_bits(),
-        grade.to_bits(),
-        result.relative_index,
-        state_sum(text, &state),
-        buffers_sum(&expected, result.attribution.as_ref().unwrap_or(&nothing)),
-    )
+
+    /// The line of one reading; an accepted one marks its exit, a refused one its number.
+    fn judge(&mut self, text: &Text) {
+        let refusal = text.refusal();
+        let mut state = text.state_bytes();
+        let mut said = vec![0; VERDICT];
+        let mut result = Descriptor::default();
+        self.refusals[refusal as usize] = true;
+        if refusal == 0 {
+            let mut chain = PredictorCorrector::of_state(text.state());
+            let calls;
+            (result, calls) = text.reading().judge(&mut chain);
+            states::put(&chain.state(), text.size(1, 2), &mut state);
+            said = verdict_bytes(verdict(&result), result.relative_index);
+            self.exits[exit(verdict(&result), &calls)] = true;
+        }
+        let said: String = said.iter().map(|b| format!("{b:02x}")).collect();
+        self.lines += &format!(
+            "{}{refusal} {said} {:016x} {:016x}\n",
+            &text.0[..TITLE],
+            bytes_sum(&state),
+            buffers_sum(&result),
+        );
+    }
+}
+
+/// Writes the program's input and the lines that it is to print.
+pub fn write() -> Result<()> {
+    let made = Made::of_script()?;
+    let bytes = made.records.len();
+    println!("{} readings, {bytes} bytes", made.lines.lines().count());
+    fs::write(READINGS, made.records)?;
+    fs::write(LINES, made.lines)
 }
 
 pub fn compare(tally: &mut Tally, _: &mut Random) {
-    let script = std::fs::read_to_string(SCRIPT).expect(SCRIPT);
-    let stored = std::fs::read_to_string(EXPECTED).unwrap_or_default();
-    let (mut exits, mut refusals) = ([false; 9], [false; 7]);
-    let mut lines = String::new();
-    for at in (0..script.len()).step_by(READING) {
-        let text = Text(&script[at..at + READING]);
-        lines += &line(&text, &mut exits, &mut refusals);
+    let made = Made::of_script().expect(SCRIPT);
+    let records = fs::read(READINGS).unwrap_or_default();
+    let lines = fs::read_to_string(LINES).unwrap_or_default();
+    print!("{}", made.lines);
+    let kept = lines.lines().chain(std::iter::repeat(""));
+    for (k, (line, kept)) in made.lines.lines().zip(kept).enumerate() {
+        tally.compare(&(line == kept), &true, || format!("stored: {kept}"));
+        let at = k * RECORD..(k + 1) * RECORD;
+        let same = records.get(at.clone()) == made.records.get(at);
+        tally.compare(&same, &true, || format!("bytes of {line}"));
     }
-    print!("{lines}");
-    let pairs = lines
-        .lines()
-        .zip(stored.lines().chain(std::iter::repeat("")));
-    for (made, kept) in pairs {
-        tally.compare(&(made == kept), &true, || format!("stored: {kept}"));
-    }
-    tally.compare(&stored.len(), &lines.len(), || {
-        "length of the output".into()
+    let lengths = [records.len(), lines.len()];
+    let due = [made.records.len(), made.lines.len()];
+    tally.compare(&lengths, &due, || "lengths of the files".into());
+    tally.compare(&made.exits, &[true; 9], || "exits reached".into());
+    tally.compare(&made.refusals[2..], &[true; 5][..], || {
+        "refusals given".into()
     });
-    tally.compare(&exits, &[true; 9], || "exits reached".to_string());
-    tally.compare(&refusals[2..], &[true; 5][..], || "refusals given".into());
 }

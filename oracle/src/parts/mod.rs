@@ -5,7 +5,7 @@ mod conversions;
 mod demand3;
 mod deviation;
 mod drill;
-mod exits;
+pub mod exits;
 mod floor;
 mod judging;
 mod narrow;

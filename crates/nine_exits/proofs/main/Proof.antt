@@ -1,3 +1,5 @@
+use native.Mathlib.Omega.{arith}
+use lib.ListN.{length-take}
 use borrow.Author.Needs.{needs}
 use Prim.Native.Nat.{_≤_, _-_}
 use Rattle.nine_exits.proofs.main.Statement.{statement}
@@ -12,20 +14,20 @@ abbrev μ-loop : tie.MeasureT-loop
 loop-holds : tie.Need-loop-holds Inv-loop μ-loop
 loop-holds c = search needs
 
-blank-requires : tie.Need-blank-requires Inv-loop μ-loop
-blank-requires c κs = search needs
+buffer-requires : tie.Need-buffer-requires Inv-loop μ-loop
+buffer-requires c κs = search needs
+
+array-borrow-prefix-bytes : tie.Need-array-borrow-prefix-bytes Inv-loop μ-loop
+array-borrow-prefix-bytes c = search needs
 
 slice-aggregate-read-full : tie.Need-slice-aggregate-read-full Inv-loop μ-loop
-slice-aggregate-read-full c = search needs
+slice-aggregate-read-full c = let k = c .before .buffer .ensures in simp length-take (omega arith)
 
 read-full-requires : tie.Need-read-full-requires Inv-loop μ-loop
 read-full-requires c κs = search needs
 
 returns : tie.Need-returns Inv-loop μ-loop
 returns c = search needs
-
-slice-aggregate-show : tie.Need-slice-aggregate-show Inv-loop μ-loop
-slice-aggregate-show c = search needs
 
 show-requires : tie.Need-show-requires Inv-loop μ-loop
 show-requires c κs = search needs
@@ -49,11 +51,11 @@ main-spec =
     Inv-loop
     μ-loop
     loop-holds
-    blank-requires
+    buffer-requires
+    array-borrow-prefix-bytes
     slice-aggregate-read-full
     read-full-requires
     returns
-    slice-aggregate-show
     show-requires
     add-k
     loop-less

@@ -4,16 +4,19 @@ use Rattle.nine_exits.proofs.reals.Statement.{statement}
 use Rattle.nine_exits.proofs.reals.Tie as tie
 
 abbrev Inv-loop : tie.InvT-loop
-Inv-loop text out₀ i₀ out i = i ≤ 96
+Inv-loop b out₀ i₀ out i = i ≤ 96
 
 abbrev μ-loop : tie.MeasureT-loop
-μ-loop text out₀ i₀ out i = 96 - i
+μ-loop b out₀ i₀ out i = 96 - i
 
 no-reals-requires : tie.Need-no-reals-requires Inv-loop μ-loop
 no-reals-requires c κs = search needs
 
 loop-holds : tie.Need-loop-holds Inv-loop μ-loop
 loop-holds c = search needs
+
+mul-real : tie.Need-mul-real Inv-loop μ-loop
+mul-real c = search needs
 
 add-real : tie.Need-add-real Inv-loop μ-loop
 add-real c = search needs
@@ -47,6 +50,7 @@ reals-spec =
     μ-loop
     no-reals-requires
     loop-holds
+    mul-real
     add-real
     real-requires
     mul-out

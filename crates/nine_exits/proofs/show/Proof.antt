@@ -1,54 +1,149 @@
-use mathlib.Core.Path.{_≡_}
 use native.Mathlib.Omega.{arith}
-use lib.ListN.{length, length-take}
+use lib.ListN.{length-take}
 use borrow.Author.Needs.{needs}
 use Rattle.nine_exits.proofs.show.Statement.{statement}
 use Rattle.nine_exits.proofs.show.Tie as tie
 
-untouched-requires : tie.Need-untouched-requires
-untouched-requires c κs = search needs
+reals-requires : tie.Need-reals-requires
+reals-requires c κs = search needs
 
-wide-untouched-requires : tie.Need-wide-untouched-requires
-wide-untouched-requires c κs = search needs
+wides-requires : tie.Need-wides-requires
+wides-requires c κs = search needs
 
-wide-untouched-requires-2 : tie.Need-wide-untouched-requires-2
-wide-untouched-requires-2 c κs = search needs
+slice-aggregate-x : tie.Need-slice-aggregate-x
+slice-aggregate-x c = search needs
+
+slice-aggregate-w : tie.Need-slice-aggregate-w
+slice-aggregate-w c = search needs
+
+array-read-length : tie.Need-array-read-length
+array-read-length c = search needs
 
 length-requires : tie.Need-length-requires
 length-requires c κs = search needs
 
+array-read-length-2 : tie.Need-array-read-length-2
+array-read-length-2 c = search needs
+
+length-requires-2 : tie.Need-length-requires-2
+length-requires-2 c κs = search needs
+
+array-read-length-3 : tie.Need-array-read-length-3
+array-read-length-3 c = search needs
+
+length-requires-3 : tie.Need-length-requires-3
+length-requires-3 c κs = search needs
+
+sub-read-state : tie.Need-sub-read-state
+sub-read-state c = search needs
+
+part-read-state-start : tie.Need-part-read-state-start
+part-read-state-start c = search needs
+
+part-read-state-end : tie.Need-part-read-state-end
+part-read-state-end c = search needs
+
+read-state-requires : tie.Need-read-state-requires
+read-state-requires c κs = search needs
+
+sub-read-reading : tie.Need-sub-read-reading
+sub-read-reading c = search needs
+
+part-read-reading-start : tie.Need-part-read-reading-start
+part-read-reading-start c = search needs
+
+part-read-reading-end : tie.Need-part-read-reading-end
+part-read-reading-end c = search needs
+
+read-reading-requires : tie.Need-read-reading-requires
+read-reading-requires c κs = search needs
+
+sub-read-last : tie.Need-sub-read-last
+sub-read-last c = search needs
+
+part-read-last-start : tie.Need-part-read-last-start
+part-read-last-start c = search needs
+
+part-read-last-end : tie.Need-part-read-last-end
+part-read-last-end c = omega (arith, c .before .before .before .before .before .before .before .before .before .before .before .before .before .before .before .before .good)
+
+read-last-requires : tie.Need-read-last-requires
+read-last-requires c κs = search needs
+
+row-requires : tie.Need-row-requires
+row-requires c κs = search needs
+
+row-requires-2 : tie.Need-row-requires-2
+row-requires-2 c κs = search needs
+
+row-requires-3 : tie.Need-row-requires-3
+row-requires-3 c κs = search needs
+
+row-requires-4 : tie.Need-row-requires-4
+row-requires-4 c κs = search needs
+
+row-requires-5 : tie.Need-row-requires-5
+row-requires-5 c κs = search needs
+
+row-requires-6 : tie.Need-row-requires-6
+row-requires-6 c κs = search needs
+
+wide-row-requires : tie.Need-wide-row-requires
+wide-row-requires c κs = search needs
+
+wide-row-requires-2 : tie.Need-wide-row-requires-2
+wide-row-requires-2 c κs = search needs
+
+row-requires-7 : tie.Need-row-requires-7
+row-requires-7 c κs = search needs
+
+wide-row-requires-3 : tie.Need-wide-row-requires-3
+wide-row-requires-3 c κs = search needs
+
+wide-row-requires-4 : tie.Need-wide-row-requires-4
+wide-row-requires-4 c κs = search needs
+
+row-requires-8 : tie.Need-row-requires-8
+row-requires-8 c κs = search needs
+
 array-borrow-prefix-expected : tie.Need-array-borrow-prefix-expected
-array-borrow-prefix-expected c = search needs
+array-borrow-prefix-expected c = omega (arith, c .before .before .before .before .before .before .before .before .before .before .before .before .before .before .before .before .before .before .before .before .before .before .before .length .ensures)
 
-slice-aggregate-tabled : tie.Need-slice-aggregate-tabled
-slice-aggregate-tabled c = let l : length (c .before .before .before .before .untouched .result) ≡ 8 = search needs in let k = c .before .length .ensures in simp length-take (omega arith)
+slice-aggregate-detect-and-modify : tie.Need-slice-aggregate-detect-and-modify
+slice-aggregate-detect-and-modify c = let k = c .before .before .before .before .before .before .before .before .before .before .before .before .before .before .before .before .before .before .before .before .before .before .before .before .length .ensures in simp length-take (omega arith)
 
-array-borrow-prefix-out-high : tie.Need-array-borrow-prefix-out-high
-array-borrow-prefix-out-high c = search needs
+array-borrow-prefix-high : tie.Need-array-borrow-prefix-high
+array-borrow-prefix-high c = omega (arith, c .before .before .before .before .before .before .before .before .before .before .before .before .before .before .before .before .before .before .before .before .before .before .before .before .length .ensures)
 
-slice-aggregate-tabled-2 : tie.Need-slice-aggregate-tabled-2
-slice-aggregate-tabled-2 c = let l : length (c .before .before .before .before .wide-untouched .result) ≡ 8 = search needs in let k = c .before .before .length .ensures in simp length-take (omega arith)
+slice-aggregate-detect-and-modify-2 : tie.Need-slice-aggregate-detect-and-modify-2
+slice-aggregate-detect-and-modify-2 c = let k = c .before .before .before .before .before .before .before .before .before .before .before .before .before .before .before .before .before .before .before .before .before .before .before .before .before .length .ensures in simp length-take (omega arith)
 
-array-borrow-prefix-out-low : tie.Need-array-borrow-prefix-out-low
-array-borrow-prefix-out-low c = search needs
+array-borrow-prefix-low : tie.Need-array-borrow-prefix-low
+array-borrow-prefix-low c = omega (arith, c .before .before .before .before .before .before .before .before .before .before .before .before .before .before .before .before .before .before .before .before .before .before .before .before .before .length .ensures)
 
-slice-aggregate-tabled-3 : tie.Need-slice-aggregate-tabled-3
-slice-aggregate-tabled-3 c = let l : length (c .before .before .before .before .wide-untouched2 .result) ≡ 8 = search needs in let k = c .before .before .before .length .ensures in simp length-take (omega arith)
+slice-aggregate-detect-and-modify-3 : tie.Need-slice-aggregate-detect-and-modify-3
+slice-aggregate-detect-and-modify-3 c = let k = c .before .before .before .before .before .before .before .before .before .before .before .before .before .before .before .before .before .before .before .before .before .before .before .before .before .before .length .ensures in simp length-take (omega arith)
 
-tabled-requires : tie.Need-tabled-requires
-tabled-requires c κs = search needs
+detect-and-modify-requires : tie.Need-detect-and-modify-requires
+detect-and-modify-requires c κs = search needs
 
-mix-row-requires : tie.Need-mix-row-requires
-mix-row-requires c κs = search needs
+sub-put-judgment : tie.Need-sub-put-judgment
+sub-put-judgment c = search needs
 
-mix-wide-row-requires : tie.Need-mix-wide-row-requires
-mix-wide-row-requires c κs = search needs
+part-b-start : tie.Need-part-b-start
+part-b-start c = search needs
 
-mix-wide-row-requires-2 : tie.Need-mix-wide-row-requires-2
-mix-wide-row-requires-2 c κs = search needs
+part-b-end : tie.Need-part-b-end
+part-b-end c = omega (arith, c .before .before .before .before .before .before .before .before .before .before .before .before .before .before .before .before .before .before .before .before .before .before .before .before .before .before .before .before .before .before .before .before .before .before .before .before .before .good)
 
-title-requires : tie.Need-title-requires
-title-requires c κs = search needs
+slice-aggregate-put-judgment : tie.Need-slice-aggregate-put-judgment
+slice-aggregate-put-judgment c = search needs
+
+put-judgment-requires : tie.Need-put-judgment-requires
+put-judgment-requires c κs = search needs
+
+mix-buffers-requires : tie.Need-mix-buffers-requires
+mix-buffers-requires c κs = search needs
 
 write-line-requires : tie.Need-write-line-requires
 write-line-requires c κs = search needs
@@ -60,20 +155,52 @@ pub show-spec : {M : Type 1} → statement M
 show-spec =
     tie.close
     (tie.spec
-    untouched-requires
-    wide-untouched-requires
-    wide-untouched-requires-2
+    reals-requires
+    wides-requires
+    slice-aggregate-x
+    slice-aggregate-w
+    array-read-length
     length-requires
+    array-read-length-2
+    length-requires-2
+    array-read-length-3
+    length-requires-3
+    sub-read-state
+    part-read-state-start
+    part-read-state-end
+    read-state-requires
+    sub-read-reading
+    part-read-reading-start
+    part-read-reading-end
+    read-reading-requires
+    sub-read-last
+    part-read-last-start
+    part-read-last-end
+    read-last-requires
+    row-requires
+    row-requires-2
+    row-requires-3
+    row-requires-4
+    row-requires-5
+    row-requires-6
+    wide-row-requires
+    wide-row-requires-2
+    row-requires-7
+    wide-row-requires-3
+    wide-row-requires-4
+    row-requires-8
     array-borrow-prefix-expected
-    slice-aggregate-tabled
-    array-borrow-prefix-out-high
-    slice-aggregate-tabled-2
-    array-borrow-prefix-out-low
-    slice-aggregate-tabled-3
-    tabled-requires
-    mix-row-requires
-    mix-wide-row-requires
-    mix-wide-row-requires-2
-    title-requires
+    slice-aggregate-detect-and-modify
+    array-borrow-prefix-high
+    slice-aggregate-detect-and-modify-2
+    array-borrow-prefix-low
+    slice-aggregate-detect-and-modify-3
+    detect-and-modify-requires
+    sub-put-judgment
+    part-b-start
+    part-b-end
+    slice-aggregate-put-judgment
+    put-judgment-requires
+    mix-buffers-requires
     write-line-requires
     returns)

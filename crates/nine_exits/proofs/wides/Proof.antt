@@ -4,10 +4,10 @@ use Rattle.nine_exits.proofs.wides.Statement.{statement}
 use Rattle.nine_exits.proofs.wides.Tie as tie
 
 abbrev Inv-loop : tie.InvT-loop
-Inv-loop text out₀ i₀ out i = i ≤ 96
+Inv-loop x out₀ i₀ out i = i ≤ 96
 
 abbrev μ-loop : tie.MeasureT-loop
-μ-loop text out₀ i₀ out i = 96 - i
+μ-loop x out₀ i₀ out i = 96 - i
 
 no-wides-requires : tie.Need-no-wides-requires Inv-loop μ-loop
 no-wides-requires c κs = search needs
@@ -15,11 +15,14 @@ no-wides-requires c κs = search needs
 loop-holds : tie.Need-loop-holds Inv-loop μ-loop
 loop-holds c = search needs
 
-add-wide : tie.Need-add-wide Inv-loop μ-loop
-add-wide c = search needs
+mul-widen : tie.Need-mul-widen Inv-loop μ-loop
+mul-widen c = search needs
 
-wide-requires : tie.Need-wide-requires Inv-loop μ-loop
-wide-requires c κs = search needs
+element-copy-out-widen : tie.Need-element-copy-out-widen Inv-loop μ-loop
+element-copy-out-widen c = search needs
+
+widen-requires : tie.Need-widen-requires Inv-loop μ-loop
+widen-requires c κs = search needs
 
 mul-out : tie.Need-mul-out Inv-loop μ-loop
 mul-out c = search needs
@@ -47,8 +50,9 @@ wides-spec =
     μ-loop
     no-wides-requires
     loop-holds
-    add-wide
-    wide-requires
+    mul-widen
+    element-copy-out-widen
+    widen-requires
     mul-out
     array-write-out
     add-i
