@@ -17,7 +17,7 @@ use Rattle.descriptor.specs.Checks.{sizesOk, dimension, rangeOk, pointsOk, rows
 use Rattle.descriptor.specs.Lent.{Lent}
 use Rattle.descriptor.specs.declared.Reading.{Reading}
 use Rattle.descriptor.specs.declared.LastDescriptor.{LastDescriptor}
-use Rattle.descriptor.proofs.Bounds.{both, sizes, product-fits, dimension-is, base-inside, last-points}
+use Rattle.descriptor.proofs.Bounds.{both, sizes, product-fits, dimension-is, last-points}
 use Rattle.detection.specs.Judging.{gapOf, blockOf, gap, block, start}
 use Rattle.detection.specs.Steps.{Correctable, Branching, Writing, passing, late, branch}
 
@@ -67,13 +67,6 @@ points d point high low median ih il e h w q =
       of-out-low = eqb-true w d (p₈ .1);
     }
 
-noise-row : (base scale shift noise : ℕ) → rowsOk base scale shift noise ≡ true → noise ≡ base
-unfolding rowsOk
-noise-row base scale shift noise q =
-    let p = both (eqb scale base) (eqb shift base && eqb noise base) q in
-    let r = both (eqb shift base) (eqb noise base) (p .1) in
-    eqb-true noise base (r .1)
-
 -- A reading that is seen later than the last anomaly has a gap.
 gap-above : (n : ℕ) (h : Bool) (m : ℕ) → seenOk n h m ≡ true → 0 < gapOf n h m
 unfolding seenOk isLater gapOf
@@ -119,7 +112,6 @@ module _ (r : Reading) (l : LastDescriptor) (b : Lent) (stateBase e h w : ℕ) (
 
   record Lengths : Type 0 where
     of : Points d (length (b .point)) (length (b .high)) (length (b .low)) (length (b .median)) (length (b .«ideal_high»)) (length (b .«ideal_low»)) e h w
-    noise : length (b .«difference_deviations») ≡ r .«base_dimension»
     last : l .«has_anomaly» ≡ true → (length (b .«last_expected») ≡ d) × (length (b .«last_anomalous») ≡ d)
 
   lengths : Lengths
@@ -130,7 +122,6 @@ module _ (r : Reading) (l : LastDescriptor) (b : Lent) (stateBase e h w : ℕ) (
       let p₃ = both (neighboursOk d (length (b .neighbours))) _ (p₂ .1) in
       record {
         of = points d (length (b .point)) (length (b .high)) (length (b .low)) (length (b .median)) (length (b .«ideal_high»)) (length (b .«ideal_low»)) e h w (p₁ .0);
-        noise = noise-row (r .«base_dimension») (length (b .scale)) (length (b .shift)) (length (b .«difference_deviations»)) (p₂ .0);
         last = last-points (l .«has_anomaly») d (length (b .«last_expected»)) (length (b .«last_anomalous»)) (p₃ .1);
       }
 
@@ -158,11 +149,8 @@ module _ (r : Reading) (l : LastDescriptor) (b : Lent) (stateBase e h w : ℕ) (
       let long = n .of .of-point in
       record {
         shingle-most = z .shingle-most;
-        base-least = z .base-least;
         base-most = z .base-most;
         point-most = subst (λ (x : ℕ). x ≤ 1024) (sym (long ∙ product)) (product-fits (r .«shingle_size») (r .«base_dimension») sized);
-        base-within = subst (λ (x : ℕ). r .«base_dimension» ≤ x) (sym (long ∙ product)) (base-inside (r .«shingle_size») (r .«base_dimension») (z .shingle-least));
-        noise-long = n .noise;
         expecting = record {
           high-long = n .of .of-high ∙ sym long;
           low-long = n .of .of-low ∙ sym long;
@@ -199,13 +187,13 @@ module _ (r : Reading) (l : LastDescriptor) (b : Lent) (stateBase e h w : ℕ) (
   unfolding start block gap
   for-late =
       let f = branching in
-      record { shingle-most = f .shingle-most; base-least = f .base-least; base-most = f .base-most; point-most = f .point-most; base-within = f .base-within; noise-long = f .noise-long; expecting = f .expecting; block-small = f .block-small }
+      record { shingle-most = f .shingle-most; base-most = f .base-most; point-most = f .point-most; expecting = f .expecting; block-small = f .block-small }
 
   pub for-branch : Branching r l (branch (b .point) (b .«difference_deviations») (b .high) (b .low) (b .median))
   unfolding start block gap
   for-branch =
       let f = branching in
-      record { shingle-most = f .shingle-most; base-least = f .base-least; base-most = f .base-most; point-most = f .point-most; base-within = f .base-within; noise-long = f .noise-long; expecting = f .expecting; block-small = f .block-small }
+      record { shingle-most = f .shingle-most; base-most = f .base-most; point-most = f .point-most; expecting = f .expecting; block-small = f .block-small }
 
   pub writing : Writing b e h w
   writing =

@@ -1,5 +1,5 @@
 -- From an exit's tests and calls to what judging leaves. Assumes nothing.
-use mathlib.Core.Path.{_≡_, refl, sym, ap, ap₂, _∙_, subst}
+use mathlib.Core.Path.{_≡_, refl, sym, ap, _∙_, subst}
 use mathlib.Core.Bool.{Bool, true, false, cond}
 use mathlib.Core.List.{List}
 use Prim.Native.Nat.{ℕ, _*_}
@@ -27,7 +27,7 @@ use Rattle.candidate.specs.Candidate.{countedRows, countedRun}
 use Rattle.candidate.specs.declared.Counted.{Counted}
 use Rattle.detection.specs.Judging.{gap, block, start, expected, newestOf, candidateState, isDataDrift, raisedOr, settled, openVerdict, verdict, runAfterMode, correctedScore, entered, after, relativeIndex, kept}
 use Rattle.detection.specs.Judged.{Judged, outcome, outcomeOf, stateAfter, indexAfter, written}
-use Rattle.detection.specs.Steps.{branch, Branching, Writing, Branched, branchJudgment, openOf, openOutcome, courseOf}
+use Rattle.detection.specs.Steps.{branch, Branching, Writing, Branched, branchJudgment, calmJudgment, openOf, openOutcome, courseOf}
 use Rattle.detection.specs.declared.Course.{Course}
 use Rattle.detection.specs.declared.Verdict.{Verdict}
 use Rattle.detection.specs.declared.Verdict.the-variants.{Quiet, Corrected, Raised, Skipped}
@@ -193,10 +193,12 @@ module _ (s : PredictorCorrector) (r : Reading) (l : LastDescriptor) (b : Lent) 
       raised-judged e′ h′ w′ k p =
           raised-by (answerOf r l b (s .«base_dimension») (length e) (length h) (length w) (stateCountsOk s)) refl e′ h′ w′ a (of ∙ ap courseOf is) k p
 
-      pub calm-judged : a .raised ≡ false → j .outcome ≡ o → j .state ≡ calmState s r l (a .quiet) (a .corrected) (b .point) → j .«relative_index» ≡ pos 0 → Judged s r l b j e h w e h w
-      unfolding openOutcome
-      calm-judged k q p i =
-          calm-by (answerOf r l b (s .«base_dimension») (length e) (length h) (length w) (stateCountsOk s)) refl (sym (ap (λ (x : Course). x .raised) (of ∙ ap courseOf is)) ∙ k) (q ∙ is) (p ∙ ap (λ (x : Course). calmState s r l (x .quiet) (x .corrected) (b .point)) (of ∙ ap courseOf is)) i
+      pub calm-judged : a .raised ≡ false → j ≡ calmJudgment s r l o a (b .point) → Judged s r l b j e h w e h w
+      unfolding openOutcome calmJudgment
+      calm-judged k p =
+          let c = of ∙ ap courseOf is in
+          calm-by (answerOf r l b (s .«base_dimension») (length e) (length h) (length w) (stateCountsOk s)) refl (sym (ap (λ (x : Course). x .raised) c) ∙ k) (ap (λ (x : Judgment). x .outcome) p ∙ is)
+          (ap (λ (x : Judgment). x .state) p ∙ ap (λ (x : Course). calmState s r l (x .quiet) (x .corrected) (b .point)) c) (ap (λ (x : Judgment). x .«relative_index») p)
 
   -- What the candidate branch asks.
   module _ (e h w : ℕ) where

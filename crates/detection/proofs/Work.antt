@@ -1,14 +1,13 @@
 -- Parts of local work arrays that a call wrote, and what the leaves' contracts give where the lengths fit. Assumes nothing.
 use mathlib.Core.Path.{_≡_, refl, sym, ap, _∙_}
 use mathlib.Core.Bool.{Bool, true, false, cond, not, _||_}
-use mathlib.Core.List.{List, [], _∷_, _++_}
-use Prim.Native.Nat.{ℕ, zero, suc, _-_, _≤_}
+use mathlib.Core.List.{List, _∷_, _++_}
+use Prim.Native.Nat.{ℕ, zero, suc, _≤_}
 use native.Mathlib.Nat.{le-of-suc-le-suc, not-suc-le-zero}
-use native.Mathlib.Omega.{arith}
 use lib.Dec.{ltb}
 use lib.IntN.{ℤ}
-use lib.ListN.{length, take, drop, replicate, length-drop}
-use lib.Seq.{take-at, take-all, drop-append-le}
+use lib.ListN.{length, take, drop, replicate}
+use lib.Seq.{take-at}
 use borrow.Author.Tests.{leb-false, lt-ltb}
 use lib.Ieee.{Float}
 use Rattle.corrector.specs.Corrector.{correctorFits, applyBasicCorrector, expectedFits}
@@ -50,15 +49,3 @@ not-recent point gap shingle base false e a i u t k = pick (ltb shingle gap) _
     pick true z = refl
     pick false z = refl
 not-recent point gap shingle base true e a i u t k = rw (lt-ltb shingle gap (leb-false gap shingle k))
-
--- A part with a start of a list, to its end.
-pub tail-is : {A : Type 0} (xs : List A) (n : ℕ) → take (length xs - n) (drop n xs) ≡ drop n xs
-tail-is xs n = take-all (length xs - n) (drop n xs) (simp length-drop (omega arith))
-
--- A part of the front that a call wrote, up to its end.
-pub tail-of-front : {A : Type 0} (w ys zs : List A) (n d : ℕ) → n ≤ d → length ys ≡ d → ys ≡ zs → take (d - n) (drop n (ys ++ drop d w)) ≡ drop n zs
-tail-of-front w ys zs n d h l e =
-    let k : n ≤ length ys = omega arith in
-    ap (take (d - n)) (drop-append-le n ys (drop d w) k)
-    ∙ take-at (drop n ys) (drop d w) (d - n) (simp length-drop (omega arith))
-    ∙ ap (drop n) e

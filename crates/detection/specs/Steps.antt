@@ -19,6 +19,7 @@ use Rattle.descriptor.specs.declared.LastDescriptor.{LastDescriptor}
 use Rattle.divector.specs.DiVector.{normalized}
 use Rattle.predictorcorrector.specs.State.{runGrown}
 use Rattle.predictorcorrector.specs.declared.PredictorCorrector.{PredictorCorrector}
+use Rattle.scoring.specs.Scores.{calmState}
 use Rattle.candidate.specs.declared.Counted.{Counted}
 use Rattle.detection.specs.Const.{zero32}
 use Rattle.detection.specs.Judging.{gapOf, recent, opening, noisePass, start, block, candidateState, isDataDrift, raisedOr, expected, openVerdict, correctedScore, entered}
@@ -48,11 +49,8 @@ pub record Correctable (r : Reading) (l : LastDescriptor) (b : Lent) : Type 0 wh
 -- and for the exits past it.
 pub record Branching (r : Reading) (l : LastDescriptor) (b : Lent) : Type 0 where
   pub shingle-most : r .«shingle_size» ≤ 64
-  pub base-least : 1 ≤ r .«base_dimension»
   pub base-most : r .«base_dimension» ≤ 16
   pub point-most : length (b .point) ≤ 1024
-  pub base-within : r .«base_dimension» ≤ length (b .point)
-  pub noise-long : length (b .«difference_deviations») ≡ r .«base_dimension»
   pub expecting : Expecting (length (b .high)) (length (b .low)) (start r l b) (r .«base_dimension») (length (b .point)) (length (b .median)) (length (b .point))
   pub block-small : block r l b ≤ 1024
 
@@ -88,6 +86,10 @@ courseOf (Accepted (Quiet t)) = calm true false
 courseOf (Accepted (Corrected t m)) = calm false true
 courseOf (Accepted (Raised t g)) = record { raised = true; quiet = false; corrected = false; threshold = t; grade = g }
 courseOf (Accepted Skipped) = calm false false
+
+-- The judgment of an outcome that does not reach the candidate branch.
+unfoldable pub calmJudgment : PredictorCorrector → Reading → LastDescriptor → Outcome → Course → List Float → Judgment
+calmJudgment s r l o c point = record { outcome = o; «relative_index» = pos 0; state = calmState s r l (c .quiet) (c .corrected) point }
 
 -- The judgment at either end of the candidate branch.
 unfoldable pub branchJudgment : Counted → Reading → LastDescriptor → ℕ → Float → Float → Judgment

@@ -503,6 +503,24 @@ fn course_of(outcome: Outcome) -> Course
     }
 }
 
+// The judgment of an outcome that does not reach the candidate branch.
+fn calm_judgment(
+    s: PredictorCorrector,
+    r: Reading,
+    l: LastDescriptor,
+    outcome: Outcome,
+    course: Course,
+    point: &[f32],
+) -> Judgment
+    ensures { λ j. ⌜ j ≡ Steps.calmJudgment s r l outcome course (now (point .entry)) ⌝ }
+{
+    Judgment {
+        outcome,
+        relative_index: 0,
+        state: scoring::calm_state(s, r, l, course.quiet, course.corrected, point),
+    }
+}
+
 // Judges a reading: document 01's entry checks, then the Rust's `detect_and_modify`. The expected point and the normalised attribution
 // are written to the last three buffers where the reading is raised, and left alone otherwise.
 pub fn detect_and_modify(
@@ -569,9 +587,5 @@ pub fn detect_and_modify(
             out_low,
         );
     }
-    Judgment {
-        outcome,
-        relative_index: 0,
-        state: scoring::calm_state(s, r, l, course.quiet, course.corrected, point),
-    }
+    calm_judgment(s, r, l, outcome, course, point)
 }

@@ -1,4 +1,4 @@
-use mathlib.Core.Path.{_∙_, ap, refl}
+use mathlib.Core.Path.{_∙_, ap}
 use mathlib.Core.Bool.{Bool}
 use denote.Ref.{now}
 use lib.ListN.{length}
@@ -44,15 +44,15 @@ returns c =
     let is = c .before .before .before .before .before .before .before .before .before .before .before .before .open-outcome .ensures ∙ ap (λ (t : Bool). openOutcome (a .r) (a .l) b (a .s .«basic_thresholder») (a .s .«auto_adjust») (a .s .«base_dimension») (length (now (c .before .before .before .before .before .before .before .before .before .before .before .before .before .before .before .before .before .before .before .before .before .before .before .before .before .before .before .before .before .before .args .expected))) (length (now (c .before .before .before .before .before .before .before .before .before .before .before .before .before .before .before .before .before .before .before .before .before .before .before .before .before .before .before .before .before .before .args .out-high))) (length (now (c .before .before .before .before .before .before .before .before .before .before .before .before .before .before .before .before .before .before .before .before .before .before .before .before .before .before .before .before .before .before .args .out-low))) t) (c .before .before .before .before .before .before .before .before .before .before .before .before .before .counts-ok .ensures) in
     raised-judged (a .s) (a .r) (a .l) b _ (now (c .before .before .before .before .before .before .before .before .before .before .before .before .before .before .before .before .before .before .before .before .before .before .before .before .before .before .before .before .before .before .args .expected)) (now (c .before .before .before .before .before .before .before .before .before .before .before .before .before .before .before .before .before .before .before .before .before .before .before .before .before .before .before .before .before .before .args .out-high)) (now (c .before .before .before .before .before .before .before .before .before .before .before .before .before .before .before .before .before .before .before .before .before .before .before .before .before .before .before .before .before .before .args .out-low)) (c .before .before .before .before .before .before .before .before .before .before .before .before .open-outcome .result) is (c .before .before .before .before .before .before .before .before .before .before .before .course-of .result) (c .before .before .before .before .before .before .before .before .before .before .before .course-of .ensures) _ _ _ (c .before .before .before .before .before .before .before .before .before .before .if1 .taken) (c .before .before .before .before .before .before .raise .ensures)
 
-calm-state-requires : tie.Need-calm-state-requires
-calm-state-requires c κs = search needs
+calm-judgment-requires : tie.Need-calm-judgment-requires
+calm-judgment-requires c κs = search needs
 
 returns-2 : tie.Need-returns-2
 returns-2 c =
     let b = lent (now (c .before .before .before .before .before .before .before .before .before .before .before .before .before .before .before .before .before .before .before .before .before .args .point)) (now (c .before .before .before .before .before .before .before .before .before .before .before .before .before .before .before .before .before .before .before .before .before .args .scale)) (now (c .before .before .before .before .before .before .before .before .before .before .before .before .before .before .before .before .before .before .before .before .before .args .shift)) (now (c .before .before .before .before .before .before .before .before .before .before .before .before .before .before .before .before .before .before .before .before .before .args .difference-deviations)) (now (c .before .before .before .before .before .before .before .before .before .before .before .before .before .before .before .before .before .before .before .before .before .args .last-expected)) (now (c .before .before .before .before .before .before .before .before .before .before .before .before .before .before .before .before .before .before .before .before .before .args .last-anomalous)) (now (c .before .before .before .before .before .before .before .before .before .before .before .before .before .before .before .before .before .before .before .before .before .args .high)) (now (c .before .before .before .before .before .before .before .before .before .before .before .before .before .before .before .before .before .before .before .before .before .args .low)) (now (c .before .before .before .before .before .before .before .before .before .before .before .before .before .before .before .before .before .before .before .before .before .args .median)) (now (c .before .before .before .before .before .before .before .before .before .before .before .before .before .before .before .before .before .before .before .before .before .args .ideal-high)) (now (c .before .before .before .before .before .before .before .before .before .before .before .before .before .before .before .before .before .before .before .before .before .args .ideal-low)) (now (c .before .before .before .before .before .before .before .before .before .before .before .before .before .before .before .before .before .before .before .before .before .args .neighbours)) in
     let a = c .before .before .before .before .before .before .before .before .before .before .before .before .before .before .before .before .before .before .before .before .before .args in
     let is = c .before .before .before .open-outcome .ensures ∙ ap (λ (t : Bool). openOutcome (a .r) (a .l) b (a .s .«basic_thresholder») (a .s .«auto_adjust») (a .s .«base_dimension») (length (now (c .before .before .before .before .before .before .before .before .before .before .before .before .before .before .before .before .before .before .before .before .before .args .expected))) (length (now (c .before .before .before .before .before .before .before .before .before .before .before .before .before .before .before .before .before .before .before .before .before .args .out-high))) (length (now (c .before .before .before .before .before .before .before .before .before .before .before .before .before .before .before .before .before .before .before .before .before .args .out-low))) t) (c .before .before .before .before .counts-ok .ensures) in
-    calm-judged (a .s) (a .r) (a .l) b _ (now (c .before .before .before .before .before .before .before .before .before .before .before .before .before .before .before .before .before .before .before .before .before .args .expected)) (now (c .before .before .before .before .before .before .before .before .before .before .before .before .before .before .before .before .before .before .before .before .before .args .out-high)) (now (c .before .before .before .before .before .before .before .before .before .before .before .before .before .before .before .before .before .before .before .before .before .args .out-low)) (c .before .before .before .open-outcome .result) is (c .before .before .course-of .result) (c .before .before .course-of .ensures) (c .before .if1 .left) refl (c .calm-state .ensures) refl
+    calm-judged (a .s) (a .r) (a .l) b _ (now (c .before .before .before .before .before .before .before .before .before .before .before .before .before .before .before .before .before .before .before .before .before .args .expected)) (now (c .before .before .before .before .before .before .before .before .before .before .before .before .before .before .before .before .before .before .before .before .before .args .out-high)) (now (c .before .before .before .before .before .before .before .before .before .before .before .before .before .before .before .before .before .before .before .before .before .args .out-low)) (c .before .before .before .open-outcome .result) is (c .before .before .course-of .result) (c .before .before .course-of .ensures) (c .before .if1 .left) (c .calm-judgment .ensures)
 
 pub detect-and-modify-spec : {M : Type 1} → statement M
 detect-and-modify-spec =
@@ -67,5 +67,5 @@ detect-and-modify-spec =
     same-length-2
     same-length-3
     returns
-    calm-state-requires
+    calm-judgment-requires
     returns-2)

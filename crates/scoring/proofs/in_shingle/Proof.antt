@@ -1,4 +1,3 @@
-use mathlib.Core.Path.{_∙_, sym}
 use borrow.Author.Tests.{lt-ltb, le-ltb}
 use borrow.Author.Needs.{needs}
 use Rattle.scoring.proofs.in_shingle.Statement.{statement}

@@ -1,6 +1,3 @@
-use mathlib.Core.Path.{_∙_, ap}
-use Prim.Native.Nat.{ℕ}
-use Rattle.scoring.specs.Scores.{isRecent}
 use borrow.Author.Needs.{needs}
 use Rattle.scoring.proofs.recent.Statement.{statement}
 use Rattle.scoring.proofs.recent.Tie as tie
