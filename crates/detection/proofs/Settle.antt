@@ -22,13 +22,13 @@ use Rattle.descriptor.specs.declared.Reading.{Reading}
 use Rattle.descriptor.specs.declared.LastDescriptor.{LastDescriptor}
 use Rattle.predictorcorrector.specs.State.{runGrown, stateCountsOk}
 use Rattle.predictorcorrector.specs.declared.PredictorCorrector.{PredictorCorrector}
-use Rattle.scoring.specs.Scores.{calmState, Written}
+use Rattle.scoring.specs.Scores.{Written}
 use Rattle.candidate.specs.Candidate.{countedRows, countedRun}
 use Rattle.candidate.specs.declared.Counted.{Counted}
 use Rattle.detection.specs.Judging.{gap, block, start, expected, newestOf, candidateState, isDataDrift, raisedOr, settled, openVerdict, verdict, runAfterMode, correctedScore, entered, after, relativeIndex, kept}
 use Rattle.detection.specs.Judged.{Judged, outcome, outcomeOf, stateAfter, indexAfter, written}
-use Rattle.detection.specs.Steps.{branch, Branching, Writing, Branched, branchJudgment, calmJudgment, openOf, openOutcome, courseOf}
-use Rattle.detection.specs.declared.Course.{Course}
+use Rattle.detection.specs.Steps.{branch, Branching, Writing, Branched, branchJudgment, calmState, openOf, openOutcome, alarmOf}
+use Rattle.detection.specs.declared.Alarm.{Alarm}
 use Rattle.detection.specs.declared.Verdict.{Verdict}
 use Rattle.detection.specs.declared.Verdict.the-variants.{Quiet, Corrected, Raised, Skipped}
 use Rattle.detection.specs.declared.Outcome.{Outcome}
@@ -44,21 +44,17 @@ pub expected-at : (r : Reading) (l : LastDescriptor) (b : Lent) (n : ℕ) → n 
 unfolding expected
 expected-at r l b n e = ap (λ (m : ℕ). expectedPoint (b .high) (b .low) m (r .«base_dimension») (b .point) (b .median)) e
 
--- The course of an outcome that is raised so far has its threshold and grade.
-raised-is : (v : Verdict) → courseOf (Accepted v) .raised ≡ true → v ≡ Raised (courseOf (Accepted v) .threshold) (courseOf (Accepted v) .grade)
-unfolding courseOf
-raised-is (Quiet t) h = absurd (false-true h)
-raised-is (Corrected t m) h = absurd (false-true h)
-raised-is (Raised t g) h = refl
-raised-is Skipped h = absurd (false-true h)
+-- An outcome with an alarm is raised so far.
+alarmed : (v : Verdict) → alarmOf (Accepted v) .on ≡ true → v ≡ Raised (alarmOf (Accepted v) .threshold) (alarmOf (Accepted v) .grade)
+unfolding alarmOf
+alarmed (Quiet t) h = absurd (false-true h)
+alarmed (Corrected t m) h = absurd (false-true h)
+alarmed (Raised t g) h = refl
+alarmed Skipped h = absurd (false-true h)
 
-refused-calm : (why : Refusal) → courseOf (Refused why) .raised ≡ true → ⊥
-unfolding courseOf
+refused-calm : (why : Refusal) → alarmOf (Refused why) .on ≡ true → ⊥
+unfolding alarmOf
 refused-calm why h = false-true h
-
--- The state after an outcome that does not reach the candidate branch.
-abbrev calmAfter : PredictorCorrector → Reading → LastDescriptor → List Float → Outcome → PredictorCorrector
-calmAfter s r l point o = calmState s r l (courseOf o .quiet) (courseOf o .corrected) point
 
 module _ (s : PredictorCorrector) (r : Reading) (l : LastDescriptor) (b : Lent) where
   pub start-by : (k n : ℕ) → k ≡ block r l b → n ≡ k * r .«base_dimension» → n ≡ start r l b
@@ -149,9 +145,9 @@ module _ (s : PredictorCorrector) (r : Reading) (l : LastDescriptor) (b : Lent) 
           lows = p .lows ∙ drift-kept d t g w (normalized (r .score) (b .high) (b .low) (b .low));
         }
 
-    calm-leaves : (v : Verdict) → v ≡ openVerdict r l b (s .«basic_thresholder») (s .«auto_adjust») → courseOf (Accepted v) .raised ≡ false → j .outcome ≡ Accepted v
-        → j .state ≡ calmAfter s r l (b .point) (Accepted v) → j .«relative_index» ≡ pos 0 → Leaves (settled r l b s v) e h w
-    unfolding settled after relativeIndex kept calmState courseOf
+    calm-leaves : (v : Verdict) → v ≡ openVerdict r l b (s .«basic_thresholder») (s .«auto_adjust») → alarmOf (Accepted v) .on ≡ false → j .outcome ≡ Accepted v
+        → j .state ≡ calmState s r l (b .point) (Accepted v) → j .«relative_index» ≡ pos 0 → Leaves (settled r l b s v) e h w
+    unfolding settled after relativeIndex kept calmState alarmOf
     calm-leaves (Quiet t) q a o p i = record { says = o; state = p; index = i; point = refl; highs = refl; lows = refl }
     calm-leaves (Corrected t m) q a o p i =
         record { says = o; state = p ∙ ap (λ (x : PredictorCorrector). entered x r l (correctedScore r l)) (corrected-adjusts r l b s (s .«basic_thresholder») (s .«auto_adjust») t m q); index = i; point = refl; highs = refl; lows = refl }
@@ -164,45 +160,43 @@ module _ (s : PredictorCorrector) (r : Reading) (l : LastDescriptor) (b : Lent) 
     done-judged e′ h′ w′ a p = record { says = rw a (p .says); state = rw a (p .state); index = rw a (p .index); point = rw a (p .point); highs = rw a (p .highs); lows = rw a (p .lows) }
 
     refused-judged : (why : Refusal) → answerOf r l b (s .«base_dimension») (length e) (length h) (length w) (stateCountsOk s) ≡ Answers.Refused why
-        → j .outcome ≡ Refused why → j .state ≡ calmAfter s r l (b .point) (Refused why) → j .«relative_index» ≡ pos 0 → Judged s r l b j e h w e h w
-    unfolding outcome outcomeOf stateAfter indexAfter written calmState courseOf
+        → j .outcome ≡ Refused why → j .state ≡ calmState s r l (b .point) (Refused why) → j .«relative_index» ≡ pos 0 → Judged s r l b j e h w e h w
+    unfolding outcome outcomeOf stateAfter indexAfter written calmState
     refused-judged why a o q i = record { says = rw a o; state = rw a q; index = rw a i; point = rw a; highs = rw a; lows = rw a }
 
     -- By the answer of the entry checks.
-    raised-by : (a : Answer) → answerOf r l b (s .«base_dimension») (length e) (length h) (length w) (stateCountsOk s) ≡ a → (e′ h′ w′ : List Float) (c : Course)
-        → c ≡ courseOf (openOf r l b (s .«basic_thresholder») (s .«auto_adjust») a) → c .raised ≡ true
+    raised-by : (a : Answer) → answerOf r l b (s .«base_dimension») (length e) (length h) (length w) (stateCountsOk s) ≡ a → (e′ h′ w′ : List Float) (c : Alarm)
+        → c ≡ alarmOf (openOf r l b (s .«basic_thresholder») (s .«auto_adjust») a) → c .on ≡ true
         → Branched s r l (branch (b .point) (b .«difference_deviations») (b .high) (b .low) (b .median)) (c .threshold) (c .grade) j e h w e′ h′ w′ → Judged s r l b j e h w e′ h′ w′
     unfolding openOf
     raised-by Answers.Done q e′ h′ w′ c of k p =
         let v = openVerdict r l b (s .«basic_thresholder») (s .«auto_adjust») in
-        let m = raised-is v (sym (ap (λ (x : Course). x .raised) of) ∙ k) ∙ sym (ap (λ (x : Course). Raised (x .threshold) (x .grade)) of) in
+        let m = alarmed v (sym (ap (λ (x : Alarm). x .on) of) ∙ k) ∙ sym (ap (λ (x : Alarm). Raised (x .threshold) (x .grade)) of) in
         done-judged e′ h′ w′ q (subst (λ (x : Verdict). Leaves (settled r l b s x) e′ h′ w′) (sym m) (branched-leaves (c .threshold) (c .grade) e′ h′ w′ (branched-lent j (c .threshold) (c .grade) e h w e′ h′ w′ p)))
-    raised-by (Answers.Refused why) q e′ h′ w′ c of k p = absurd (refused-calm why (sym (ap (λ (x : Course). x .raised) of) ∙ k))
+    raised-by (Answers.Refused why) q e′ h′ w′ c of k p = absurd (refused-calm why (sym (ap (λ (x : Alarm). x .on) of) ∙ k))
 
     calm-by : (a : Answer) → answerOf r l b (s .«base_dimension») (length e) (length h) (length w) (stateCountsOk s) ≡ a
-        → courseOf (openOf r l b (s .«basic_thresholder») (s .«auto_adjust») a) .raised ≡ false → j .outcome ≡ openOf r l b (s .«basic_thresholder») (s .«auto_adjust») a
-        → j .state ≡ calmAfter s r l (b .point) (openOf r l b (s .«basic_thresholder») (s .«auto_adjust») a) → j .«relative_index» ≡ pos 0 → Judged s r l b j e h w e h w
+        → alarmOf (openOf r l b (s .«basic_thresholder») (s .«auto_adjust») a) .on ≡ false → j .outcome ≡ openOf r l b (s .«basic_thresholder») (s .«auto_adjust») a
+        → j .state ≡ calmState s r l (b .point) (openOf r l b (s .«basic_thresholder») (s .«auto_adjust») a) → j .«relative_index» ≡ pos 0 → Judged s r l b j e h w e h w
     unfolding openOf
     calm-by Answers.Done q k o p i = done-judged e h w q (calm-leaves (openVerdict r l b (s .«basic_thresholder») (s .«auto_adjust»)) refl k o p i)
     calm-by (Answers.Refused why) q k o p i = refused-judged why q o p i
 
-    module _ (o : Outcome) (is : o ≡ openOutcome r l b (s .«basic_thresholder») (s .«auto_adjust») (s .«base_dimension») (length e) (length h) (length w) (stateCountsOk s)) (a : Course) (of : a ≡ courseOf o) where
-      pub raised-judged : (e′ h′ w′ : List Float) → a .raised ≡ true → Branched s r l (branch (b .point) (b .«difference_deviations») (b .high) (b .low) (b .median)) (a .threshold) (a .grade) j e h w e′ h′ w′
+    module _ (o : Outcome) (is : o ≡ openOutcome r l b (s .«basic_thresholder») (s .«auto_adjust») (s .«base_dimension») (length e) (length h) (length w) (stateCountsOk s)) (a : Alarm) (of : a ≡ alarmOf o) where
+      pub raised-judged : (e′ h′ w′ : List Float) → a .on ≡ true → Branched s r l (branch (b .point) (b .«difference_deviations») (b .high) (b .low) (b .median)) (a .threshold) (a .grade) j e h w e′ h′ w′
           → Judged s r l b j e h w e′ h′ w′
       unfolding openOutcome
       raised-judged e′ h′ w′ k p =
-          raised-by (answerOf r l b (s .«base_dimension») (length e) (length h) (length w) (stateCountsOk s)) refl e′ h′ w′ a (of ∙ ap courseOf is) k p
+          raised-by (answerOf r l b (s .«base_dimension») (length e) (length h) (length w) (stateCountsOk s)) refl e′ h′ w′ a (of ∙ ap alarmOf is) k p
 
-      pub calm-judged : a .raised ≡ false → j ≡ calmJudgment s r l o a (b .point) → Judged s r l b j e h w e h w
-      unfolding openOutcome calmJudgment
-      calm-judged k p =
-          let c = of ∙ ap courseOf is in
-          calm-by (answerOf r l b (s .«base_dimension») (length e) (length h) (length w) (stateCountsOk s)) refl (sym (ap (λ (x : Course). x .raised) c) ∙ k) (ap (λ (x : Judgment). x .outcome) p ∙ is)
-          (ap (λ (x : Judgment). x .state) p ∙ ap (λ (x : Course). calmState s r l (x .quiet) (x .corrected) (b .point)) c) (ap (λ (x : Judgment). x .«relative_index») p)
+      pub calm-judged : a .on ≡ false → j .outcome ≡ o → j .state ≡ calmState s r l (b .point) o → j .«relative_index» ≡ pos 0 → Judged s r l b j e h w e h w
+      unfolding openOutcome
+      calm-judged k q p i =
+          calm-by (answerOf r l b (s .«base_dimension») (length e) (length h) (length w) (stateCountsOk s)) refl (sym (ap (λ (x : Alarm). x .on) (of ∙ ap alarmOf is)) ∙ k) (q ∙ is) (p ∙ ap (calmState s r l (b .point)) is) i
 
   -- What the candidate branch asks.
   module _ (e h w : ℕ) where
-    fits-by : (a : Answer) → answerOf r l b (s .«base_dimension») e h w (stateCountsOk s) ≡ a → courseOf (openOf r l b (s .«basic_thresholder») (s .«auto_adjust») a) .raised ≡ true
+    fits-by : (a : Answer) → answerOf r l b (s .«base_dimension») e h w (stateCountsOk s) ≡ a → alarmOf (openOf r l b (s .«basic_thresholder») (s .«auto_adjust») a) .on ≡ true
         → Branching r l (branch (b .point) (b .«difference_deviations») (b .high) (b .low) (b .median)) × Writing (branch (b .point) (b .«difference_deviations») (b .high) (b .low) (b .median)) e h w
     unfolding openOf
     fits-by Answers.Done q k =
@@ -210,7 +204,7 @@ module _ (s : PredictorCorrector) (r : Reading) (l : LastDescriptor) (b : Lent) 
         (for-branch r l b (s .«base_dimension») e h w (stateCountsOk s) q, record { expected-long = f .expected-long; low-long = f .low-long; out-high-long = f .out-high-long; out-low-long = f .out-low-long })
     fits-by (Answers.Refused why) q k = absurd (refused-calm why k)
 
-    pub raise-fits : (o : Outcome) → o ≡ openOutcome r l b (s .«basic_thresholder») (s .«auto_adjust») (s .«base_dimension») e h w (stateCountsOk s) → (a : Course) → a ≡ courseOf o → a .raised ≡ true
+    pub raise-fits : (o : Outcome) → o ≡ openOutcome r l b (s .«basic_thresholder») (s .«auto_adjust») (s .«base_dimension») e h w (stateCountsOk s) → (a : Alarm) → a ≡ alarmOf o → a .on ≡ true
         → Branching r l (branch (b .point) (b .«difference_deviations») (b .high) (b .low) (b .median)) × Writing (branch (b .point) (b .«difference_deviations») (b .high) (b .low) (b .median)) e h w
     unfolding openOutcome
-    raise-fits o is a of k = fits-by (answerOf r l b (s .«base_dimension») e h w (stateCountsOk s)) refl (sym (ap (λ (x : Course). x .raised) (of ∙ ap courseOf is)) ∙ k)
+    raise-fits o is a of k = fits-by (answerOf r l b (s .«base_dimension») e h w (stateCountsOk s)) refl (sym (ap (λ (x : Alarm). x .on) (of ∙ ap alarmOf is)) ∙ k)

@@ -17,9 +17,8 @@ use Rattle.descriptor.specs.Lent.{Lent, lent}
 use Rattle.descriptor.specs.declared.Reading.{Reading}
 use Rattle.descriptor.specs.declared.LastDescriptor.{LastDescriptor}
 use Rattle.divector.specs.DiVector.{normalized}
-use Rattle.predictorcorrector.specs.State.{runGrown}
+use Rattle.predictorcorrector.specs.State.{runEnded, autoAdjusted, runGrown}
 use Rattle.predictorcorrector.specs.declared.PredictorCorrector.{PredictorCorrector}
-use Rattle.scoring.specs.Scores.{calmState}
 use Rattle.candidate.specs.declared.Counted.{Counted}
 use Rattle.detection.specs.Const.{zero32}
 use Rattle.detection.specs.Judging.{gapOf, recent, opening, noisePass, start, block, candidateState, isDataDrift, raisedOr, expected, openVerdict, correctedScore, entered}
@@ -28,7 +27,7 @@ use Rattle.detection.specs.declared.Passed.the-variants.{Ended, Working}
 use Rattle.detection.specs.declared.Verdict.the-variants.{Quiet, Corrected, Raised, Skipped}
 use Rattle.detection.specs.declared.Outcome.{Outcome}
 use Rattle.detection.specs.declared.Outcome.the-variants.{Accepted, Refused}
-use Rattle.detection.specs.declared.Course.{Course}
+use Rattle.detection.specs.declared.Alarm.{Alarm}
 use Rattle.detection.specs.declared.Judgment.{Judgment}
 
 -- The buffers that a stage is lent; the others are left empty, and its definitions do not look at them.
@@ -76,20 +75,29 @@ openOf r l b t auto (Answers.Refused why) = Refused why
 unfoldable pub openOutcome : Reading → LastDescriptor → Lent → BasicThresholder → Bool → ℕ → ℕ → ℕ → ℕ → Bool → Outcome
 openOutcome r l b t auto base e h w ok = openOf r l b t auto (answerOf r l b base e h w ok)
 
--- What an outcome does: raised so far, with its threshold and grade, or else quiet, corrected, or neither.
-abbrev pub calm : Bool → Bool → Course
-calm quiet corrected = record { raised = false; quiet = quiet; corrected = corrected; threshold = zero32; grade = zero32 }
+-- Whether an outcome raises so far, and with what threshold and grade.
+abbrev pub noAlarm : Alarm
+noAlarm = record { on = false; threshold = zero32; grade = zero32 }
 
-unfoldable pub courseOf : Outcome → Course
-courseOf (Refused why) = calm false false
-courseOf (Accepted (Quiet t)) = calm true false
-courseOf (Accepted (Corrected t m)) = calm false true
-courseOf (Accepted (Raised t g)) = record { raised = true; quiet = false; corrected = false; threshold = t; grade = g }
-courseOf (Accepted Skipped) = calm false false
+unfoldable pub alarmOf : Outcome → Alarm
+alarmOf (Refused why) = noAlarm
+alarmOf (Accepted (Quiet t)) = noAlarm
+alarmOf (Accepted (Corrected t m)) = noAlarm
+alarmOf (Accepted (Raised t g)) = record { on = true; threshold = t; grade = g }
+alarmOf (Accepted Skipped) = noAlarm
 
--- The judgment of an outcome that does not reach the candidate branch.
-unfoldable pub calmJudgment : PredictorCorrector → Reading → LastDescriptor → Outcome → Course → List Float → Judgment
-calmJudgment s r l o c point = record { outcome = o; «relative_index» = pos 0; state = calmState s r l (c .quiet) (c .corrected) point }
+-- The state after an outcome that does not reach the candidate branch.
+unfoldable pub calmState : PredictorCorrector → Reading → LastDescriptor → List Float → Outcome → PredictorCorrector
+calmState s r l point (Refused why) = s
+calmState s r l point (Accepted (Quiet t)) = entered (runEnded s) r l (r .score)
+calmState s r l point (Accepted (Corrected t m)) = entered (autoAdjusted s point) r l (correctedScore r l)
+calmState s r l point (Accepted (Raised t g)) = s
+calmState s r l point (Accepted Skipped) = s
+
+pub record Calm (s : PredictorCorrector) (r : Reading) (l : LastDescriptor) (point : List Float) (o : Outcome) (j : Judgment) : Type 0 where
+  pub says : j .outcome ≡ o
+  pub state : j .state ≡ calmState s r l point o
+  pub index : j .«relative_index» ≡ pos 0
 
 -- The judgment at either end of the candidate branch.
 unfoldable pub branchJudgment : Counted → Reading → LastDescriptor → ℕ → Float → Float → Judgment

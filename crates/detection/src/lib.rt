@@ -462,43 +462,37 @@ fn raise(
     branch_judgment(counted, r, l, block, threshold, grade)
 }
 
-// What an outcome does: raised so far, with its threshold and grade, or else quiet, corrected, or neither.
-struct Course {
-    raised: bool,
-    quiet: bool,
-    corrected: bool,
+// Whether an outcome raises so far, and with what threshold and grade.
+struct Alarm {
+    on: bool,
     threshold: f32,
     grade: f32,
 }
 
-fn calm(quiet: bool, corrected: bool) -> Course
-    ensures { λ c. ⌜ c ≡ Steps.calm quiet corrected ⌝ }
+fn no_alarm() -> Alarm
+    ensures { λ a. ⌜ a ≡ Steps.noAlarm ⌝ }
 {
-    Course {
-        raised: false,
-        quiet,
-        corrected,
+    Alarm {
+        on: false,
         threshold: 0.0,
         grade: 0.0,
     }
 }
 
-fn course_of(outcome: Outcome) -> Course
-    ensures { λ c. ⌜ c ≡ Steps.courseOf outcome ⌝ }
+fn alarm_of(outcome: Outcome) -> Alarm
+    ensures { λ a. ⌜ a ≡ Steps.alarmOf outcome ⌝ }
 {
     match outcome {
-        Outcome::Refused(_) => calm(false, false),
+        Outcome::Refused(_) => no_alarm(),
         Outcome::Accepted(verdict) => match verdict {
-            Verdict::Quiet(_) => calm(true, false),
-            Verdict::Corrected(_, _) => calm(false, true),
-            Verdict::Raised(threshold, grade) => Course {
-                raised: true,
-                quiet: false,
-                corrected: false,
+            Verdict::Quiet(_) => no_alarm(),
+            Verdict::Corrected(_, _) => no_alarm(),
+            Verdict::Raised(threshold, grade) => Alarm {
+                on: true,
                 threshold,
                 grade,
             },
-            Verdict::Skipped => calm(false, false),
+            Verdict::Skipped => no_alarm(),
         },
     }
 }
@@ -509,15 +503,43 @@ fn calm_judgment(
     r: Reading,
     l: LastDescriptor,
     outcome: Outcome,
-    course: Course,
     point: &[f32],
 ) -> Judgment
-    ensures { λ j. ⌜ j ≡ Steps.calmJudgment s r l outcome course (now (point .entry)) ⌝ }
+    ensures { λ j. ⌜ Steps.Calm s r l (now (point .entry)) outcome j ⌝ }
 {
-    Judgment {
-        outcome,
-        relative_index: 0,
-        state: scoring::calm_state(s, r, l, course.quiet, course.corrected, point),
+    match outcome {
+        Outcome::Refused(_) => Judgment {
+            outcome,
+            relative_index: 0,
+            state: s,
+        },
+        Outcome::Accepted(verdict) => match verdict {
+            Verdict::Quiet(_) => Judgment {
+                outcome,
+                relative_index: 0,
+                state: scoring::entered(s.run_ended(), r, l, r.score),
+            },
+            Verdict::Corrected(_, _) => Judgment {
+                outcome,
+                relative_index: 0,
+                state: scoring::entered(
+                    s.auto_adjusted(point),
+                    r,
+                    l,
+                    scoring::corrected_score(r, l),
+                ),
+            },
+            Verdict::Raised(_, _) => Judgment {
+                outcome,
+                relative_index: 0,
+                state: s,
+            },
+            Verdict::Skipped => Judgment {
+                outcome,
+                relative_index: 0,
+                state: s,
+            },
+        },
     }
 }
 
@@ -569,14 +591,14 @@ pub fn detect_and_modify(
         out_high.len(),
         out_low.len(),
     );
-    let course = course_of(outcome);
-    if course.raised {
+    let alarm = alarm_of(outcome);
+    if alarm.on {
         return raise(
             s,
             r,
             l,
-            course.threshold,
-            course.grade,
+            alarm.threshold,
+            alarm.grade,
             point,
             difference_deviations,
             high,
@@ -587,5 +609,5 @@ pub fn detect_and_modify(
             out_low,
         );
     }
-    calm_judgment(s, r, l, outcome, course, point)
+    calm_judgment(s, r, l, outcome, point)
 }

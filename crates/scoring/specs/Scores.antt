@@ -16,7 +16,7 @@ use Rattle.divector.specs.declared.Block.{Block}
 use Rattle.divector.specs.declared.Block.the-variants as Blocks
 use Rattle.descriptor.specs.declared.Reading.{Reading}
 use Rattle.descriptor.specs.declared.LastDescriptor.{LastDescriptor}
-use Rattle.predictorcorrector.specs.State.{withThresholder, runEnded, autoAdjusted, scoreCounted}
+use Rattle.predictorcorrector.specs.State.{withThresholder, scoreCounted}
 use Rattle.predictorcorrector.specs.declared.PredictorCorrector.{PredictorCorrector}
 
 -- Readings since the last anomaly; without one, since the start.
@@ -53,11 +53,6 @@ entered s r l corrected =
 unfoldable pub blockOf : Block → ℕ
 blockOf (Blocks.At k) = k
 blockOf (Blocks.Refused why) = 0
-
--- The state after a reading that does not reach the candidate branch, and is quiet, corrected, or neither.
-unfoldable pub calmState : PredictorCorrector → Reading → LastDescriptor → Bool → Bool → List Float → PredictorCorrector
-calmState s r l quiet corrected point =
-    cond quiet (entered (runEnded s) r l (r .score)) (cond corrected (entered (autoAdjusted s point) r l (correctedScore r l)) s)
 
 -- What a raised reading leaves in the three buffers, e (expected point), h and w (normalised attribution) at entry and e′, h′ and w′ at exit.
 pub record Written (r : Reading) (start : ℕ) (point high low median e h w e′ h′ w′ : List Float) : Type 0 where

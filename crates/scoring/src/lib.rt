@@ -185,26 +185,6 @@ pub fn in_shingle(
     false
 }
 
-// The state after a reading that does not reach the candidate branch, and is quiet, corrected, or neither.
-pub fn calm_state(
-    s: PredictorCorrector,
-    r: Reading,
-    l: LastDescriptor,
-    quiet: bool,
-    corrected: bool,
-    point: &[f32],
-) -> PredictorCorrector
-    ensures { λ t. ⌜ t ≡ Scores.calmState s r l quiet corrected (now (point .entry)) ⌝ }
-{
-    if quiet {
-        return entered(s.run_ended(), r, l, r.score);
-    }
-    if corrected {
-        return entered(s.auto_adjusted(point), r, l, corrected_score(r, l));
-    }
-    s
-}
-
 // The expected point and the normalised attribution, each written where the lengths fit.
 pub fn write_raised(
     r: Reading,
