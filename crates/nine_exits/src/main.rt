@@ -4,14 +4,10 @@
 //
 // A reading is 1783 bytes: the title (40), the state (1310), the reading (23) and the last descriptor (23) as the crate layout has them, the lengths of the
 // buffers of D floats, of base floats and of the neighbours (one each), then 12 rows of 8 floats, 4 bytes each, the lowest first.
-ghost use Prim.Native.Nat.{_≤_, _<_};
+ghost use Prim.Native.Nat.{_<_};
 
-fn no_reals() -> [f32; 96] {
-    [0.0f32; 96]
-}
-
-fn no_wides() -> [f64; 96] {
-    [0.0f64; 96]
+fn blank() -> [u8; 1783] {
+    [0u8; 1783]
 }
 
 fn wide(b: u8) -> u32
@@ -20,26 +16,21 @@ fn wide(b: u8) -> u32
     b as u32
 }
 
-fn real(b: &[u8; 4096], at: usize) -> f32
-    requires { ⌜ at ≤ 1779 ⌝ }
-{
-    ieee::f32_from_bits(
-        wide(b[at]) | (wide(b[at + 1]) << 8) | (wide(b[at + 2]) << 16) | (wide(b[at + 3]) << 24),
-    )
-}
-
-fn reals(b: &[u8; 4096]) -> [f32; 96] {
-    let mut out = no_reals();
+// A float takes its four bytes one after the other, and is right with the last.
+fn reals(b: &[u8; 1783]) -> [f32; 96] {
+    let mut out = [0.0f32; 96];
+    let mut word = 0u32;
     let mut i = 0usize;
-    while i < 96 {
-        out[i] = real(b, 1399 + 4 * i);
+    while i < 384 {
+        word = (word >> 8) | (wide(b[1399 + i]) << 24);
+        out[i / 4] = ieee::f32_from_bits(word);
         i += 1;
     }
     out
 }
 
 fn wides(x: &[f32; 96]) -> [f64; 96] {
-    let mut out = no_wides();
+    let mut out = [0.0f64; 96];
     let mut i = 0usize;
     while i < 96 {
         out[i] = ieee::widen(x[i]);
@@ -48,14 +39,15 @@ fn wides(x: &[f32; 96]) -> [f64; 96] {
     out
 }
 
-// How long a buffer is lent, up to 8.
-fn length(n: u8) -> usize
-    ensures { λ r. ⌜ r ≤ 8 ⌝ }
-{
-    if n < 8 {
-        return n as usize;
+// Of each of these `n` elements from `at` on, or all where there are fewer.
+fn part(b: &[u8; 1783], at: usize, n: usize) -> &[u8] {
+    let all = &b[..];
+    if at <= all.len() {
+        if n <= all.len() - at {
+            return &all[at..at + n];
+        }
     }
-    8
+    all
 }
 
 fn row(x: &[f32], at: usize, n: usize) -> &[f32] {
@@ -102,45 +94,44 @@ fn mix_buffers(expected: [f32; 8], high: [f64; 8], low: [f64; 8]) -> u64 {
     sum
 }
 
-fn write_bytes(bytes: &[u8]) {
+fn write_verdict(verdict: &[u8; 14]) {
     let mut i = 0usize;
-    while i < bytes.len() {
-        io::print_hex(1, wide(bytes[i]) as u64, 2);
+    while i < 14 {
+        io::print_hex(1, wide(verdict[i]) as u64, 2);
         i += 1;
     }
 }
 
-fn write_sum(sum: u64) {
-    io::write_all(1, b" ");
-    io::print_hex(1, sum, 16);
-}
-
-fn write_line(b: [u8; 4096], number: u8, verdict: &[u8; 14], buffers: u64) {
-    io::write_all(1, &b[0..40]);
+fn write_line(b: &[u8; 1783], number: u8, verdict: &[u8; 14], buffers: u64) {
+    io::write_all(1, part(b, 0, 40));
     io::print_decimal(1, wide(number) as u64);
     io::write_all(1, b" ");
-    write_bytes(verdict);
-    write_sum(mix_bytes(&b[40..1350]));
-    write_sum(buffers);
+    write_verdict(verdict);
+    io::write_all(1, b" ");
+    io::print_hex(1, mix_bytes(part(b, 40, 1310)), 16);
+    io::write_all(1, b" ");
+    io::print_hex(1, buffers, 16);
     io::write_all(1, b"\n");
 }
 
-fn show(given: [u8; 4096]) {
+fn show(given: [u8; 1783]) {
     let mut b = given;
     let singles = reals(&b);
     let doubles = wides(&singles);
     let x = &singles[..];
     let w = &doubles[..];
-    let d = length(b[1396]);
-    let base = length(b[1397]);
-    let near = length(b[1398]);
+    // A length is at most 8.
+    let d = (b[1396] % 9) as usize;
+    let base = (b[1397] % 9) as usize;
+    let near = (b[1398] % 9) as usize;
+    // The buffers hold minus one, so that what a reading leaves alone shows.
     let mut expected = [-1.0f32; 8];
     let mut high = [-1.0f64; 8];
     let mut low = [-1.0f64; 8];
     let judgment = detection::detect_and_modify(
-        layout::read_state(&b[40..1350]),
-        layout::read_reading(&b[1350..1373]),
-        layout::read_last(&b[1373..1396]),
+        layout::read_state(part(&b, 40, 1310)),
+        layout::read_reading(part(&b, 1350, 23)),
+        layout::read_last(part(&b, 1373, 23)),
         row(x, 0, d),
         row(x, 8, base),
         row(x, 16, base),
@@ -159,15 +150,15 @@ fn show(given: [u8; 4096]) {
     );
     let mut verdict = [0u8; 14];
     let number = verdict_bytes::put_judgment(&mut b[40..1350], &mut verdict, judgment);
-    write_line(b, number, &verdict, mix_buffers(expected, high, low));
+    write_line(&b, number, &verdict, mix_buffers(expected, high, low));
 }
 
 // Up to 32 readings, to the end of the input.
 fn main() {
     let mut k = 0usize;
     while k < 32 {
-        let mut bytes = io::buffer();
-        let n = io::read_full(0, &mut bytes[..1783]);
+        let mut bytes = blank();
+        let n = io::read_full(0, &mut bytes);
         if n < 1783 {
             return;
         }

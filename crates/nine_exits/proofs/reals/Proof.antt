@@ -4,25 +4,25 @@ use Rattle.nine_exits.proofs.reals.Statement.{statement}
 use Rattle.nine_exits.proofs.reals.Tie as tie
 
 abbrev Inv-loop : tie.InvT-loop
-Inv-loop b out₀ i₀ out i = i ≤ 96
+Inv-loop b out₀ word₀ i₀ out word i = i ≤ 384
 
 abbrev μ-loop : tie.MeasureT-loop
-μ-loop b out₀ i₀ out i = 96 - i
-
-no-reals-requires : tie.Need-no-reals-requires Inv-loop μ-loop
-no-reals-requires c κs = search needs
+μ-loop b out₀ word₀ i₀ out word i = 384 - i
 
 loop-holds : tie.Need-loop-holds Inv-loop μ-loop
 loop-holds c = search needs
 
-mul-real : tie.Need-mul-real Inv-loop μ-loop
-mul-real c = search needs
+add-wide : tie.Need-add-wide Inv-loop μ-loop
+add-wide c = search needs
 
-add-real : tie.Need-add-real Inv-loop μ-loop
-add-real c = search needs
+element-copy-out-wide : tie.Need-element-copy-out-wide Inv-loop μ-loop
+element-copy-out-wide c = search needs
 
-real-requires : tie.Need-real-requires Inv-loop μ-loop
-real-requires c κs = search needs
+wide-requires : tie.Need-wide-requires Inv-loop μ-loop
+wide-requires c κs = search needs
+
+f32-from-bits-requires : tie.Need-f32-from-bits-requires Inv-loop μ-loop
+f32-from-bits-requires c κs = search needs
 
 mul-out : tie.Need-mul-out Inv-loop μ-loop
 mul-out c = search needs
@@ -48,11 +48,11 @@ reals-spec =
     (tie.spec
     Inv-loop
     μ-loop
-    no-reals-requires
     loop-holds
-    mul-real
-    add-real
-    real-requires
+    add-wide
+    element-copy-out-wide
+    wide-requires
+    f32-from-bits-requires
     mul-out
     array-write-out
     add-i

@@ -16,56 +16,38 @@ slice-aggregate-x c = search needs
 slice-aggregate-w : tie.Need-slice-aggregate-w
 slice-aggregate-w c = search needs
 
-array-read-length : tie.Need-array-read-length
-array-read-length c = search needs
+array-read-d : tie.Need-array-read-d
+array-read-d c = search needs
 
-length-requires : tie.Need-length-requires
-length-requires c κs = search needs
+cast-d : tie.Need-cast-d
+cast-d c = search needs
 
-array-read-length-2 : tie.Need-array-read-length-2
-array-read-length-2 c = search needs
+array-read-base : tie.Need-array-read-base
+array-read-base c = search needs
 
-length-requires-2 : tie.Need-length-requires-2
-length-requires-2 c κs = search needs
+cast-base : tie.Need-cast-base
+cast-base c = search needs
 
-array-read-length-3 : tie.Need-array-read-length-3
-array-read-length-3 c = search needs
+array-read-near : tie.Need-array-read-near
+array-read-near c = search needs
 
-length-requires-3 : tie.Need-length-requires-3
-length-requires-3 c κs = search needs
+cast-near : tie.Need-cast-near
+cast-near c = search needs
 
-sub-read-state : tie.Need-sub-read-state
-sub-read-state c = search needs
-
-part-read-state-start : tie.Need-part-read-state-start
-part-read-state-start c = search needs
-
-part-read-state-end : tie.Need-part-read-state-end
-part-read-state-end c = search needs
+part-requires : tie.Need-part-requires
+part-requires c κs = search needs
 
 read-state-requires : tie.Need-read-state-requires
 read-state-requires c κs = search needs
 
-sub-read-reading : tie.Need-sub-read-reading
-sub-read-reading c = search needs
-
-part-read-reading-start : tie.Need-part-read-reading-start
-part-read-reading-start c = search needs
-
-part-read-reading-end : tie.Need-part-read-reading-end
-part-read-reading-end c = search needs
+part-requires-2 : tie.Need-part-requires-2
+part-requires-2 c κs = search needs
 
 read-reading-requires : tie.Need-read-reading-requires
 read-reading-requires c κs = search needs
 
-sub-read-last : tie.Need-sub-read-last
-sub-read-last c = search needs
-
-part-read-last-start : tie.Need-part-read-last-start
-part-read-last-start c = search needs
-
-part-read-last-end : tie.Need-part-read-last-end
-part-read-last-end c = omega (arith, c .before .before .before .before .before .before .before .before .before .before .before .before .before .before .before .before .good)
+part-requires-3 : tie.Need-part-requires-3
+part-requires-3 c κs = search needs
 
 read-last-requires : tie.Need-read-last-requires
 read-last-requires c κs = search needs
@@ -107,22 +89,22 @@ row-requires-8 : tie.Need-row-requires-8
 row-requires-8 c κs = search needs
 
 array-borrow-prefix-expected : tie.Need-array-borrow-prefix-expected
-array-borrow-prefix-expected c = omega (arith, c .before .before .before .before .before .before .before .before .before .before .before .before .before .before .before .before .before .before .before .before .before .before .before .length .ensures)
+array-borrow-prefix-expected c = search needs
 
 slice-aggregate-detect-and-modify : tie.Need-slice-aggregate-detect-and-modify
-slice-aggregate-detect-and-modify c = let k = c .before .before .before .before .before .before .before .before .before .before .before .before .before .before .before .before .before .before .before .before .before .before .before .before .length .ensures in simp length-take (omega arith)
+slice-aggregate-detect-and-modify c = simp length-take (omega arith)
 
 array-borrow-prefix-high : tie.Need-array-borrow-prefix-high
-array-borrow-prefix-high c = omega (arith, c .before .before .before .before .before .before .before .before .before .before .before .before .before .before .before .before .before .before .before .before .before .before .before .before .length .ensures)
+array-borrow-prefix-high c = search needs
 
 slice-aggregate-detect-and-modify-2 : tie.Need-slice-aggregate-detect-and-modify-2
-slice-aggregate-detect-and-modify-2 c = let k = c .before .before .before .before .before .before .before .before .before .before .before .before .before .before .before .before .before .before .before .before .before .before .before .before .before .length .ensures in simp length-take (omega arith)
+slice-aggregate-detect-and-modify-2 c = simp length-take (omega arith)
 
 array-borrow-prefix-low : tie.Need-array-borrow-prefix-low
-array-borrow-prefix-low c = omega (arith, c .before .before .before .before .before .before .before .before .before .before .before .before .before .before .before .before .before .before .before .before .before .before .before .before .before .length .ensures)
+array-borrow-prefix-low c = search needs
 
 slice-aggregate-detect-and-modify-3 : tie.Need-slice-aggregate-detect-and-modify-3
-slice-aggregate-detect-and-modify-3 c = let k = c .before .before .before .before .before .before .before .before .before .before .before .before .before .before .before .before .before .before .before .before .before .before .before .before .before .before .length .ensures in simp length-take (omega arith)
+slice-aggregate-detect-and-modify-3 c = simp length-take (omega arith)
 
 detect-and-modify-requires : tie.Need-detect-and-modify-requires
 detect-and-modify-requires c κs = search needs
@@ -134,7 +116,7 @@ part-b-start : tie.Need-part-b-start
 part-b-start c = search needs
 
 part-b-end : tie.Need-part-b-end
-part-b-end c = omega (arith, c .before .before .before .before .before .before .before .before .before .before .before .before .before .before .before .before .before .before .before .before .before .before .before .before .before .before .before .before .before .before .before .before .before .before .before .before .before .good)
+part-b-end c = omega (arith, c .before .before .before .before .before .before .before .before .before .before .before .before .before .before .before .before .before .before .before .before .before .before .before .before .before .before .before .before .before .before .before .before .before .before .good)
 
 slice-aggregate-put-judgment : tie.Need-slice-aggregate-put-judgment
 slice-aggregate-put-judgment c = search needs
@@ -159,23 +141,17 @@ show-spec =
     wides-requires
     slice-aggregate-x
     slice-aggregate-w
-    array-read-length
-    length-requires
-    array-read-length-2
-    length-requires-2
-    array-read-length-3
-    length-requires-3
-    sub-read-state
-    part-read-state-start
-    part-read-state-end
+    array-read-d
+    cast-d
+    array-read-base
+    cast-base
+    array-read-near
+    cast-near
+    part-requires
     read-state-requires
-    sub-read-reading
-    part-read-reading-start
-    part-read-reading-end
+    part-requires-2
     read-reading-requires
-    sub-read-last
-    part-read-last-start
-    part-read-last-end
+    part-requires-3
     read-last-requires
     row-requires
     row-requires-2

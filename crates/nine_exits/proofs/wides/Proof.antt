@@ -9,9 +9,6 @@ Inv-loop x out₀ i₀ out i = i ≤ 96
 abbrev μ-loop : tie.MeasureT-loop
 μ-loop x out₀ i₀ out i = 96 - i
 
-no-wides-requires : tie.Need-no-wides-requires Inv-loop μ-loop
-no-wides-requires c κs = search needs
-
 loop-holds : tie.Need-loop-holds Inv-loop μ-loop
 loop-holds c = search needs
 
@@ -48,7 +45,6 @@ wides-spec =
     (tie.spec
     Inv-loop
     μ-loop
-    no-wides-requires
     loop-holds
     mul-widen
     element-copy-out-widen

@@ -1,20 +1,19 @@
 use borrow.Author.Needs.{needs}
 use Prim.Native.Nat.{_≤_, _-_}
-use lib.ListN.{length}
-use Rattle.nine_exits.proofs.write_bytes.Statement.{statement}
-use Rattle.nine_exits.proofs.write_bytes.Tie as tie
+use Rattle.nine_exits.proofs.write_verdict.Statement.{statement}
+use Rattle.nine_exits.proofs.write_verdict.Tie as tie
 
 abbrev Inv-loop : tie.InvT-loop
-Inv-loop bytes i₀ i = i ≤ length bytes
+Inv-loop verdict i₀ i = i ≤ 14
 
 abbrev μ-loop : tie.MeasureT-loop
-μ-loop bytes i₀ i = length bytes - i
+μ-loop verdict i₀ i = 14 - i
 
 loop-holds : tie.Need-loop-holds Inv-loop μ-loop
 loop-holds c = search needs
 
-shared-slice-read-wide : tie.Need-shared-slice-read-wide Inv-loop μ-loop
-shared-slice-read-wide c = search needs
+element-copy-out-wide : tie.Need-element-copy-out-wide Inv-loop μ-loop
+element-copy-out-wide c = search needs
 
 wide-requires : tie.Need-wide-requires Inv-loop μ-loop
 wide-requires c κs = search needs
@@ -37,14 +36,14 @@ loop-again c = search needs
 returns : tie.Need-returns Inv-loop μ-loop
 returns c = search needs
 
-pub write-bytes-spec : {M : Type 1} → statement M
-write-bytes-spec =
+pub write-verdict-spec : {M : Type 1} → statement M
+write-verdict-spec =
     tie.close
     (tie.spec
     Inv-loop
     μ-loop
     loop-holds
-    shared-slice-read-wide
+    element-copy-out-wide
     wide-requires
     cast-print-hex
     print-hex-requires
