@@ -1,7 +1,7 @@
 //! Root, floor and narrowing against the Rust's own operations, which the compiler puts in place
 //! or takes from the C library. "called" has the Rust's operation behind a call, as ours is.
 
-use super::timing::{against, apart, chained};
+use super::timing::{against, apart, chained, summed};
 use crate::ours;
 use crate::random::Random;
 
@@ -28,6 +28,10 @@ fn roots(random: &mut Random) {
     let ours = || apart(&list, |x| ours::sqrt(x));
     against("root", ours, || apart(&list, f64::sqrt));
     against("root, called", ours, || apart(&list, called_sqrt));
+    let ours = || summed(&list, 0.0, |x| ours::sqrt(x));
+    against("root, summed, called", ours, || {
+        summed(&list, 0.0, called_sqrt)
+    });
     let ours = || chained(&list, 0.0, join, |x| ours::sqrt(x));
     against("root, chained", ours, || {
         chained(&list, 0.0, join, f64::sqrt)
@@ -44,6 +48,10 @@ fn floors(random: &mut Random) {
     let ours = || apart(&list, |x| ours::floor(x));
     against("floor", ours, || apart(&list, f32::floor));
     against("floor, called", ours, || apart(&list, called_floor));
+    let ours = || summed(&list, 0.0, |x| ours::floor(x));
+    against("floor, summed, called", ours, || {
+        summed(&list, 0.0, called_floor)
+    });
     let ours = || chained(&list, 0.0, join, |x| ours::floor(x));
     against("floor, chained", ours, || {
         chained(&list, 0.0, join, f32::floor)
@@ -62,6 +70,10 @@ fn narrowings(random: &mut Random) {
     let ours = || apart(&list, |x| ours::narrow(x));
     against("narrow", ours, || apart(&list, plain));
     against("narrow, called", ours, || apart(&list, called_narrow));
+    let ours = || summed(&list, 0.0, |x| ours::narrow(x));
+    against("narrow, summed, called", ours, || {
+        summed(&list, 0.0, called_narrow)
+    });
     let ours = || chained(&list, 0.0, join, |x| ours::narrow(x));
     against("narrow, chained", ours, || chained(&list, 0.0, join, plain));
     against("narrow, chained, called", ours, || {

@@ -1,6 +1,7 @@
 //! How a call is timed: the best of many rounds, ours and the Rust's taking turns.
 
 use std::hint::black_box;
+use std::ops::AddAssign;
 use std::time::Instant;
 
 const ROUNDS: usize = 500;
@@ -18,6 +19,17 @@ pub fn apart<A: Copy, B>(inputs: &[A], f: impl Fn(A) -> B) -> f64 {
         for &x in inputs {
             black_box(f(black_box(x)));
         }
+    })
+}
+
+/// Calls whose answers are added up: the additions wait for each other, the calls do not.
+pub fn summed<A: Copy, B: Copy + AddAssign>(inputs: &[A], zero: B, f: impl Fn(A) -> B) -> f64 {
+    pass(inputs.len(), || {
+        let mut sum = zero;
+        for &x in inputs {
+            sum += f(black_box(x));
+        }
+        black_box(sum);
     })
 }
 
