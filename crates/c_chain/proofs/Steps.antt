@@ -20,7 +20,7 @@ use Rattle.predictorcorrector.specs.declared.Changed.{Changed}
 use Rattle.predictorcorrector.specs.State.{horizonNumber, horizonSetTo}
 use Rattle.layout.specs.Numbers.{writtenOf, f64Bytes, bytes8}
 use Rattle.layout.specs.Chain.{decodeState, encodeStateOver, readState}
-use Rattle.c_chain.specs.Left.{Left, left, putInto}
+use Rattle.layout.specs.Left.{Left, left, putInto}
 use Rattle.c_chain.specs.Vectors.{pair, pairChanged, numberInto, blockInto}
 use Rattle.c_chain.specs.States.{chainRefusal, chainSet, horizonSetIn, chainMade}
 

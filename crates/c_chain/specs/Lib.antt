@@ -1,3 +1,2 @@
-pub mod Left
 pub mod Vectors
 pub mod States

@@ -12,7 +12,7 @@ use Rattle.predictorcorrector.specs.declared.PredictorCorrector.{PredictorCorre
 use Rattle.predictorcorrector.specs.declared.Changed.{Changed}
 use Rattle.predictorcorrector.specs.State.{horizonNumber, horizonSetTo}
 use Rattle.layout.specs.Chain.{decodeState, encodeStateOver}
-use Rattle.c_chain.specs.Left.{Left, left}
+use Rattle.layout.specs.Left.{Left, left}
 
 -- 3 for a slice of another length, otherwise 2 for a yes/no byte above 1, otherwise 0.
 unfoldable pub chainRefusal : List ℕ → ℕ

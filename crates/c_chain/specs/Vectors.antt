@@ -12,7 +12,7 @@ use Rattle.divector.specs.declared.Number.the-variants as Numbers
 use Rattle.divector.specs.declared.Block.{Block}
 use Rattle.divector.specs.declared.Block.the-variants as Places
 use Rattle.layout.specs.Numbers.{f64Bytes, bytes8}
-use Rattle.c_chain.specs.Left.{Left, left, putInto}
+use Rattle.layout.specs.Left.{Left, left, putInto}
 
 -- The answer, and what stands in the two slices afterwards.
 pub record Pair : Type 0 where

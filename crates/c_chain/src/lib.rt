@@ -6,7 +6,7 @@ use predictorcorrector::PredictorCorrector;
 ghost use mathlib.Core.Path.{_≡_};
 ghost use lib.Dec.{eqb};
 ghost use Rattle.divector.specs.DiVector as DiVector;
-ghost use Rattle.c_chain.specs.Left.{left, putInto};
+ghost use Rattle.layout.specs.Left.{left, putInto};
 ghost use Rattle.layout.specs.Numbers.{f64Bytes, bytes8};
 ghost use Rattle.predictorcorrector.specs.State as State;
 ghost use Rattle.c_chain.specs.States.{chainRefusal, chainSet, horizonSetIn, chainMade};

@@ -23,7 +23,8 @@ use Rattle.types.specs.declared.MethodCode.{MethodCode}
 use Rattle.types.specs.declared.MethodCode.the-variants as Code
 use Rattle.layout.specs.Numbers.{writtenOf}
 use Rattle.layout.specs.States.{readDeviation, readThresholder, decodeDeviation, decodeThresholder, encodeDeviation, encodeThresholder, encodeGraded}
-use Rattle.c_interface.specs.Calls.{Left, left, putInto, deviationMade, deviationStored, deviationChanged, deviationRead, stateRefusal, thresholderStored, thresholderChanged, thresholderRead, thresholderMade, gradedBy}
+use Rattle.layout.specs.Left.{Left, left, putInto}
+use Rattle.c_interface.specs.Calls.{deviationMade, deviationStored, deviationChanged, deviationRead, stateRefusal, thresholderStored, thresholderChanged, thresholderRead, thresholderMade, gradedBy}
 use Rattle.c_interface.specs.Steps.{unless, firstOf, lengthRefusal, flagRefusal}
 
 -- ---- a refusal, or what is done without one.

@@ -21,17 +21,7 @@ use Rattle.basicthresholder.specs.declared.Updated.{Updated}
 use Rattle.basicthresholder.specs.declared.Made.{Made}
 use Rattle.basicthresholder.specs.declared.Made.the-variants.{Ready, Refused}
 use Rattle.layout.specs.States.{decodeDeviation, encodeDeviation, decodeThresholder, encodeThresholder, encodeGraded}
-
-pub record Left : Type 0 where
-  pub answer : ℕ
-  pub bytes : List ℕ
-
-abbrev pub left : ℕ → List ℕ → Left
-left n xs = record { answer = n; bytes = xs }
-
--- The bytes ys for a slice that must have n; 3 for a slice of another length.
-unfoldable pub putInto : ℕ → List ℕ → List ℕ → Left
-putInto n out ys = cond (eqb (length out) n) (left 0 ys) (left (number Length) out)
+use Rattle.layout.specs.Left.{Left, left, putInto}
 
 -- ---- a stored statistic: 36 bytes.
 

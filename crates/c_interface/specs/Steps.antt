@@ -5,7 +5,7 @@ use mathlib.Core.List.{List}
 use lib.Dec.{eqb, leb}
 use Rattle.types.specs.Refusals.{number}
 use Rattle.types.specs.declared.Refusal.the-variants.{Range, Length}
-use Rattle.c_interface.specs.Calls.{Left, left}
+use Rattle.layout.specs.Left.{Left, left}
 
 -- What is done unless there is a refusal.
 unfoldable pub unless : ℕ → List ℕ → Left → Left

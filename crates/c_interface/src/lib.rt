@@ -19,7 +19,8 @@ ghost use Rattle.basicthresholder.specs.Grades as Grades;
 ghost use Rattle.basicthresholder.specs.Updates as Updates;
 ghost use Rattle.layout.specs.Numbers.{f32Bytes, f64Bytes, flagBytes};
 ghost use Rattle.layout.specs.States.{encodeDeviation, encodeThresholder, encodeGraded};
-ghost use Rattle.c_interface.specs.Calls.{left, putInto, deviationMade, deviationStored, deviationChanged, deviationDone, deviationRead, stateRefusal, thresholderMade, thresholderStored, thresholderChanged, thresholderDone, thresholderRead, gradedBy};
+ghost use Rattle.layout.specs.Left.{left, putInto};
+ghost use Rattle.c_interface.specs.Calls.{deviationMade, deviationStored, deviationChanged, deviationDone, deviationRead, stateRefusal, thresholderMade, thresholderStored, thresholderChanged, thresholderDone, thresholderRead, gradedBy};
 ghost use Rattle.c_interface.specs.Steps.{unless, lengthRefusal, firstOf, flagRefusal};
 
 // Document 01's refusals of a yes/no byte or a code, and of a length.

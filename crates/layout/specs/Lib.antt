@@ -2,4 +2,5 @@ pub mod Numbers
 pub mod States
 pub mod Chain
 pub mod Readings
+pub mod Left
 pub mod Parts
