@@ -38,7 +38,7 @@ module _ (base y : ℕ) (ds es : List Deviation) (ns xs zs : List Float) (n x z 
   pub drift-past : length ds ≤ y → length es ≤ y → nearMeans (fresh zero64) (fresh zero64) n x z ≡ driftWithin base ds es ns xs zs
   drift-past h k = drift-by _ _ (sym (List·getD-eq-default ds (fresh zero64) h)) (sym (List·getD-eq-default es (fresh zero64) k))
 
-and-flat : (a c d e : Bool) → (((a && c) && d) && e) ≡ (a && (c && (d && e)))
+pub and-flat : (a c d e : Bool) → (((a && c) && d) && e) ≡ (a && (c && (d && e)))
 and-flat true true d e = refl
 and-flat true false d e = refl
 and-flat false c d e = refl

@@ -11,7 +11,7 @@ use Rattle.ieee.specs.Round.{narrow}
 use Rattle.util.specs.Util.{maxf32, absf32}
 use Rattle.types.specs.Codes.{isHeight}
 use Rattle.types.specs.declared.ScoringStrategy.{ScoringStrategy}
-use Rattle.deviation.specs.Statistics.{mean, deviation, fresh}
+use Rattle.deviation.specs.Statistics.{mean, deviation, fresh, counted}
 use Rattle.deviation.specs.Const.{zero64}
 use Rattle.deviation.specs.declared.Deviation.{Deviation}
 use Rattle.descriptor.specs.declared.Reading.{Reading}
@@ -68,6 +68,16 @@ isDrift candidate s counted base newest newestExpected noise =
     && (s .«auto_adjust»
     && (ltb 2 (s .«run_length»)
     && driftWithin base (counted .«deviations_actual») (counted .«deviations_expected») newest newestExpected noise))
+
+-- The same by the last entries alone, as they came: each counts its row's last number first.
+unfoldable pub nearNext : ℕ → Deviation → Deviation → List Float → List Float → List Float → Bool
+nearNext base actual expected newest newestExpected noise =
+    let y = base - 1 in
+    nearMeans (counted actual (getD newest y nan)) (counted expected (getD newestExpected y nan)) (getD newest y nan) (getD newestExpected y nan) (getD noise y nan)
+
+unfoldable pub driftAt : Bool → Bool → ℕ → ℕ → Deviation → Deviation → List Float → List Float → List Float → Bool
+driftAt candidate auto run base actual expected newest newestExpected noise =
+    candidate && (auto && (ltb 2 run && nearNext base actual expected newest newestExpected noise))
 
 -- The candidate branch by the newest rows.
 unfoldable pub countedRows : PredictorCorrector → Reading → LastDescriptor → ℕ → Float → List Float → List Float → List Float → Counted

@@ -12,6 +12,7 @@ ghost use mathlib.Core.Bool.{_&&_};
 ghost use lib.Ieee.{nan};
 ghost use Prim.Native.Nat.{_-_};
 ghost use lib.ListN.{getD, drop};
+ghost use Rattle.deviation.specs.Statistics.{counted};
 ghost use Rattle.candidate.specs.Candidate as Candidate;
 
 fn same_strategy(a: ScoringStrategy, b: ScoringStrategy) -> bool
@@ -116,6 +117,78 @@ fn is_drift(
         return near_means(none, none, value, value_expected, value_noise);
     }
     false
+}
+
+// base - 1, or 0.
+fn last_place(base: usize) -> usize
+    ensures { λ r. ⌜ r ≡ base - 1 ⌝ }
+{
+    if 1 <= base {
+        return base - 1;
+    }
+    0
+}
+
+// The last entry of a list with a row's number counted.
+fn last_counted(entry: Deviation, value: f32) -> Deviation
+    ensures { λ r. ⌜ r ≡ counted entry value ⌝ }
+{
+    entry.counted(std::num::f32_to_f64_with_nan(value))
+}
+
+// The same test by the last entries of the two lists alone, as they came, where it is due.
+fn is_drift_at(
+    due: bool,
+    base: usize,
+    actual: Deviation,
+    expected: Deviation,
+    newest: &[f32],
+    newest_expected: &[f32],
+    noise: &[f32],
+) -> bool
+    ensures { λ r. ⌜ r ≡ (due && Candidate.nearNext base actual expected (now (newest .entry)) (now («newest_expected» .entry)) (now (noise .entry))) ⌝ }
+{
+    if due {
+        let y = last_place(base);
+        let value = value_at(newest, y);
+        let value_expected = value_at(newest_expected, y);
+        return near_means(
+            last_counted(actual, value),
+            last_counted(expected, value_expected),
+            value,
+            value_expected,
+            value_at(noise, y),
+        );
+    }
+    false
+}
+
+// Whether a reading past the other exits is data drift: of the lists, only the last entries are looked at.
+pub fn is_data_drift(
+    r: Reading,
+    l: LastDescriptor,
+    auto_adjust: bool,
+    run_length: u32,
+    shingle_size: u32,
+    threshold: f32,
+    actual: Deviation,
+    expected: Deviation,
+    newest: &[f32],
+    newest_expected: &[f32],
+    noise: &[f32],
+) -> bool
+    ensures { λ b. ⌜ b ≡ Candidate.driftAt (Candidate.isCandidate r l «run_length» «shingle_size» threshold) «auto_adjust» «run_length» (r .«base_dimension») actual expected (now (newest .entry)) (now («newest_expected» .entry)) (now (noise .entry)) ⌝ }
+{
+    let candidate = is_candidate(r, l, run_length, shingle_size, threshold);
+    is_drift_at(
+        candidate & auto_adjust & (2 < run_length),
+        r.base_dimension,
+        actual,
+        expected,
+        newest,
+        newest_expected,
+        noise,
+    )
 }
 
 fn candidate_with(

@@ -23,7 +23,7 @@ use Rattle.descriptor.specs.declared.Reading.{Reading}
 use Rattle.descriptor.specs.declared.LastDescriptor.{LastDescriptor}
 use Rattle.predictorcorrector.specs.State.{runEnded, autoAdjusted, candidateCounted, runGrown, scoreCounted}
 use Rattle.predictorcorrector.specs.declared.PredictorCorrector.{PredictorCorrector}
-use Rattle.detection.specs.Judging.{opening, gap, recent, noisePass, explained, triggered, withinBox, entered, candidateWith, candidateState, isDataDrift, raisedOr, settled, lateVerdict, gradedVerdict, openVerdict, verdict, runAfterMode, after}
+use Rattle.detection.specs.Judging.{opening, gap, recent, noisePass, explained, triggered, withinBox, entered, candidateWith, candidateState, isDataDrift, lateVerdict, gradedVerdict, verdict, runAfterMode, after}
 use Rattle.detection.specs.Judged.{outcome, outcomeOf, stateAfter}
 use Rattle.detection.specs.declared.Verdict.{Verdict}
 use Rattle.detection.specs.declared.Verdict.the-variants.{Quiet, Corrected, Raised, Skipped}
@@ -110,45 +110,30 @@ module _ (s : PredictorCorrector) (r : Reading) (l : LastDescriptor) (b : Lent) 
   after-counts x (Raised t g) d k = entered-counts (runGrown (candidateState r l b s t)) _ d (grown-keeps (candidateState r l b s t) ∙ candidate-keeps t)
   after-counts x Skipped d k = absurd (k .carries)
 
-  late-says : (auto : Bool) (threshold working : Float) → Says threshold (lateVerdict r l b auto threshold working)
+  late-says : (threshold working : Float) → Says threshold (lateVerdict r l b s threshold working)
   unfolding lateVerdict
-  late-says auto threshold working =
-      either-says (auto && explained r l b) _ _ (says refl)
+  late-says threshold working =
+      either-says (s .«auto_adjust» && explained r l b) _ _ (says refl)
       (either-says (ltb (gap r l b) (r .«shingle_size») && not (triggered r l b threshold)) _ _ (says refl)
-      (either-says (withinBox r l b) _ _ (says refl) (says refl)))
+      (either-says (withinBox r l b) _ _ (says refl) (either-says (isDataDrift r l b s threshold) _ _ (says refl) (says refl))))
 
-  graded-says : (t : BasicThresholder) (auto : Bool) (threshold grade : Float) → Says threshold (gradedVerdict r l b t auto threshold grade)
+  graded-says : (threshold grade : Float) → Says threshold (gradedVerdict r l b s threshold grade)
   unfolding gradedVerdict
-  graded-says t auto threshold grade =
-      either-says (recent r l b && eq (opening t r (r .«corrected_score») .grade) zero32) _ _ (says refl)
-      (either-says (eq (Ieee.mul binary32 grade (noisePass r l b)) zero32) _ _ (says refl) (late-says auto threshold _))
-
-  open-says : (t : BasicThresholder) (auto : Bool) → eq (r .score) zero32 ≡ false → Says (opening t r (r .score) .threshold) (openVerdict r l b t auto)
-  unfolding openVerdict
-  open-says t auto e = rw e (either-says (eq (opening t r (r .score) .grade) zero32) _ _ (says refl) (graded-says t auto _ _))
-
-  raised-says : (x t g : Float) → t ≡ x → Says x (raisedOr r l b s t g)
-  unfolding raisedOr
-  raised-says x t g k = either-says (isDataDrift r l b s t) _ _ (says k) (says k)
-
-  settled-says : (x : Float) (v : Verdict) → Says x v → Says x (settled r l b s v)
-  unfolding settled
-  settled-says x (Quiet t) k = says (k .carries)
-  settled-says x (Corrected t m) k = says (k .carries)
-  settled-says x (Raised t g) k = raised-says x t g (k .carries)
-  settled-says x Skipped k = absurd (k .carries)
+  graded-says threshold grade =
+      either-says (recent r l b && eq (opening (s .«basic_thresholder») r (r .«corrected_score») .grade) zero32) _ _ (says refl)
+      (either-says (eq (Ieee.mul binary32 grade (noisePass r l b)) zero32) _ _ (says refl) (late-says threshold _))
 
   verdict-says : eq (r .score) zero32 ≡ false → Says (opening (s .«basic_thresholder») r (r .score) .threshold) (verdict r l b s)
   unfolding verdict
-  verdict-says e = settled-says _ _ (open-says _ _ e)
+  verdict-says e = rw e (either-says (eq (opening (s .«basic_thresholder») r (r .score) .grade) zero32) _ _ (says refl) (graded-says _ _))
 
   zero-skips : eq (r .score) zero32 ≡ true → verdict r l b s ≡ Skipped
-  unfolding verdict openVerdict settled
+  unfolding verdict
   zero-skips e = rw e refl
 
   -- An opening grade of 0 ends with grade 0.
   quiet-ends : eq (r .score) zero32 ≡ false → opening (s .«basic_thresholder») r (r .score) .grade ≡ zero32 → verdictEnds (verdict r l b s) ≡ zero32
-  unfolding verdict openVerdict settled
+  unfolding verdict
   quiet-ends e g = rw (e, g, zero-is-zero) refl
 
   -- ---- an accepted reading, a refused one

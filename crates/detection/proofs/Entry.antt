@@ -19,7 +19,7 @@ use Rattle.descriptor.specs.declared.Reading.{Reading}
 use Rattle.descriptor.specs.declared.LastDescriptor.{LastDescriptor}
 use Rattle.descriptor.proofs.Bounds.{both, sizes, product-fits, dimension-is, last-points}
 use Rattle.detection.specs.Judging.{gapOf, blockOf, gap, block, start}
-use Rattle.detection.specs.Steps.{Correctable, Branching, Writing, passing, late, branch}
+use Rattle.detection.specs.Steps.{Correctable, Branching, Writing, passing, late}
 
 -- The tests that passed, of an answer that is no refusal.
 record Passed (a c d e f : Bool) : Type 0 where
@@ -186,12 +186,6 @@ module _ (r : Reading) (l : LastDescriptor) (b : Lent) (stateBase e h w : ℕ) (
   pub for-late : Branching r l (late (b .point) (b .scale) (b .shift) (b .«difference_deviations») (b .high) (b .low) (b .median) (b .«ideal_high») (b .«ideal_low») (b .neighbours))
   unfolding start block gap
   for-late =
-      let f = branching in
-      record { shingle-most = f .shingle-most; base-most = f .base-most; point-most = f .point-most; expecting = f .expecting; block-small = f .block-small }
-
-  pub for-branch : Branching r l (branch (b .point) (b .«difference_deviations») (b .high) (b .low) (b .median))
-  unfolding start block gap
-  for-branch =
       let f = branching in
       record { shingle-most = f .shingle-most; base-most = f .base-most; point-most = f .point-most; expecting = f .expecting; block-small = f .block-small }
 

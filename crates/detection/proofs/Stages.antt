@@ -1,4 +1,4 @@
--- What each stage's calls answer, in the words of the definitions, and which exit the tests choose. Assumes nothing.
+-- What each stage's calls answer, in the words of the definitions, and which way the tests choose. Assumes nothing.
 use mathlib.Core.Path.{_≡_, refl, sym, ap, ap₂, _∙_}
 use mathlib.Core.Bool.{Bool, true, false, cond, not, _&&_}
 use mathlib.Core.List.{List}
@@ -11,26 +11,22 @@ use Rattle.types.specs.Codes.{isDifferenced}
 use Rattle.types.specs.declared.Answer.{Answer}
 use Rattle.types.specs.declared.Answer.the-variants as Answers
 use Rattle.types.specs.declared.Refusal.{Refusal}
-use Rattle.types.specs.declared.CorrectionMode.{CorrectionMode}
-use Rattle.types.specs.declared.CorrectionMode.the-variants.{NOISE, «ANOMALY_IN_SHINGLE», «CONDITIONAL_FORECAST», FORECAST}
+use Rattle.types.specs.declared.CorrectionMode.the-variants.{NOISE, «ANOMALY_IN_SHINGLE»}
 use Rattle.basicthresholder.specs.declared.BasicThresholder.{BasicThresholder}
 use Rattle.basicthresholder.specs.declared.Graded.{Graded}
 use Rattle.divector.specs.DiVector.{maxGapContribution}
-use Rattle.uncertainty_box.specs.Box.{uncertaintyBox, withinUnertaintyBox, explainedByConditionalField}
+use Rattle.uncertainty_box.specs.Box.{uncertaintyBox, explainedByConditionalField}
 use Rattle.uncertainty_box.specs.Pass.{centeredTransformPass}
-use Rattle.corrector.specs.Corrector.{applyBasicCorrector, expectedPoint, trigger}
+use Rattle.corrector.specs.Corrector.{applyBasicCorrector, trigger}
 use Rattle.descriptor.specs.Checks.{answerOf}
 use Rattle.descriptor.specs.Lent.{Lent}
 use Rattle.descriptor.specs.declared.Reading.{Reading}
 use Rattle.descriptor.specs.declared.LastDescriptor.{LastDescriptor}
 use Rattle.detection.specs.Const.{zero32}
-use Rattle.detection.specs.Judging.{gapOf, isRecent, blockOf, gap, recent, opening, correctedPoint, noisePass, block, start, box, explained, expected, triggered, withinBox, lateVerdict, gradedVerdict, openVerdict}
-use Rattle.detection.specs.Steps.{passing, late, passed, openOf, openOutcome}
-use Rattle.detection.specs.declared.Passed.{Passed}
-use Rattle.detection.specs.declared.Passed.the-variants.{Ended, Working}
-use Rattle.detection.specs.declared.Outcome.the-variants.{Accepted, Refused}
-use Rattle.detection.specs.declared.Verdict.{Verdict}
-use Rattle.detection.specs.declared.Verdict.the-variants.{Quiet, Corrected, Raised, Skipped}
+use Rattle.detection.specs.Judging.{gapOf, isRecent, blockOf, gap, recent, opening, correctedPoint, noisePass, block, start, box, explained, triggered}
+use Rattle.detection.specs.Steps.{passing, gradedWay, acceptedWay, wayOf, way}
+use Rattle.detection.specs.declared.Way.{Way}
+use Rattle.detection.specs.declared.Way.the-variants as Ways
 
 module _ (r : Reading) (l : LastDescriptor) (b : Lent) where
   pub gap-is : (g : ℕ) → g ≡ gapOf (r .«values_seen») (l .«has_anomaly») (l .anomaly .«values_seen») → g ≡ gap r l b
@@ -52,9 +48,9 @@ module _ (r : Reading) (l : LastDescriptor) (b : Lent) where
   unfolding block gap
   block-is k e = e
 
-  pub start-is : (s : ℕ) → s ≡ blockOf (maxGapContribution (b .high) (b .low) (r .«base_dimension») (gapOf (r .«values_seen») (l .«has_anomaly») (l .anomaly .«values_seen»))) * r .«base_dimension» → s ≡ start r l b
-  unfolding start block gap
-  start-is s e = e
+  pub start-by : (k n : ℕ) → k ≡ block r l b → n ≡ k * r .«base_dimension» → n ≡ start r l b
+  unfolding start
+  start-by k n e q = q ∙ ap (λ (m : ℕ). m * r .«base_dimension») e
 
   pub box-is : (s : ℕ) (u : List Float) → s ≡ start r l b
       → u ≡ uncertaintyBox (b .point) s (b .scale) (b .shift) (b .«difference_deviations») (isDifferenced (r .«transform_method»)) (replicate (r .«base_dimension») zero32) → u ≡ box r l b
@@ -72,112 +68,51 @@ module _ (r : Reading) (l : LastDescriptor) (b : Lent) where
   unfolding triggered gap
   shingle-is t threshold e = e
 
-  pub within-is : (t : Bool) (u : List Float) (s : ℕ) → u ≡ box r l b → s ≡ start r l b
-      → t ≡ withinUnertaintyBox u s (b .scale) (b .point) (expectedPoint (b .high) (b .low) s (r .«base_dimension») (b .point) (b .median)) → t ≡ withinBox r l b
-  unfolding withinBox expected
-  within-is t u s e h q = q ∙ ap₂ (λ (v : List Float) (n : ℕ). withinUnertaintyBox v n (b .scale) (b .point) (expectedPoint (b .high) (b .low) n (r .«base_dimension») (b .point) (b .median))) e h
+  -- ---- above an opening grade of 0
+  module _ (t : BasicThresholder) (g : Graded) where
+    pub graded-quiet : (recent r l b && Ieee.eq (opening t r (r .«corrected_score») .grade) zero32) ≡ true → Ways.Corrected (g .threshold) «ANOMALY_IN_SHINGLE» ≡ gradedWay r l b t g
+    unfolding gradedWay
+    graded-quiet h = rw h
 
-  -- ---- the exits past the noise pass
-  module _ (auto : Bool) (threshold working : Float) where
-    pub late-explained : (auto && explained r l b) ≡ true → Corrected threshold «CONDITIONAL_FORECAST» ≡ lateVerdict r l b auto threshold working
-    unfolding lateVerdict
-    late-explained h = rw h
+    pub graded-noise : (f : Float) → f ≡ noisePass r l b → (recent r l b && Ieee.eq (opening t r (r .«corrected_score») .grade) zero32) ≡ false
+        → Ieee.eq (Ieee.mul binary32 (g .grade) f) zero32 ≡ true → Ways.Corrected (g .threshold) NOISE ≡ gradedWay r l b t g
+    unfolding gradedWay
+    graded-noise f e h k = rw (h, rw e at k)
 
-    pub late-shingle : (auto && explained r l b) ≡ false → (ltb (gap r l b) (r .«shingle_size») && not (triggered r l b threshold)) ≡ true
-        → Corrected threshold «ANOMALY_IN_SHINGLE» ≡ lateVerdict r l b auto threshold working
-    unfolding lateVerdict
-    late-shingle h k = rw (h, k)
+    pub graded-past : (f : Float) → f ≡ noisePass r l b → (recent r l b && Ieee.eq (opening t r (r .«corrected_score») .grade) zero32) ≡ false
+        → Ieee.eq (Ieee.mul binary32 (g .grade) f) zero32 ≡ false → Ways.Past (g .threshold) (Ieee.mul binary32 (g .grade) f) ≡ gradedWay r l b t g
+    unfolding gradedWay
+    graded-past f e h k = ap (λ (x : Float). Ways.Past (g .threshold) (Ieee.mul binary32 (g .grade) x)) e ∙ rw (h, rw e at k)
 
-    pub late-forecast : (auto && explained r l b) ≡ false → (ltb (gap r l b) (r .«shingle_size») && not (triggered r l b threshold)) ≡ false → withinBox r l b ≡ true
-        → Corrected threshold FORECAST ≡ lateVerdict r l b auto threshold working
-    unfolding lateVerdict
-    late-forecast h k q = rw (h, k, q)
+    -- It looks at six buffers.
+    pub graded-lent : gradedWay r l (passing (b .point) (b .scale) (b .shift) (b .«difference_deviations») (b .«last_expected») (b .«last_anomalous»)) t g ≡ gradedWay r l b t g
+    unfolding gradedWay recent gap noisePass correctedPoint
+    graded-lent = refl
 
-    pub late-raised : (auto && explained r l b) ≡ false → (ltb (gap r l b) (r .«shingle_size») && not (triggered r l b threshold)) ≡ false → withinBox r l b ≡ false
-        → Raised threshold working ≡ lateVerdict r l b auto threshold working
-    unfolding lateVerdict
-    late-raised h k q = rw (h, k, q)
+  -- ---- by the answer of the entry checks
+  module _ (t : BasicThresholder) (base e h w : ℕ) (ok : Bool) (a : Answer) (said : a ≡ answerOf r l b base e h w ok) where
+    way-is : wayOf r l b t a ≡ way r l b t base e h w ok
+    unfolding way
+    way-is = ap (wayOf r l b t) said
 
-  -- ---- the exits up to the noise pass
-  module _ (t : BasicThresholder) (grade : Float) where
-    pub passed-quiet : (recent r l b && Ieee.eq (opening t r (r .«corrected_score») .grade) zero32) ≡ true → Ended «ANOMALY_IN_SHINGLE» ≡ passed r l b t grade
-    unfolding passed
-    passed-quiet h = rw h
+    pub way-refused : (why : Refusal) → a ≡ Answers.Refused why → Ways.Refused why ≡ way r l b t base e h w ok
+    unfolding wayOf
+    way-refused why k = ap (wayOf r l b t) (sym k) ∙ way-is
 
-    pub passed-noise : (f : Float) → f ≡ noisePass r l b → (recent r l b && Ieee.eq (opening t r (r .«corrected_score») .grade) zero32) ≡ false → Ieee.eq (Ieee.mul binary32 grade f) zero32 ≡ true
-        → Ended NOISE ≡ passed r l b t grade
-    unfolding passed
-    passed-noise f e h k = rw (h, rw e at k)
+    module _ (d : a ≡ Answers.Done) where
+      way-done : acceptedWay r l b t ≡ way r l b t base e h w ok
+      unfolding wayOf
+      way-done = ap (wayOf r l b t) (sym d) ∙ way-is
 
-    pub passed-working : (f : Float) → f ≡ noisePass r l b → (recent r l b && Ieee.eq (opening t r (r .«corrected_score») .grade) zero32) ≡ false → Ieee.eq (Ieee.mul binary32 grade f) zero32 ≡ false
-        → Working (Ieee.mul binary32 grade f) ≡ passed r l b t grade
-    unfolding passed
-    passed-working f e h k = ap (λ (x : Float). Working (Ieee.mul binary32 grade x)) e ∙ rw (h, rw e at k)
+      pub way-skipped : Ieee.eq (r .score) zero32 ≡ true → Ways.Skipped ≡ way r l b t base e h w ok
+      unfolding acceptedWay
+      way-skipped k = let p : Ways.Skipped ≡ acceptedWay r l b t = rw k in p ∙ way-done
 
-  -- ---- every exit but the candidate branch's
-  module _ (t : BasicThresholder) (auto : Bool) where
-    -- The verdict past the noise pass.
-    pastNoise : Float → Passed → Verdict
-    pastNoise threshold (Ended m) = Corrected threshold m
-    pastNoise threshold (Working w) = lateVerdict r l b auto threshold w
+      pub way-quiet : Ieee.eq (r .score) zero32 ≡ false → (g : Graded) → g ≡ opening t r (r .score) → Ieee.eq (g .grade) zero32 ≡ true → Ways.Quiet (g .threshold) ≡ way r l b t base e h w ok
+      unfolding acceptedWay
+      way-quiet k g q z = let p : Ways.Quiet (opening t r (r .score) .threshold) ≡ acceptedWay r l b t = rw (k, rw q at z) in ap (λ (o : Graded). Ways.Quiet (o .threshold)) q ∙ p ∙ way-done
 
-    past-noise : (threshold : Float) (p q : Bool) (m n : CorrectionMode) (w : Float)
-        → pastNoise threshold (cond p (Ended m) (cond q (Ended n) (Working w))) ≡ cond p (Corrected threshold m) (cond q (Corrected threshold n) (lateVerdict r l b auto threshold w))
-    unfolding pastNoise
-    past-noise threshold true q m n w = refl
-    past-noise threshold false true m n w = refl
-    past-noise threshold false false m n w = refl
-
-    graded-is : (threshold grade : Float) → pastNoise threshold (passed r l b t grade) ≡ gradedVerdict r l b t auto threshold grade
-    unfolding gradedVerdict passed
-    graded-is threshold grade =
-        past-noise threshold (recent r l b && Ieee.eq (opening t r (r .«corrected_score») .grade) zero32) (Ieee.eq (Ieee.mul binary32 grade (noisePass r l b)) zero32) «ANOMALY_IN_SHINGLE» NOISE (Ieee.mul binary32 grade (noisePass r l b))
-
-    module _ (base e h w : ℕ) (ok : Bool) (a : Answer) (said : a ≡ answerOf r l b base e h w ok) where
-      open-is : openOf r l b t auto a ≡ openOutcome r l b t auto base e h w ok
-      unfolding openOutcome
-      open-is = ap (openOf r l b t auto) said
-
-      pub open-refused : (why : Refusal) → a ≡ Answers.Refused why → Refused why ≡ openOutcome r l b t auto base e h w ok
-      unfolding openOf
-      open-refused why k = ap (openOf r l b t auto) (sym k) ∙ open-is
-
-      open-done : a ≡ Answers.Done → Accepted (openVerdict r l b t auto) ≡ openOutcome r l b t auto base e h w ok
-      unfolding openOf
-      open-done k = ap (openOf r l b t auto) (sym k) ∙ open-is
-
-      pub open-skipped : a ≡ Answers.Done → Ieee.eq (r .score) zero32 ≡ true → Accepted Skipped ≡ openOutcome r l b t auto base e h w ok
-      unfolding openVerdict
-      open-skipped d k = ap Accepted (rw k) ∙ open-done d
-
-      pub open-quiet : a ≡ Answers.Done → Ieee.eq (r .score) zero32 ≡ false → (g : Graded) → g ≡ opening t r (r .score) → Ieee.eq (g .grade) zero32 ≡ true
-          → Accepted (Quiet (g .threshold)) ≡ openOutcome r l b t auto base e h w ok
-      unfolding openVerdict
-      open-quiet d k g q z = ap Accepted (ap (λ (o : Graded). Quiet (o .threshold)) q ∙ rw (k, rw q at z)) ∙ open-done d
-
-      open-graded : a ≡ Answers.Done → Ieee.eq (r .score) zero32 ≡ false → (g : Graded) → g ≡ opening t r (r .score) → Ieee.eq (g .grade) zero32 ≡ false
-          → Accepted (pastNoise (g .threshold) (passed r l b t (g .grade))) ≡ openOutcome r l b t auto base e h w ok
-      unfolding openVerdict
-      open-graded d k g q z =
-          ap Accepted (graded-is (g .threshold) (g .grade) ∙ ap (λ (o : Graded). gradedVerdict r l b t auto (o .threshold) (o .grade)) q ∙ rw (k, rw q at z)) ∙ open-done d
-
-      pub open-ended : a ≡ Answers.Done → Ieee.eq (r .score) zero32 ≡ false → (g : Graded) → g ≡ opening t r (r .score) → Ieee.eq (g .grade) zero32 ≡ false
-          → (p : Passed) (m : CorrectionMode) → p ≡ passed r l b t (g .grade) → p ≡ Ended m → Accepted (Corrected (g .threshold) m) ≡ openOutcome r l b t auto base e h w ok
-      unfolding pastNoise
-      open-ended d k g q z p m x y = ap (λ (n : Passed). Accepted (pastNoise (g .threshold) n)) (sym y ∙ x) ∙ open-graded d k g q z
-
-      pub open-late : a ≡ Answers.Done → Ieee.eq (r .score) zero32 ≡ false → (g : Graded) → g ≡ opening t r (r .score) → Ieee.eq (g .grade) zero32 ≡ false
-          → (p : Passed) (f : Float) → p ≡ passed r l b t (g .grade) → p ≡ Working f → (v : Verdict) → v ≡ lateVerdict r l b auto (g .threshold) f
-          → Accepted v ≡ openOutcome r l b t auto base e h w ok
-      unfolding pastNoise
-      open-late d k g q z p f x y v o = ap Accepted o ∙ ap (λ (n : Passed). Accepted (pastNoise (g .threshold) n)) (sym y ∙ x) ∙ open-graded d k g q z
-
-  -- ---- a stage that is lent some of the buffers
-  pub passed-lent : (t : BasicThresholder) (grade : Float) → passed r l (passing (b .point) (b .scale) (b .shift) (b .«difference_deviations») (b .«last_expected») (b .«last_anomalous»)) t grade ≡ passed r l b t grade
-  unfolding passed recent gap noisePass correctedPoint
-  passed-lent t grade = refl
-
-  pub late-lent : (auto : Bool) (threshold working : Float)
-      → lateVerdict r l (late (b .point) (b .scale) (b .shift) (b .«difference_deviations») (b .high) (b .low) (b .median) (b .«ideal_high») (b .«ideal_low») (b .neighbours)) auto threshold working ≡ lateVerdict r l b auto threshold working
-  unfolding lateVerdict explained box start block gap triggered withinBox expected
-  late-lent auto threshold working = refl
+      pub way-graded : Ieee.eq (r .score) zero32 ≡ false → (g : Graded) → g ≡ opening t r (r .score) → Ieee.eq (g .grade) zero32 ≡ false
+          → (y : Way) → y ≡ gradedWay r l b t g → y ≡ way r l b t base e h w ok
+      unfolding acceptedWay
+      way-graded k g q z y x = let p : gradedWay r l b t (opening t r (r .score)) ≡ acceptedWay r l b t = rw (k, rw q at z) in x ∙ ap (gradedWay r l b t) q ∙ p ∙ way-done

@@ -12,7 +12,6 @@ use Rattle.types.specs.Codes.{isDifferenced}
 use Rattle.types.specs.declared.CorrectionMode.{CorrectionMode}
 use Rattle.types.specs.declared.CorrectionMode.the-variants as Modes
 use Rattle.types.specs.declared.CorrectionMode.the-variants.{NOISE, «ANOMALY_IN_SHINGLE», «CONDITIONAL_FORECAST», FORECAST, «DATA_DRIFT»}
-use Rattle.basicthresholder.specs.declared.BasicThresholder.{BasicThresholder}
 use Rattle.divector.specs.DiVector.{maxGapContribution}
 use Rattle.uncertainty_box.specs.Box.{uncertaintyBox, withinUnertaintyBox, explainedByConditionalField}
 use Rattle.uncertainty_box.specs.Pass.{centeredTransformPass}
@@ -76,27 +75,7 @@ module _ (r : Reading) (l : LastDescriptor) (b : Lent) where
   unfoldable pub newestOf : List Float → List Float
   newestOf xs = drop (length (b .point) - r .«base_dimension») xs
 
-  -- The exits past the noise pass, up to the candidate branch.
-  unfoldable pub lateVerdict : Bool → Float → Float → Verdict
-  lateVerdict auto threshold working =
-      cond (auto && explained) (Corrected threshold «CONDITIONAL_FORECAST»)
-      (cond (ltb gap (r .«shingle_size») && not (triggered threshold)) (Corrected threshold «ANOMALY_IN_SHINGLE»)
-      (cond withinBox (Corrected threshold FORECAST) (Raised threshold working)))
-
-  -- The exits past an opening grade above 0.
-  unfoldable pub gradedVerdict : BasicThresholder → Bool → Float → Float → Verdict
-  gradedVerdict t auto threshold grade =
-      let working = Ieee.mul binary32 grade noisePass in
-      cond (recent && Ieee.eq (opening t r (r .«corrected_score») .grade) zero32) (Corrected threshold «ANOMALY_IN_SHINGLE»)
-      (cond (Ieee.eq working zero32) (Corrected threshold NOISE) (lateVerdict auto threshold working))
-
-  -- Every exit but the candidate branch's: a reading that this raises may still be data drift.
-  unfoldable pub openVerdict : BasicThresholder → Bool → Verdict
-  openVerdict t auto =
-      let opened = opening t r (r .score) in
-      cond (Ieee.eq (r .score) zero32) Skipped
-      (cond (Ieee.eq (opened .grade) zero32) (Quiet (opened .threshold)) (gradedVerdict t auto (opened .threshold) (opened .grade)))
-
+  -- The candidate branch, and whether it is data drift.
   unfoldable pub candidateState : PredictorCorrector → Float → PredictorCorrector
   candidateState s threshold = candidateWith (isCandidate r l (s .«run_length») (r .«shingle_size») threshold) s (newestOf (b .point)) (newestOf expected)
 
@@ -104,19 +83,27 @@ module _ (r : Reading) (l : LastDescriptor) (b : Lent) where
   isDataDrift s threshold =
       isDrift (isCandidate r l (s .«run_length») (r .«shingle_size») threshold) s (candidateState s threshold) (r .«base_dimension») (newestOf (b .point)) (newestOf expected) (b .«difference_deviations»)
 
-  -- The last exit: data drift, or raised.
-  unfoldable pub raisedOr : PredictorCorrector → Float → Float → Verdict
-  raisedOr s t g = cond (isDataDrift s t) (Corrected t «DATA_DRIFT») (Raised t g)
+  -- The exits past the noise pass.
+  unfoldable pub lateVerdict : PredictorCorrector → Float → Float → Verdict
+  lateVerdict s threshold working =
+      cond (s .«auto_adjust» && explained) (Corrected threshold «CONDITIONAL_FORECAST»)
+      (cond (ltb gap (r .«shingle_size») && not (triggered threshold)) (Corrected threshold «ANOMALY_IN_SHINGLE»)
+      (cond withinBox (Corrected threshold FORECAST)
+      (cond (isDataDrift s threshold) (Corrected threshold «DATA_DRIFT») (Raised threshold working))))
+
+  -- The exits past an opening grade above 0.
+  unfoldable pub gradedVerdict : PredictorCorrector → Float → Float → Verdict
+  gradedVerdict s threshold grade =
+      let working = Ieee.mul binary32 grade noisePass in
+      cond (recent && Ieee.eq (opening (s .«basic_thresholder») r (r .«corrected_score») .grade) zero32) (Corrected threshold «ANOMALY_IN_SHINGLE»)
+      (cond (Ieee.eq working zero32) (Corrected threshold NOISE) (lateVerdict s threshold working))
 
   -- What the watch says of an accepted reading.
-  unfoldable pub settled : PredictorCorrector → Verdict → Verdict
-  settled s (Quiet t) = Quiet t
-  settled s (Corrected t m) = Corrected t m
-  settled s (Raised t g) = raisedOr s t g
-  settled s Skipped = Skipped
-
   unfoldable pub verdict : PredictorCorrector → Verdict
-  verdict s = settled s (openVerdict (s .«basic_thresholder») (s .«auto_adjust»))
+  verdict s =
+      let opened = opening (s .«basic_thresholder») r (r .score) in
+      cond (Ieee.eq (r .score) zero32) Skipped
+      (cond (Ieee.eq (opened .grade) zero32) (Quiet (opened .threshold)) (gradedVerdict s (opened .threshold) (opened .grade)))
 
   -- The run and the two lists after a verdict: statistics of scores apart.
   unfoldable pub runAfterMode : PredictorCorrector → Float → CorrectionMode → PredictorCorrector

@@ -1,6 +1,6 @@
 // predictorcorrector.rs: `detect_and_modify`. The stages are functions of their own; what the forest answers is lent.
 use basicthresholder::BasicThresholder;
-use candidate::Counted;
+use basicthresholder::Graded;
 use descriptor::LastDescriptor;
 use descriptor::Reading;
 use predictorcorrector::PredictorCorrector;
@@ -8,18 +8,15 @@ use types::Answer;
 use types::CorrectionMode;
 use types::Refusal;
 ghost use mathlib.Core.Path.{_≡_};
-ghost use mathlib.Core.Bool.{true};
 ghost use Prim.Native.Nat.{_≤_, _*_};
 ghost use lib.IntN.{pos, _+ℤ_, _-ℤ_};
 ghost use lib.ListN.{length, take, replicate};
 ghost use Rattle.types.specs.Codes.{isDifferenced};
-ghost use Rattle.divector.specs.DiVector as DiVector;
 ghost use Rattle.uncertainty_box.specs.Box as Box;
 ghost use Rattle.uncertainty_box.specs.Pass as Pass;
 ghost use Rattle.corrector.specs.Corrector as Corrector;
 ghost use Rattle.corrector.specs.Steps as CorrectorSteps;
 ghost use Rattle.descriptor.specs.Lent.{lent};
-ghost use Rattle.candidate.specs.Candidate.{countedRun};
 ghost use Rattle.detection.specs.Const.{zero32};
 ghost use Rattle.detection.specs.Judging as Judging;
 ghost use Rattle.detection.specs.Judged as Judged;
@@ -45,7 +42,9 @@ pub struct Judgment {
     pub state: PredictorCorrector,
 }
 
-fn zeros() -> [f32; 1024] {
+fn zeros() -> [f32; 1024]
+    ensures { λ r. ⌜ length r ≡ 1024 ⌝ }
+{
     [0.0f32; 1024]
 }
 
@@ -127,26 +126,7 @@ fn box_of(
     out
 }
 
-// Whether the point is within the box of its expected point.
-fn within_expected(
-    uncertainty_box: &[f32],
-    start: usize,
-    base: usize,
-    scale: &[f32],
-    point: &[f32],
-    high: &[f64],
-    low: &[f64],
-    median: &[f32],
-) -> bool
-    requires { ⌜ length (now point) ≤ 1024 ⌝ ∗ ⌜ CorrectorSteps.Expecting (length (now high)) (length (now low)) start base (length (now point)) (length (now median)) (length (now point)) ⌝ }
-    ensures { λ r. ⌜ r ≡ Box.withinUnertaintyBox (now («uncertainty_box» .entry)) start (now (scale .entry)) (now (point .entry)) (Corrector.expectedPoint (now (high .entry)) (now (low .entry)) start base (now (point .entry)) (now (median .entry))) ⌝ }
-{
-    let d = point.len();
-    let mut work = zeros();
-    corrector::expected_point(high, low, start, base, point, median, &mut work[..d]);
-    uncertainty_box::within_unertainty_box(uncertainty_box, start, scale, point, &work[..d])
-}
-
+// Where the block starts.
 fn block_start(block: usize, base: usize) -> usize
     requires { ⌜ block ≤ 1024 ⌝ ∗ ⌜ base ≤ 16 ⌝ }
     ensures { λ r. ⌜ r ≡ block * base ⌝ }
@@ -154,75 +134,43 @@ fn block_start(block: usize, base: usize) -> usize
     block * base
 }
 
-// Where the block that contributes most starts.
-fn start_of(r: Reading, l: LastDescriptor, high: &[f64], low: &[f64]) -> usize
-    requires { ⌜ Judging.blockOf (DiVector.maxGapContribution (now high) (now low) (r .«base_dimension») (Judging.gapOf (r .«values_seen») (l .«has_anomaly») (l .anomaly .«values_seen»))) ≤ 1024 ⌝ ∗ ⌜ r .«base_dimension» ≤ 16 ⌝ }
-    ensures { λ n. ⌜ n ≡ Judging.blockOf (DiVector.maxGapContribution (now (high .entry)) (now (low .entry)) (r .«base_dimension») (Judging.gapOf (r .«values_seen») (l .«has_anomaly») (l .anomaly .«values_seen»))) * r .«base_dimension» ⌝ }
+// Counted back from the newest block, which is 0.
+fn relative_index(block: usize, shingle_size: usize) -> i32
+    requires { ⌜ block ≤ 1024 ⌝ ∗ ⌜ «shingle_size» ≤ 64 ⌝ }
+    ensures { λ r. ⌜ r ≡ pos block -ℤ pos «shingle_size» +ℤ pos 1 ⌝ }
 {
-    block_start(scoring::anomaly_block(r, l, high, low), r.base_dimension)
+    (block as i32) - (shingle_size as i32) + 1
 }
 
-// The exits past the noise pass, up to the candidate branch.
-fn late_verdict(
-    auto_adjust: bool,
-    r: Reading,
-    l: LastDescriptor,
-    threshold: f32,
-    working: f32,
-    point: &[f32],
-    scale: &[f32],
-    shift: &[f32],
-    difference_deviations: &[f32],
-    high: &[f64],
-    low: &[f64],
-    median: &[f32],
-    ideal_high: &[f64],
-    ideal_low: &[f64],
-    neighbours: &[f32],
-) -> Verdict
-    requires { ⌜ Steps.Branching r l (Steps.late (now point) (now scale) (now shift) (now «difference_deviations») (now high) (now low) (now median) (now «ideal_high») (now «ideal_low») (now neighbours)) ⌝ }
-    ensures { λ v. ⌜ v ≡ Judging.lateVerdict r l (Steps.late (now (point .entry)) (now (scale .entry)) (now (shift .entry)) (now («difference_deviations» .entry)) (now (high .entry)) (now (low .entry)) (now (median .entry)) (now («ideal_high» .entry)) (now («ideal_low» .entry)) (now (neighbours .entry))) «auto_adjust» threshold working ⌝ }
-{
-    let base = r.base_dimension;
-    let start = start_of(r, l, high, low);
-    let edges = box_of(r, start, point, scale, shift, difference_deviations);
-    if scoring::auto_explained(auto_adjust, &edges[..base], point, start, scale, neighbours) {
-        return Verdict::Corrected(threshold, CorrectionMode::CONDITIONAL_FORECAST);
-    }
-    if scoring::in_shingle(r, l, high, low, ideal_high, ideal_low, threshold) {
-        return Verdict::Corrected(threshold, CorrectionMode::ANOMALY_IN_SHINGLE);
-    }
-    if within_expected(&edges[..base], start, base, scale, point, high, low, median) {
-        return Verdict::Corrected(threshold, CorrectionMode::FORECAST);
-    }
-    Verdict::Raised(threshold, working)
+// Where a reading ends, up to the noise pass; or the threshold and the grade that it is past it with.
+enum Way {
+    Refused(Refusal),
+    Skipped,
+    Quiet(f32),
+    Corrected(f32, CorrectionMode),
+    Past(f32, f32),
 }
 
-// Up to the noise pass: the mode of an exit, or the working grade.
-enum Passed {
-    Ended(CorrectionMode),
-    Working(f32),
-}
-
-fn noise_exit(
+// Above an opening grade of 0: the corrected point's grade, and the noise pass.
+fn graded_way(
     t: BasicThresholder,
     r: Reading,
     l: LastDescriptor,
-    grade: f32,
+    opened: Graded,
     point: &[f32],
     scale: &[f32],
     shift: &[f32],
     difference_deviations: &[f32],
     last_expected: &[f32],
     last_anomalous: &[f32],
-) -> Passed
+) -> Way
     requires { ⌜ Steps.Correctable r l (Steps.passing (now point) (now scale) (now shift) (now «difference_deviations») (now «last_expected») (now «last_anomalous»)) ⌝ }
-    ensures { λ p. ⌜ p ≡ Steps.passed r l (Steps.passing (now (point .entry)) (now (scale .entry)) (now (shift .entry)) (now («difference_deviations» .entry)) (now («last_expected» .entry)) (now («last_anomalous» .entry))) t grade ⌝ }
+    ensures { λ y. ⌜ y ≡ Steps.gradedWay r l (Steps.passing (now (point .entry)) (now (scale .entry)) (now (shift .entry)) (now («difference_deviations» .entry)) (now («last_expected» .entry)) (now («last_anomalous» .entry))) t opened ⌝ }
 {
     if scoring::corrected_quiet(t, r, l) {
-        return Passed::Ended(CorrectionMode::ANOMALY_IN_SHINGLE);
+        return Way::Corrected(opened.threshold, CorrectionMode::ANOMALY_IN_SHINGLE);
     }
-    let working = grade
+    let working = opened.grade
         * noise_pass(
             r,
             l,
@@ -235,15 +183,14 @@ fn noise_exit(
             last_anomalous,
         );
     if working == 0.0 {
-        return Passed::Ended(CorrectionMode::NOISE);
+        return Way::Corrected(opened.threshold, CorrectionMode::NOISE);
     }
-    Passed::Working(working)
+    Way::Past(opened.threshold, working)
 }
 
-// The entry checks, then every exit but the candidate branch's. The last three numbers are the lengths of the buffers to write.
-fn open_outcome(
+// The entry checks, then every exit up to the noise pass. The last three numbers are the lengths of the buffers to write.
+fn find_way(
     t: BasicThresholder,
-    auto_adjust: bool,
     counts_ok: bool,
     base: usize,
     r: Reading,
@@ -263,8 +210,8 @@ fn open_outcome(
     expected: usize,
     out_high: usize,
     out_low: usize,
-) -> Outcome
-    ensures { λ o. ⌜ o ≡ Steps.openOutcome r l (lent (now (point .entry)) (now (scale .entry)) (now (shift .entry)) (now («difference_deviations» .entry)) (now («last_expected» .entry)) (now («last_anomalous» .entry)) (now (high .entry)) (now (low .entry)) (now (median .entry)) (now («ideal_high» .entry)) (now («ideal_low» .entry)) (now (neighbours .entry))) t «auto_adjust» base expected «out_high» «out_low» «counts_ok» ⌝ }
+) -> Way
+    ensures { λ y. ⌜ y ≡ Steps.way r l (lent (now (point .entry)) (now (scale .entry)) (now (shift .entry)) (now («difference_deviations» .entry)) (now («last_expected» .entry)) (now («last_anomalous» .entry)) (now (high .entry)) (now (low .entry)) (now (median .entry)) (now («ideal_high» .entry)) (now («ideal_low» .entry)) (now (neighbours .entry))) t base expected «out_high» «out_low» «counts_ok» ⌝ }
 {
     let answer = descriptor::answer(
         r,
@@ -288,106 +235,72 @@ fn open_outcome(
         counts_ok,
     );
     if let Answer::Refused(why) = answer {
-        return Outcome::Refused(why);
+        return Way::Refused(why);
     }
     if r.score == 0.0 {
-        return Outcome::Accepted(Verdict::Skipped);
+        return Way::Skipped;
     }
     let opened = scoring::opening(t, r, r.score);
-    let threshold = opened.threshold;
     if opened.grade == 0.0 {
-        return Outcome::Accepted(Verdict::Quiet(threshold));
+        return Way::Quiet(opened.threshold);
     }
-    let passed = noise_exit(
+    graded_way(
         t,
         r,
         l,
-        opened.grade,
+        opened,
         point,
         scale,
         shift,
         difference_deviations,
         last_expected,
         last_anomalous,
-    );
-    match passed {
-        Passed::Ended(mode) => Outcome::Accepted(Verdict::Corrected(threshold, mode)),
-        Passed::Working(working) => Outcome::Accepted(late_verdict(
-            auto_adjust,
-            r,
-            l,
-            threshold,
-            working,
-            point,
-            scale,
-            shift,
-            difference_deviations,
-            high,
-            low,
-            median,
-            ideal_high,
-            ideal_low,
-            neighbours,
-        )),
-    }
-}
-
-// Without auto adjust no row is counted, and nothing is data drift.
-fn candidate_run(
-    s: PredictorCorrector,
-    r: Reading,
-    l: LastDescriptor,
-    start: usize,
-    threshold: f32,
-    point: &[f32],
-    difference_deviations: &[f32],
-    high: &[f64],
-    low: &[f64],
-    median: &[f32],
-) -> Counted
-    requires { ⌜ r .«shingle_size» ≤ 64 ⌝ ∗ ⌜ length (now point) ≤ 1024 ⌝ ∗ ⌜ CorrectorSteps.Expecting (length (now high)) (length (now low)) start (r .«base_dimension») (length (now point)) (length (now median)) (length (now point)) ⌝ }
-    ensures { λ c. ⌜ c ≡ countedRun s r l (r .«shingle_size») threshold (now (point .entry)) (Corrector.expectedPoint (now (high .entry)) (now (low .entry)) start (r .«base_dimension») (now (point .entry)) (now (median .entry))) (now («difference_deviations» .entry)) ⌝ }
-{
-    if !s.auto_adjust {
-        return Counted {
-            drift: false,
-            state: s,
-        };
-    }
-    let d = point.len();
-    let mut work = zeros();
-    corrector::expected_point(
-        high,
-        low,
-        start,
-        r.base_dimension,
-        point,
-        median,
-        &mut work[..d],
-    );
-    candidate::count_run(
-        s,
-        r,
-        l,
-        r.shingle_size as u32,
-        threshold,
-        point,
-        &work[..d],
-        difference_deviations,
     )
 }
 
-// Counted back from the newest block, which is 0.
-fn relative_index(block: usize, shingle_size: usize) -> i32
-    requires { ⌜ block ≤ 1024 ⌝ ∗ ⌜ «shingle_size» ≤ 64 ⌝ }
-    ensures { λ r. ⌜ r ≡ pos block -ℤ pos «shingle_size» +ℤ pos 1 ⌝ }
+// The judgment of a quiet reading: the run ends.
+fn quiet(s: PredictorCorrector, r: Reading, l: LastDescriptor, threshold: f32) -> Judgment
+    ensures { λ j. ⌜ j ≡ Steps.quiet s r l threshold ⌝ }
 {
-    (block as i32) - (shingle_size as i32) + 1
+    Judgment {
+        outcome: Outcome::Accepted(Verdict::Quiet(threshold)),
+        relative_index: 0,
+        state: scoring::entered(s.run_ended(), r, l, r.score),
+    }
 }
 
-// The judgment at either end of the candidate branch.
-fn branch_judgment(
-    counted: Counted,
+// Of a corrected reading, data drift apart: `update_auto_adjust`.
+fn corrected(
+    s: PredictorCorrector,
+    r: Reading,
+    l: LastDescriptor,
+    threshold: f32,
+    mode: CorrectionMode,
+    point: &[f32],
+) -> Judgment
+    ensures { λ j. ⌜ j ≡ Steps.corrected s r l threshold mode (now (point .entry)) ⌝ }
+{
+    Judgment {
+        outcome: Outcome::Accepted(Verdict::Corrected(threshold, mode)),
+        relative_index: 0,
+        state: scoring::entered(s.auto_adjusted(point), r, l, scoring::corrected_score(r, l)),
+    }
+}
+
+// Of data drift, for the state with the candidate's rows counted.
+fn drifted(s: PredictorCorrector, r: Reading, l: LastDescriptor, threshold: f32) -> Judgment
+    ensures { λ j. ⌜ j ≡ Steps.drifted s r l threshold ⌝ }
+{
+    Judgment {
+        outcome: Outcome::Accepted(Verdict::Corrected(threshold, CorrectionMode::DATA_DRIFT)),
+        relative_index: 0,
+        state: scoring::entered(s, r, l, scoring::corrected_score(r, l)),
+    }
+}
+
+// Of a raised reading, which is one more of the run.
+fn raised(
+    s: PredictorCorrector,
     r: Reading,
     l: LastDescriptor,
     block: usize,
@@ -395,31 +308,27 @@ fn branch_judgment(
     grade: f32,
 ) -> Judgment
     requires { ⌜ block ≤ 1024 ⌝ ∗ ⌜ r .«shingle_size» ≤ 64 ⌝ }
-    ensures { λ j. ⌜ j ≡ Steps.branchJudgment counted r l block threshold grade ⌝ }
+    ensures { λ j. ⌜ j ≡ Steps.raised s r l block threshold grade ⌝ }
 {
-    let used = scoring::corrected_score(r, l);
-    if counted.drift {
-        return Judgment {
-            outcome: Outcome::Accepted(Verdict::Corrected(threshold, CorrectionMode::DATA_DRIFT)),
-            relative_index: 0,
-            state: scoring::entered(counted.state, r, l, used),
-        };
-    }
     Judgment {
         outcome: Outcome::Accepted(Verdict::Raised(threshold, grade)),
         relative_index: relative_index(block, r.shingle_size),
-        state: scoring::entered(counted.state.run_grown(), r, l, used),
+        state: scoring::entered(s.run_grown(), r, l, scoring::corrected_score(r, l)),
     }
 }
 
-// The candidate branch: data drift, or raised, which alone writes the buffers and is one more of the run.
-fn raise(
+// The exits that look at the expected point: forecast, data drift, or raised, which alone writes the buffers.
+fn expected_exits(
     s: PredictorCorrector,
     r: Reading,
     l: LastDescriptor,
+    block: usize,
+    start: usize,
+    edges: [f32; 16],
     threshold: f32,
     grade: f32,
     point: &[f32],
+    scale: &[f32],
     difference_deviations: &[f32],
     high: &[f64],
     low: &[f64],
@@ -428,25 +337,28 @@ fn raise(
     out_high: &mut [f64],
     out_low: &mut [f64],
 ) -> Judgment
-    requires { ⌜ Steps.Branching r l (Steps.branch (now point) (now «difference_deviations») (now high) (now low) (now median)) ⌝ ∗ ⌜ Steps.Writing (Steps.branch (now point) (now «difference_deviations») (now high) (now low) (now median)) (length (now expected)) (length (now «out_high»)) (length (now «out_low»)) ⌝ }
-    ensures { λ j. ⌜ Steps.Branched s r l (Steps.branch (now (point .entry)) (now («difference_deviations» .entry)) (now (high .entry)) (now (low .entry)) (now (median .entry))) threshold grade j (now (expected .entry)) (now («out_high» .entry)) (now («out_low» .entry)) (now (expected .exit)) (now («out_high» .exit)) (now («out_low» .exit)) ⌝ }
+    requires { ⌜ Steps.Branching r l (Steps.branch (now point) (now scale) (now «difference_deviations») (now high) (now low) (now median)) ⌝ ∗ ⌜ Steps.Writing (Steps.branch (now point) (now scale) (now «difference_deviations») (now high) (now low) (now median)) (length (now expected)) (length (now «out_high»)) (length (now «out_low»)) ⌝ ∗ ⌜ block ≡ Judging.block r l (Steps.branch (now point) (now scale) (now «difference_deviations») (now high) (now low) (now median)) ⌝ ∗ ⌜ start ≡ Judging.start r l (Steps.branch (now point) (now scale) (now «difference_deviations») (now high) (now low) (now median)) ⌝ ∗ ⌜ length edges ≡ 16 ⌝ }
+    ensures { λ j. ⌜ Steps.Left s r l (Steps.branch (now (point .entry)) (now (scale .entry)) (now («difference_deviations» .entry)) (now (high .entry)) (now (low .entry)) (now (median .entry))) (Steps.expectedOutcome s r l (Steps.branch (now (point .entry)) (now (scale .entry)) (now («difference_deviations» .entry)) (now (high .entry)) (now (low .entry)) (now (median .entry))) (take (r .«base_dimension») edges) threshold grade) j (now (expected .entry)) (now («out_high» .entry)) (now («out_low» .entry)) (now (expected .exit)) (now («out_high» .exit)) (now («out_low» .exit)) ⌝ }
 {
-    let block = scoring::anomaly_block(r, l, high, low);
-    let start = block_start(block, r.base_dimension);
-    let counted = candidate_run(
+    let base = r.base_dimension;
+    let d = point.len();
+    let mut work = zeros();
+    corrector::expected_point(high, low, start, base, point, median, &mut work[..d]);
+    if uncertainty_box::within_unertainty_box(&edges[..base], start, scale, point, &work[..d]) {
+        return corrected(s, r, l, threshold, CorrectionMode::FORECAST, point);
+    }
+    let counted = candidate::count_run(
         s,
         r,
         l,
-        start,
+        r.shingle_size as u32,
         threshold,
         point,
+        &work[..d],
         difference_deviations,
-        high,
-        low,
-        median,
     );
     if counted.drift {
-        return branch_judgment(counted, r, l, block, threshold, grade);
+        return drifted(counted.state, r, l, threshold);
     }
     scoring::write_raised(
         r,
@@ -459,88 +371,83 @@ fn raise(
         out_high,
         out_low,
     );
-    branch_judgment(counted, r, l, block, threshold, grade)
+    raised(counted.state, r, l, block, threshold, grade)
 }
 
-// Whether an outcome raises so far, and with what threshold and grade.
-struct Alarm {
-    on: bool,
-    threshold: f32,
-    grade: f32,
-}
-
-fn no_alarm() -> Alarm
-    ensures { λ a. ⌜ a ≡ Steps.noAlarm ⌝ }
-{
-    Alarm {
-        on: false,
-        threshold: 0.0,
-        grade: 0.0,
-    }
-}
-
-fn alarm_of(outcome: Outcome) -> Alarm
-    ensures { λ a. ⌜ a ≡ Steps.alarmOf outcome ⌝ }
-{
-    match outcome {
-        Outcome::Refused(_) => no_alarm(),
-        Outcome::Accepted(verdict) => match verdict {
-            Verdict::Quiet(_) => no_alarm(),
-            Verdict::Corrected(_, _) => no_alarm(),
-            Verdict::Raised(threshold, grade) => Alarm {
-                on: true,
-                threshold,
-                grade,
-            },
-            Verdict::Skipped => no_alarm(),
-        },
-    }
-}
-
-// The judgment of an outcome that does not reach the candidate branch.
-fn calm_judgment(
+// The exits past the noise pass: first those that look at the block that contributes most.
+fn past_noise(
     s: PredictorCorrector,
     r: Reading,
     l: LastDescriptor,
-    outcome: Outcome,
+    threshold: f32,
+    grade: f32,
     point: &[f32],
+    scale: &[f32],
+    shift: &[f32],
+    difference_deviations: &[f32],
+    high: &[f64],
+    low: &[f64],
+    median: &[f32],
+    ideal_high: &[f64],
+    ideal_low: &[f64],
+    neighbours: &[f32],
+    expected: &mut [f32],
+    out_high: &mut [f64],
+    out_low: &mut [f64],
 ) -> Judgment
-    ensures { λ j. ⌜ Steps.Calm s r l (now (point .entry)) outcome j ⌝ }
+    requires { ⌜ Steps.Branching r l (Steps.late (now point) (now scale) (now shift) (now «difference_deviations») (now high) (now low) (now median) (now «ideal_high») (now «ideal_low») (now neighbours)) ⌝ ∗ ⌜ Steps.Writing (Steps.late (now point) (now scale) (now shift) (now «difference_deviations») (now high) (now low) (now median) (now «ideal_high») (now «ideal_low») (now neighbours)) (length (now expected)) (length (now «out_high»)) (length (now «out_low»)) ⌝ }
+    ensures { λ j. ⌜ Steps.Left s r l (Steps.late (now (point .entry)) (now (scale .entry)) (now (shift .entry)) (now («difference_deviations» .entry)) (now (high .entry)) (now (low .entry)) (now (median .entry)) (now («ideal_high» .entry)) (now («ideal_low» .entry)) (now (neighbours .entry))) (Steps.lateOutcome s r l (Steps.late (now (point .entry)) (now (scale .entry)) (now (shift .entry)) (now («difference_deviations» .entry)) (now (high .entry)) (now (low .entry)) (now (median .entry)) (now («ideal_high» .entry)) (now («ideal_low» .entry)) (now (neighbours .entry))) threshold grade) j (now (expected .entry)) (now («out_high» .entry)) (now («out_low» .entry)) (now (expected .exit)) (now («out_high» .exit)) (now («out_low» .exit)) ⌝ }
 {
-    match outcome {
-        Outcome::Refused(_) => Judgment {
-            outcome,
-            relative_index: 0,
-            state: s,
-        },
-        Outcome::Accepted(verdict) => match verdict {
-            Verdict::Quiet(_) => Judgment {
-                outcome,
-                relative_index: 0,
-                state: scoring::entered(s.run_ended(), r, l, r.score),
-            },
-            Verdict::Corrected(_, _) => Judgment {
-                outcome,
-                relative_index: 0,
-                state: scoring::entered(
-                    s.auto_adjusted(point),
-                    r,
-                    l,
-                    scoring::corrected_score(r, l),
-                ),
-            },
-            Verdict::Raised(_, _) => Judgment {
-                outcome,
-                relative_index: 0,
-                state: s,
-            },
-            Verdict::Skipped => Judgment {
-                outcome,
-                relative_index: 0,
-                state: s,
-            },
-        },
+    let base = r.base_dimension;
+    let block = scoring::anomaly_block(r, l, high, low);
+    let start = block_start(block, base);
+    let edges = box_of(r, start, point, scale, shift, difference_deviations);
+    if scoring::auto_explained(
+        s.auto_adjust,
+        &edges[..base],
+        point,
+        start,
+        scale,
+        neighbours,
+    ) {
+        return corrected(
+            s,
+            r,
+            l,
+            threshold,
+            CorrectionMode::CONDITIONAL_FORECAST,
+            point,
+        );
     }
+    if scoring::in_shingle(r, l, high, low, ideal_high, ideal_low, threshold) {
+        return corrected(
+            s,
+            r,
+            l,
+            threshold,
+            CorrectionMode::ANOMALY_IN_SHINGLE,
+            point,
+        );
+    }
+    expected_exits(
+        s,
+        r,
+        l,
+        block,
+        start,
+        edges,
+        threshold,
+        grade,
+        point,
+        scale,
+        difference_deviations,
+        high,
+        low,
+        median,
+        expected,
+        out_high,
+        out_low,
+    )
 }
 
 // Judges a reading: document 01's entry checks, then the Rust's `detect_and_modify`. The expected point and the normalised attribution
@@ -568,9 +475,8 @@ pub fn detect_and_modify(
     ensures { λ j. ⌜ Judged.Judged s r l (lent (now (point .entry)) (now (scale .entry)) (now (shift .entry)) (now («difference_deviations» .entry)) (now («last_expected» .entry)) (now («last_anomalous» .entry)) (now (high .entry)) (now (low .entry)) (now (median .entry)) (now («ideal_high» .entry)) (now («ideal_low» .entry)) (now (neighbours .entry))) j (now (expected .entry)) (now («out_high» .entry)) (now («out_low» .entry)) (now (expected .exit)) (now («out_high» .exit)) (now («out_low» .exit)) ⌝ }
 {
     let base = s.base_dimension as usize;
-    let outcome = open_outcome(
+    let way = find_way(
         s.basic_thresholder,
-        s.auto_adjust,
         s.counts_ok(),
         base,
         r,
@@ -591,23 +497,38 @@ pub fn detect_and_modify(
         out_high.len(),
         out_low.len(),
     );
-    let alarm = alarm_of(outcome);
-    if alarm.on {
-        return raise(
+    match way {
+        Way::Refused(why) => Judgment {
+            outcome: Outcome::Refused(why),
+            relative_index: 0,
+            state: s,
+        },
+        Way::Skipped => Judgment {
+            outcome: Outcome::Accepted(Verdict::Skipped),
+            relative_index: 0,
+            state: s,
+        },
+        Way::Quiet(threshold) => quiet(s, r, l, threshold),
+        Way::Corrected(threshold, mode) => corrected(s, r, l, threshold, mode, point),
+        Way::Past(threshold, grade) => past_noise(
             s,
             r,
             l,
-            alarm.threshold,
-            alarm.grade,
+            threshold,
+            grade,
             point,
+            scale,
+            shift,
             difference_deviations,
             high,
             low,
             median,
+            ideal_high,
+            ideal_low,
+            neighbours,
             expected,
             out_high,
             out_low,
-        );
+        ),
     }
-    calm_judgment(s, r, l, outcome, point)
 }
