@@ -13,7 +13,7 @@ use Rattle.basicthresholder.specs.Updates.{horizonAnswer, isHorizon}
 use Rattle.divector.specs.DiVector.{maxGapContribution, badBlocks, firstBlock, winner, bestFrom, blockSum, pairSum, normalized, totalOf, sumFrom, share}
 use Rattle.corrector.specs.Corrector.{applyBasicCorrector, amended, amendedRow, shifted, forUpTo, pointRefusal}
 use Rattle.uncertainty_box.specs.Box.{pathDeviation, pathLoop, pathMean, pathStep}
-use Rattle.drill_sheet.specs.DrillSheet.{Row, Holds, sheet}
+use Rattle.drill_sheet.specs.DrillSheet.{Row, Holds, sheet, Statement}
 
 -- One side of every row.
 abbrev Side : List Row → Type 0
@@ -45,7 +45,6 @@ unfolding ofBits ofInt sub mul div le floor sqrt maxf32 minf32 absf32
 computed discount true method shingle timed = refl
 computed discount false method shingle timed = refl
 
-pub every-row-holds :
-    (discount : Float) (adjust : Bool) (method : TransformMethod) (shingle : ℕ) (timed : Bool) → Holds (sheet discount adjust method shingle timed)
+pub every-row-holds : Statement
 every-row-holds discount adjust method shingle timed =
     row-by-row (sheet discount adjust method shingle timed) (computed discount adjust method shingle timed)

@@ -117,3 +117,7 @@ sheet discount adjust method shingle timed =
     ∷ (pointRefusal 64 17 1088 gives 2)
     ∷ (answered (horizonAnswer (f32 1 1)) gives 0)
     ∷ []
+
+-- The statement: whatever document 01 leaves open, every row is right.
+abbrev pub Statement : Type 0
+Statement = (discount : Float) (adjust : Bool) (method : TransformMethod) (shingle : ℕ) (timed : Bool) → Holds (sheet discount adjust method shingle timed)

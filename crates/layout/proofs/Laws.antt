@@ -15,6 +15,7 @@ use Rattle.deviation.specs.declared.Deviation.{Deviation}
 use Rattle.basicthresholder.specs.declared.BasicThresholder.{BasicThresholder}
 use Rattle.layout.specs.Numbers.{le4, le8, bytes4, bytes8, signed, unsigned, f32At, f64At, i32At, flagAt, f32Bytes, f64Bytes, i32Bytes, flagBytes}
 use Rattle.layout.specs.States.{joined, deviationAt, decodeDeviation, decodeThresholder, encodeDeviation, encodeThresholder}
+use Rattle.layout.specs.Fits.{DeviationFits, ThresholderFits}
 
 -- ---- how many bytes.
 pub deviation-length : (d : Deviation) → length (encodeDeviation d) ≡ 36
@@ -68,29 +69,7 @@ unfolding flagAt flagBytes
 flag-back true = refl
 flag-back false = refl
 
--- ---- a state comes back from its bytes, if its floats are values of their formats (of which NaN is one) and its counts are from -2^31 to 2^31 - 1.
-pub record DeviationFits (d : Deviation) : Type 0 where
-  pub discount : T (fits binary64 (d .discount))
-  pub weight : T (fits binary64 (d .weight))
-  pub squared : T (fits binary64 (d .«sum_squared»))
-  pub sum : T (fits binary64 (d .sum))
-  pub count : mag (d .count) < 0x8000_0000
-
-pub record ThresholderFits (s : BasicThresholder) : Type 0 where
-  pub elasticity : T (fits binary32 (s .elasticity))
-  pub count : mag (s .count) < 0x8000_0000
-  pub differencing : T (fits binary32 (s .«score_differencing»))
-  pub last : T (fits binary32 (s .«last_score»))
-  pub primary : DeviationFits (s .«primary_deviation»)
-  pub secondary : DeviationFits (s .«secondary_deviation»)
-  pub third : DeviationFits (s .«threshold_deviation»)
-  pub absolute : T (fits binary32 (s .«absolute_threshold»))
-  pub fraction : T (fits binary32 (s .«absolute_score_fraction»))
-  pub lower : T (fits binary32 (s .«lower_threshold»))
-  pub adjustment : T (fits binary32 (s .«factor_adjustment_threshold»))
-  pub initial : T (fits binary32 (s .«initial_threshold»))
-  pub factor : T (fits binary32 (s .«z_factor»))
-
+-- ---- a statistic and a thresholder come back from their bytes.
 pub deviation-back : (d : Deviation) → DeviationFits d → decodeDeviation (encodeDeviation d) ≡ d
 unfolding deviationAt encodeDeviation joined f64At i32At f64Bytes i32Bytes le8 le4 bytes8 bytes4
 deviation-back d h = λ i. record {

@@ -1,0 +1,140 @@
+-- A decoded state written back over its own bytes: the bytes in canonical form. Assumes nothing.
+use mathlib.Core.Path.{_≡_, refl, sym, ap, ap₂, _∙_, subst}
+use mathlib.Core.Bool.{Bool, true, false, not, cond}
+use mathlib.Core.List.{List, [], _∷_, _++_}
+use Prim.Native.Nat.{ℕ, zero, suc, _+_, _-_, _*_, _<_, _≤_}
+use native.Mathlib.Nat.{not-suc-le-zero}
+use native.Mathlib.Omega.{arith}
+use lib.ListN.{length, getD, length-replicate, replicate, length-append}
+use Rattle.deviation.specs.Const.{zero64}
+use Rattle.deviation.specs.Statistics.{fresh}
+use Rattle.deviation.specs.declared.Deviation.{Deviation}
+use Rattle.layout.specs.Numbers.{le4, le8, bytes4, bytes8, f32At, f64At, i32At, flagAt, f32Bytes, f64Bytes, i32Bytes, flagBytes, pasted}
+use Rattle.layout.specs.States.{joined, deviationAt, encodeDeviation, decodeThresholder, encodeThresholder}
+use Rattle.layout.specs.Chain.{entries, filled, emptyList, listAt, decodeState, listOver, encodeHead, encodeStateOver}
+use Rattle.layout.proofs.Laws.{deviation-length}
+use Rattle.layout.proofs.Pasting.{pasted-length, pastedAll, pasted-all}
+use Rattle.stored_state.specs.Canonical.{Field, single, count, number, flag, statistic, width, calm, calmAll, headFields, calmStatistic, calmList, canonical, PlainStatistic, PlainField, PlainAll, Plain}
+use Rattle.stored_state.proofs.Windows.{Alike, part, front, then, before, behind}
+use Rattle.stored_state.proofs.Back.{entries-most, filled-held, over-length, over-before, over-behind, head-length}
+use Rattle.stored_state.proofs.Again.{later, put-on, single-put, number-put, count-put, flag-put, statistic-put}
+
+-- The bytes that a decoded field is written in.
+abbrev bytesOf : List ℕ → ℕ → Field → List ℕ
+bytesOf xs p single = f32Bytes (f32At xs p)
+bytesOf xs p count = i32Bytes (i32At xs p)
+bytesOf xs p number = bytes4 (le4 xs p)
+bytesOf xs p flag = flagBytes (flagAt xs p)
+bytesOf xs p statistic = encodeDeviation (deviationAt xs p)
+
+abbrev allOf : List ℕ → ℕ → List Field → List (List ℕ)
+allOf xs p [] = []
+allOf xs p (f ∷ fs) = bytesOf xs p f ∷ allOf xs (p + width f) fs
+
+abbrev span : List Field → ℕ
+span [] = 0
+span (f ∷ fs) = width f + span fs
+
+field-long : (xs : List ℕ) (p : ℕ) (f : Field) → length (bytesOf xs p f) ≡ width f
+unfolding f32Bytes i32Bytes flagBytes bytes4
+field-long xs p single = refl
+field-long xs p count = refl
+field-long xs p number = refl
+field-long xs p flag = refl
+field-long xs p statistic = deviation-length (deviationAt xs p)
+
+all-long : (xs : List ℕ) (fs : List Field) (p : ℕ) → length (joined (allOf xs p fs)) ≡ span fs
+unfolding joined
+all-long xs [] p = refl
+all-long xs (f ∷ fs) p = length-append (bytesOf xs p f) (joined (allOf xs (p + width f) fs)) ∙ ap₂ (λ (a b : ℕ). a + b) (field-long xs p f) (all-long xs fs (p + width f))
+
+module _ (xs : List ℕ) (b : (i : ℕ) → getD xs i 0 < 256) where
+  field-put : (cur : List ℕ) (p : ℕ) (f : Field) → p + width f ≤ length cur → Alike cur p xs p (width f) → pasted cur p (bytesOf xs p f) ≡ calm f cur p
+  field-put cur p single h w = single-put xs b cur p h w
+  field-put cur p count h w = count-put xs b cur p h w
+  field-put cur p number h w = number-put xs b cur p h w
+  field-put cur p flag h w = flag-put xs b cur p h w
+  field-put cur p statistic h w = statistic-put xs b cur p h w
+
+  fields-put : (fs : List Field) (cur : List ℕ) (p : ℕ) → p + span fs ≤ length cur → Alike cur p xs p (span fs) → pastedAll cur p (allOf xs p fs) ≡ calmAll cur p fs
+  fields-put [] cur p h w = refl
+  fields-put (f ∷ fs) cur p h w =
+      let c = bytesOf xs p f in
+      let l : length c ≡ width f = field-long xs p f in
+      let m = put-on xs cur p c (p + width f) (span fs) (omega arith) (omega arith) (part w (width f) (span fs) (omega arith)) in
+      let size : length (pasted cur p c) ≡ length cur = m .0 in
+      ap (λ (q : ℕ). pastedAll (pasted cur p c) q (allOf xs (p + width f) fs)) (omega arith)
+      ∙ fields-put fs (pasted cur p c) (p + width f) (omega arith) (m .1)
+      ∙ ap (λ (o : List ℕ). calmAll o (p + width f) fs) (field-put cur p f (omega arith) (front w (width f) (omega arith)))
+
+  list-put : (cur : List ℕ) (at : ℕ) (ds : List Deviation) (n : ℕ) → ((k : ℕ) → k < n → getD ds k (fresh zero64) ≡ deviationAt xs (at + 36 * k))
+      → at + 36 * n ≤ length cur → Alike cur at xs at (36 * n) → listOver cur at ds n ≡ calmList cur at n
+  unfolding listOver
+  list-put cur at ds zero e h w = refl
+  list-put cur at ds (suc n) e h w =
+      let l = listOver cur at ds n in
+      let size : length l ≡ length cur = over-length cur at ds n (omega arith) in
+      let ahead : Alike l (at + 36 * n) xs (at + 36 * n) 36 =
+      then (over-behind cur at ds n (omega arith) (at + 36 * n) 36 (omega arith)) (part w (36 * n) 36 (omega arith)) in
+      ap (λ (d : Deviation). pasted l (at + 36 * n) (encodeDeviation d)) (e n (omega arith))
+      ∙ statistic-put xs b l (at + 36 * n) (omega arith) ahead
+      ∙ ap (λ (o : List ℕ). calmStatistic o (at + 36 * n)) (list-put cur at ds n (λ (k : ℕ) (m : k < n). e k (omega arith)) (omega arith) (front w (36 * n) (omega arith)))
+
+head-is : (xs : List ℕ) → encodeHead (decodeState xs) ≡ joined (allOf xs 0 headFields)
+unfolding encodeHead decodeState decodeThresholder encodeThresholder encodeDeviation joined f32Bytes f64Bytes i32Bytes flagBytes bytes8 bytes4
+head-is xs = refl
+
+pub held : (xs : List ℕ) (at n : ℕ) → n ≤ 16 → (k : ℕ) → k < n → getD (listAt xs at n) k (fresh zero64) ≡ deviationAt xs (at + 36 * k)
+unfolding listAt emptyList
+held xs at n m k h = filled-held (λ (k : ℕ). deviationAt xs (at + 36 * k)) n (replicate 16 (fresh zero64)) k (fresh zero64) m h
+
+-- Encoding over bytes the state decoded from them.
+pub state-again : (xs : List ℕ) → length xs ≡ 1310 → ((i : ℕ) → getD xs i 0 < 256) → encodeStateOver xs (decodeState xs) ≡ canonical xs
+unfolding encodeStateOver decodeState canonical
+state-again xs size b =
+    let n = entries (flagAt xs 149) (le4 xs 154) in
+    let few : n ≤ 16 = entries-most (flagAt xs 149) (le4 xs 154) in
+    let head = pasted xs 0 (encodeHead (decodeState xs)) in
+    let long : length (encodeHead (decodeState xs)) ≡ 158 = head-length (decodeState xs) in
+    let head-size : length head ≡ 1310 = pasted-length xs 0 (encodeHead (decodeState xs)) (omega arith) ∙ size in
+    let head-calm : head ≡ calmAll xs 0 headFields =
+    ap (pasted xs 0) (head-is xs) ∙ sym (pasted-all xs 0 (allOf xs 0 headFields) (omega (arith, all-long xs headFields 0)))
+    ∙ fields-put xs b headFields xs 0 (omega arith) (record { at = λ (k : ℕ) (l : k < 158). refl }) in
+    let rest : (i m : ℕ) → 158 ≤ i → Alike head i xs i m = λ (i m : ℕ) (h : 158 ≤ i). behind xs 0 (encodeHead (decodeState xs)) (omega arith) i m (omega arith) in
+    let one = listOver head 158 (listAt xs 158 n) n in
+    let one-size : length one ≡ 1310 = over-length head 158 (listAt xs 158 n) n (omega arith) ∙ head-size in
+    let one-calm : one ≡ calmList head 158 n = list-put xs b head 158 (listAt xs 158 n) n (held xs 158 n few) (omega arith) (rest 158 (36 * n) (omega arith)) in
+    let further : Alike one 734 xs 734 (36 * n) = then (over-behind head 158 (listAt xs 158 n) n (omega arith) 734 (36 * n) (omega arith)) (rest 734 (36 * n) (omega arith)) in
+    list-put xs b one 734 (listAt xs 734 n) n (held xs 734 n few) (omega arith) further
+    ∙ ap (λ (o : List ℕ). calmList o 734 n) (one-calm ∙ ap (λ (o : List ℕ). calmList o 158 n) head-calm)
+
+-- ---- nothing to change
+plain-statistic : (xs : List ℕ) (p : ℕ) → PlainStatistic xs p → calmStatistic xs p ≡ xs
+plain-statistic xs p h = rw (h .0, h .1 .0, h .1 .1 .0, h .1 .1 .1) refl
+
+plain-field : (f : Field) (xs : List ℕ) (p : ℕ) → PlainField f xs p → calm f xs p ≡ xs
+plain-field single xs p h = rw h refl
+plain-field count xs p h = refl
+plain-field number xs p h = refl
+plain-field flag xs p h = rw h refl
+plain-field statistic xs p h = plain-statistic xs p h
+
+plain-all : (fs : List Field) (xs : List ℕ) (p : ℕ) → PlainAll xs p fs → calmAll xs p fs ≡ xs
+plain-all [] xs p h = refl
+plain-all (f ∷ fs) xs p h = ap (λ (o : List ℕ). calmAll o (p + width f) fs) (plain-field f xs p (h .0)) ∙ plain-all fs xs (p + width f) (h .1)
+
+plain-list : (n : ℕ) (xs : List ℕ) (at : ℕ) → ((k : ℕ) → k < n → PlainStatistic xs (at + 36 * k)) → calmList xs at n ≡ xs
+plain-list zero xs at h = refl
+plain-list (suc n) xs at h =
+    ap (λ (o : List ℕ). calmStatistic o (at + 36 * n)) (plain-list n xs at (λ (k : ℕ) (l : k < n). h k (omega arith))) ∙ plain-statistic xs (at + 36 * n) (h n (omega arith))
+
+pub plain-kept : (xs : List ℕ) → Plain xs → canonical xs ≡ xs
+unfolding canonical
+plain-kept xs h =
+    let n = entries (flagAt xs 149) (le4 xs 154) in
+    ap (λ (o : List ℕ). calmList (calmList o 158 n) 734 n) (plain-all headFields xs 0 (h .head))
+    ∙ ap (λ (o : List ℕ). calmList o 734 n) (plain-list n xs 158 (h .actual)) ∙ plain-list n xs 734 (h .expected)
+
+-- Without a NaN no byte changes.
+pub state-kept : (xs : List ℕ) → length xs ≡ 1310 → ((i : ℕ) → getD xs i 0 < 256) → Plain xs → encodeStateOver xs (decodeState xs) ≡ xs
+state-kept xs size b h = state-again xs size b ∙ plain-kept xs h
