@@ -1,4 +1,4 @@
-//! Builds the library's three archives where they are missing or older than their sources, and
+//! Builds the library's archives where they are missing or older than their sources, and
 //! tells the linker where they are.
 
 use std::io;
@@ -6,7 +6,7 @@ use std::path::{Path, PathBuf};
 use std::process::{Command, ExitCode};
 use std::time::SystemTime;
 
-const ARCHIVES: [&str; 3] = ["c_interface", "c_chain", "c_judging"];
+const ARCHIVES: [&str; 4] = ["c_interface", "c_chain", "c_calls", "c_judging"];
 
 /// When a file, or the newest file below a folder, was last changed.
 fn changed(path: &Path) -> io::Result<SystemTime> {

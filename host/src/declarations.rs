@@ -204,6 +204,49 @@ unsafe extern "C" {
     pub fn krcf_chain_set_horizon(state: *mut u8, state_len: usize, horizon: f32) -> u8;
 }
 
+#[link(name = "c_calls", kind = "static")]
+unsafe extern "C" {
+    pub fn krcf_expected_point(
+        shingle_size: usize,
+        base_dimension: usize,
+        position: usize,
+        point: *const f32,
+        point_len: usize,
+        high: *const f64,
+        high_len: usize,
+        low: *const f64,
+        low_len: usize,
+        median: *const f32,
+        median_len: usize,
+        out: *mut f32,
+        out_len: usize,
+    ) -> u8;
+    pub fn krcf_apply_basic_corrector(
+        point: *const f32,
+        point_len: usize,
+        gap: usize,
+        shingle_size: usize,
+        base_dimension: usize,
+        has_anomaly: u8,
+        last_expected: *const f32,
+        last_expected_len: usize,
+        last_anomalous: *const f32,
+        last_anomalous_len: usize,
+        relative_index: i32,
+        use_difference: u8,
+        time_augmented: u8,
+        out: *mut f32,
+        out_len: usize,
+    ) -> u8;
+    pub fn krcf_update_auto_adjust(
+        state: *mut u8,
+        state_len: usize,
+        shingle_size: usize,
+        point: *const f32,
+        point_len: usize,
+    ) -> u8;
+}
+
 #[link(name = "c_judging", kind = "static")]
 unsafe extern "C" {
     pub fn krcf_detect_and_modify(

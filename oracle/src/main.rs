@@ -2,6 +2,7 @@
 
 mod bench;
 mod big;
+mod buffers;
 mod bytes;
 mod chain;
 mod ledger;

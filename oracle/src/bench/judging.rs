@@ -1,6 +1,7 @@
 //! Judging. Ours is the C function on bytes and slices: entry checks, reading the state and writing
 //! it are in its time. The Rust's is detect_and_modify on its own records, over a stand-in forest
-//! that moves prepared results out and records nothing. Preparing is timed on neither side.
+//! that moves prepared results out and records nothing; beside it stands the same behind document
+//! 01's entry checks, which test finiteness in two forms. Preparing is timed on no side.
 
 use std::hint::black_box;
 
@@ -10,7 +11,8 @@ use rcflib::rcf::RCFLarge;
 use rcflib::trcf::predictorcorrector::PredictorCorrector;
 use rcflib::trcf::types::{ScoringStrategy, TransformMethod};
 
-use super::timing::{against, pass};
+use super::peer::{All, Finite, Fold, Peer};
+use super::timing::{against_checked, checked_heading, pass};
 use crate::chain::{said, Handed, STATE};
 use crate::random::Random;
 use crate::readings::exits::{exit, FORECAST, QUIET, RAISED};
@@ -139,7 +141,35 @@ impl Row {
                 }
             })
         };
-        against(&self.name(), ours, rust);
+        let all = || self.checked::<All>(calls, &reading, &handed, one);
+        let fold = || self.checked::<Fold>(calls, &reading, &handed, one);
+        against_checked(&self.name(), ours, rust, [&all, &fold]);
+    }
+
+    /// The time of the Rust behind entry checks.
+    fn checked<F: Finite>(
+        &self,
+        calls: usize,
+        reading: &Reading,
+        handed: &Handed,
+        one: impl Fn() -> (PredictorCorrector, Descriptor, RCFLarge<u64, u64>),
+    ) -> f64 {
+        let peer = || {
+            let (chain, result, forest) = one();
+            Peer {
+                chain,
+                base: self.size.1,
+                result,
+                forest,
+                lent: handed.clone(),
+            }
+        };
+        let mut batch: Vec<Peer> = (0..calls).map(|_| peer()).collect();
+        pass(calls, || {
+            for peer in &mut batch {
+                assert_eq!(black_box(peer.judge::<F>(black_box(reading))), 0);
+            }
+        })
     }
 
     /// Both sides take the row's exit and say the same.
@@ -152,6 +182,7 @@ impl Row {
 }
 
 pub fn run(random: &mut Random) {
+    checked_heading();
     for strategy in [
         ScoringStrategy::DISTANCE,
         ScoringStrategy::EXPECTED_INVERSE_HEIGHT,

@@ -2,6 +2,7 @@
 
 mod judging;
 mod numbers;
+mod peer;
 pub mod score_watch;
 mod timing;
 

@@ -41,6 +41,16 @@ fn roots(random: &mut Random) {
     });
 }
 
+/// Just below a power of four, where a root is the last of the candidates.
+fn roots_below_powers(random: &mut Random) {
+    let below = |k: u64| f64::from_bits((2.0f64).powi(2 * k as i32 - 64).to_bits() - 1);
+    let list: Vec<f64> = (0..INPUTS).map(|_| below(random.below(65))).collect();
+    let ours = || apart(&list, |x| ours::sqrt(x));
+    against("root below a power of four, called", ours, || {
+        apart(&list, called_sqrt)
+    });
+}
+
 fn floors(random: &mut Random) {
     let number = || (40.0 * random.fraction() - 20.0) as f32;
     let list: Vec<f32> = std::iter::repeat_with(number).take(INPUTS).collect();
@@ -83,6 +93,7 @@ fn narrowings(random: &mut Random) {
 
 pub fn run(random: &mut Random) {
     roots(random);
+    roots_below_powers(random);
     floors(random);
     narrowings(random);
 }

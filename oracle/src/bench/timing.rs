@@ -55,12 +55,42 @@ pub fn heading() {
     println!("{:<34} {:>9} {:>9} {:>9}", "", "ours", "rust", "ratio");
 }
 
+/// The best time of each side, the sides taking turns.
+fn best<const N: usize>(sides: [&dyn Fn() -> f64; N]) -> [f64; N] {
+    let mut best = [f64::INFINITY; N];
+    for _ in 0..ROUNDS {
+        for (least, side) in best.iter_mut().zip(sides) {
+            *least = least.min(side());
+        }
+    }
+    best
+}
+
 /// Prints the best times of the two sides.
 pub fn against(what: &str, ours: impl Fn() -> f64, rust: impl Fn() -> f64) {
-    let (mut a, mut b) = (f64::INFINITY, f64::INFINITY);
-    for _ in 0..ROUNDS {
-        a = a.min(ours());
-        b = b.min(rust());
-    }
+    let [a, b] = best([&ours, &rust]);
     println!("{what:<34} {a:>9.2} {b:>9.2} {:>9.2}", a / b);
+}
+
+pub fn checked_heading() {
+    println!(
+        "{:<34} {:>9} {:>9} {:>9} {:>9} {:>9} {:>9}",
+        "", "ours", "rust", "all", "fold", ": rust", ": checked"
+    );
+}
+
+/// Prints the best times of ours, of the Rust, and of the Rust behind entry checks in two forms;
+/// then ours over the Rust's, and over the better of the checked ones.
+pub fn against_checked(
+    what: &str,
+    ours: impl Fn() -> f64,
+    rust: impl Fn() -> f64,
+    [all, fold]: [&dyn Fn() -> f64; 2],
+) {
+    let [a, b, c, d] = best([&ours, &rust, all, fold]);
+    println!(
+        "{what:<34} {a:>9.1} {b:>9.1} {c:>9.1} {d:>9.1} {:>9.2} {:>9.2}",
+        a / b,
+        a / c.min(d)
+    );
 }

@@ -1,5 +1,6 @@
 //! The parts of the comparison. A new one is a file here and a line in the list.
 
+mod buffers;
 mod bytes;
 mod conversions;
 mod demand3;
@@ -43,5 +44,8 @@ pub const PARTS: &[Part] = &[
     part("exits", exits::compare),
     part("judging", judging::compare),
     part("bytes", bytes::compare),
+    part("expected", buffers::expected),
+    part("corrector", buffers::corrector),
+    part("adjusting", buffers::adjusting),
     part("demand3", demand3::compare),
 ];

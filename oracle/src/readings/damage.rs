@@ -1,7 +1,7 @@
 //! Ways to spoil what is handed to a judgment, by the number that refuses each.
 
 use super::table::{
-    word, ANOMALY, ATTRIBUTION, AUTO_THRESHOLD, COUNTS, LAST_SEEN, READING, READING_BASE, SEEN,
+    counts, word, ANOMALY, ATTRIBUTION, AUTO_THRESHOLD, LAST_SEEN, READING, READING_BASE, SEEN,
     SHINGLE,
 };
 use crate::chain::{self, Handed, LAST_EXPECTED, NEIGHBOURS, POINT};
@@ -11,7 +11,8 @@ use crate::refusals::{COUNT, LENGTH, NOT_FINITE, RANGE, VALUES_SEEN};
 /// The numbers that a judgment may be refused with.
 pub const NUMBERS: [u8; 5] = [RANGE, LENGTH, NOT_FINITE, VALUES_SEEN, COUNT];
 
-fn put(bytes: &mut [u8], at: usize, n: usize) {
+/// A number in four bytes.
+pub fn put(bytes: &mut [u8], at: usize, n: usize) {
     bytes[at..at + 4].copy_from_slice(&(n as u32).to_le_bytes());
 }
 
@@ -23,7 +24,7 @@ pub fn spoil(random: &mut Random, h: &mut Handed, number: u8) {
         LENGTH => length(random, h),
         NOT_FINITE => unbounded(random, h),
         VALUES_SEEN => time(random, h),
-        _ => count(random, h),
+        _ => count(random, &mut h.state),
     }
 }
 
@@ -62,7 +63,7 @@ fn range(random: &mut Random, h: &mut Handed) {
 }
 
 /// Another length than a slice has: one more, one less, none, or any up to twice as long.
-fn resize<T: Copy>(random: &mut Random, list: &mut Vec<T>, filling: T) {
+pub fn resize<T: Copy>(random: &mut Random, list: &mut Vec<T>, filling: T) {
     let n = list.len();
     let other = match random.below(4) {
         0 => 0,
@@ -160,13 +161,8 @@ fn time(random: &mut Random, h: &mut Handed) {
 }
 
 /// The run length or one of the counts that exist beyond its range.
-fn count(random: &mut Random, h: &mut Handed) {
-    let mut places = COUNTS.to_vec();
-    places.push(chain::RUN);
-    if h.state[chain::ADJUST] == 1 {
-        let k = random.below(word(&h.state, chain::BASE) as u64) as usize;
-        places.extend([chain::ACTUAL, chain::EXPECTED].map(|at| at + 36 * k + 32));
-    }
+pub fn count(random: &mut Random, state: &mut [u8]) {
     let n = random.of(&[16_777_216, i32::MAX as usize, 1 << 31, u32::MAX as usize]);
-    put(&mut h.state, random.of(&places), n);
+    let at = random.of(&counts(state));
+    put(state, at, n);
 }

@@ -93,16 +93,24 @@ fn out_of_time(h: &Handed) -> bool {
     !(1..=16_777_216).contains(&seen) || (anomaly && seen <= word(&h.last, LAST_SEEN))
 }
 
-/// Run length and the counts that exist.
-fn out_of_count(h: &Handed) -> bool {
-    let existing = match h.state[chain::ADJUST] {
-        1 => word(&h.state, chain::BASE),
+/// Where run length and the counts that exist stand.
+pub fn counts(state: &[u8]) -> Vec<usize> {
+    let existing = match state[chain::ADJUST] {
+        1 => word(state, chain::BASE),
         _ => 0,
     };
     let listed =
         (0..existing).flat_map(|k| [chain::ACTUAL, chain::EXPECTED].map(|at| at + k * 36 + 32));
-    let mut places = COUNTS.into_iter().chain([chain::RUN]).chain(listed);
-    places.any(|at| word(&h.state, at) > 16_777_215)
+    COUNTS
+        .into_iter()
+        .chain([chain::RUN])
+        .chain(listed)
+        .collect()
+}
+
+pub fn out_of_count(state: &[u8]) -> bool {
+    let places = counts(state);
+    places.iter().any(|&at| word(state, at) > 16_777_215)
 }
 
 /// The smallest number that applies, or 0.
@@ -115,7 +123,7 @@ pub fn refusal(h: &Handed) -> u8 {
         NOT_FINITE
     } else if out_of_time(h) {
         VALUES_SEEN
-    } else if out_of_count(h) {
+    } else if out_of_count(&h.state) {
         COUNT
     } else {
         0

@@ -59,4 +59,14 @@ impl BasicThresholder {
             minimum_scores: DEFAULT_MINIMUM_SCORES,
         }
     }
+
+    /// The counts of the thresholder and of its statistics.
+    pub fn counts(&self) -> [i32; 4] {
+        [
+            self.count,
+            self.primary_deviation.count,
+            self.secondary_deviation.count,
+            self.threshold_deviation.count,
+        ]
+    }
 }

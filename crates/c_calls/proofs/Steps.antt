@@ -1,0 +1,83 @@
+-- The calls' shapes over plain variables. Assumes nothing.
+use mathlib.Core.Path.{_≡_, refl, sym, ap, _∙_}
+use mathlib.Core.Bool.{Bool, true, false, _&&_}
+use mathlib.Core.List.{List}
+use Prim.Native.Nat.{ℕ}
+use lib.Dec.{eqb, leb}
+use lib.IntN.{ℤ}
+use lib.ListN.{length}
+use lib.Ieee.{Float}
+use Rattle.types.specs.Refusals.{number, answered}
+use Rattle.types.specs.declared.Refusal.{Refusal}
+use Rattle.types.specs.declared.Refusal.the-variants.{Range, Length}
+use Rattle.types.specs.declared.Answer.{Answer}
+use Rattle.types.specs.declared.Answer.the-variants.{Done, Refused}
+use Rattle.descriptor.specs.Checks.{sizesOk}
+use Rattle.predictorcorrector.specs.declared.PredictorCorrector.{PredictorCorrector}
+use Rattle.predictorcorrector.specs.declared.Changed.{Changed}
+use Rattle.layout.specs.Numbers.{writtenOf}
+use Rattle.layout.specs.Chain.{decodeState, encodeStateOver, readState}
+use Rattle.layout.specs.Left.{left}
+use Rattle.corrector.specs.Corrector as Corrector
+use Rattle.calls.specs.Calls as Calls
+use Rattle.c_calls.specs.Buffers.{filled, filledBy, applyBasicCorrector, correctorAnswer, codesOk, stored, storedBy, updateAutoAdjust}
+
+-- A call that was passed on, answered by n.
+pub passed-on : (a b : Answer) (n : ℕ) (new out out′ : List Float) → b ≡ a → n ≡ answered b → out′ ≡ Calls.written a new out → filled n out′ ≡ filledBy a new out
+unfolding filledBy
+passed-on a b n new out out′ p q w = λ i. filled ((q ∙ ap answered p) i) (w i)
+
+-- ---- apply_basic_corrector: its yes/no bytes.
+module _ (point : List Float) (gap shingle base has : ℕ) (expected anomalous : List Float) (index : ℤ) (difference time : ℕ) (out : List Float) where
+  pub bad-bytes : leb has 1 && (leb difference 1 && leb time 1) ≡ false
+      → filled 2 out ≡ applyBasicCorrector point gap shingle base has expected anomalous index difference time out
+  unfolding applyBasicCorrector correctorAnswer filledBy Calls.written
+  bad-bytes h = rw h
+
+  pub corrected : leb has 1 && (leb difference 1 && leb time 1) ≡ true → (index′ : ℤ) → index′ ≡ index → (b : Answer) (n : ℕ) (out′ : List Float)
+      → b ≡ Calls.correctorAnswer shingle base gap point (eqb has 1) expected anomalous (length out) → n ≡ answered b
+      → out′ ≡ Calls.written (Calls.correctorAnswer shingle base gap point (eqb has 1) expected anomalous (length out))
+      (Corrector.applyBasicCorrector point gap shingle base (eqb has 1) expected anomalous index′ (eqb difference 1) (eqb time 1)) out
+      → filled n out′ ≡ applyBasicCorrector point gap shingle base has expected anomalous index difference time out
+  unfolding applyBasicCorrector correctorAnswer
+  corrected h index′ e b n out′ p q w = passed-on _ b n _ out out′ p q (rw e at w) ∙ rw h
+
+-- ---- update_auto_adjust.
+module _ (state : List ℕ) (shingle : ℕ) (point : List Float) where
+  pub bad-codes : codesOk state ≡ false → left 2 state ≡ updateAutoAdjust state shingle point
+  unfolding updateAutoAdjust
+  bad-codes c = rw c
+
+  module _ (c : codesOk state ≡ true) where
+    module _ (l : eqb (length state) 1310 ≡ false) where
+      pub bad-length : sizesOk shingle 1 ≡ true → left 3 state ≡ updateAutoAdjust state shingle point
+      unfolding updateAutoAdjust
+      bad-length s = rw (c, l, s)
+
+      pub bad-size : sizesOk shingle 1 ≡ false → left 2 state ≡ updateAutoAdjust state shingle point
+      unfolding updateAutoAdjust
+      bad-size s = rw (c, l, s)
+
+    module _ (l : eqb (length state) 1310 ≡ true) (s : PredictorCorrector) (r : s ≡ readState state) (made : Changed) (m : made ≡ Calls.updateAutoAdjust s shingle point) where
+      decoded : s ≡ decodeState state
+      unfolding readState
+      decoded = r ∙ rw l
+
+      through : storedBy made state ≡ updateAutoAdjust state shingle point
+      unfolding updateAutoAdjust
+      through =
+          let from : made ≡ Calls.updateAutoAdjust (decodeState state) shingle point = m ∙ ap (λ (t : PredictorCorrector). Calls.updateAutoAdjust t shingle point) decoded in
+          ap (λ (u : Changed). storedBy u state) from ∙ rw (c, l)
+
+      pub adjusted : (state′ : List ℕ) → made .answer ≡ Done → state′ ≡ writtenOf 1310 state (encodeStateOver state (made .state)) → left 0 state′ ≡ updateAutoAdjust state shingle point
+      unfolding stored writtenOf
+      adjusted state′ d w =
+          let whole : state′ ≡ encodeStateOver state (made .state) = w ∙ rw l in
+          let done : left 0 state′ ≡ storedBy made state = ap (left 0) whole ∙ rw d in
+          done ∙ through
+
+      pub unadjusted : (why : Refusal) (n : ℕ) → made .answer ≡ Refused why → n ≡ number why → left n state ≡ updateAutoAdjust state shingle point
+      unfolding stored
+      unadjusted why n d e =
+          let kept : left n state ≡ storedBy made state = rw (e, d) in
+          kept ∙ through

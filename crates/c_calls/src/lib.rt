@@ -1,0 +1,113 @@
+// The calls on a reading's buffers for a host that calls over C: the expected point, the corrector, auto adjust. Numbers, and slices of bytes or floats (a pointer,
+// then a length); a state is its 1310 bytes, as the crate layout has them. A call answers document 01's number, 0 where it is done; a refused one has written nothing.
+use types::Answer;
+ghost use mathlib.Core.Path.{_≡_};
+ghost use Rattle.layout.specs.Left.{left};
+ghost use Rattle.c_calls.specs.Buffers as Buffers;
+ghost use Rattle.c_calls.specs.Buffers.{filled};
+
+// Document 01's refusals of a yes/no byte or a size, and of a length.
+const RANGE: u8 = 2;
+
+const LENGTH: u8 = 3;
+
+// The point with the conditional median at the coordinates of the row from `position` on that contribute most.
+#[no_mangle]
+pub extern "C" fn krcf_expected_point(
+    shingle_size: usize,
+    base_dimension: usize,
+    position: usize,
+    point: &[f32],
+    high: &[f64],
+    low: &[f64],
+    median: &[f32],
+    out: &mut [f32],
+) -> u8
+    ensures { λ n. ⌜ filled n (now (out .exit)) ≡ Buffers.expectedPoint «shingle_size» «base_dimension» position (now (point .entry)) (now (high .entry)) (now (low .entry)) (now (median .entry)) (now (out .entry)) ⌝ }
+{
+    calls::expected_point(
+        shingle_size,
+        base_dimension,
+        position,
+        point,
+        high,
+        low,
+        median,
+        out,
+    ).number()
+}
+
+// The point with the last anomaly's effect taken out. Behind a no the last points are not looked at.
+#[no_mangle]
+pub extern "C" fn krcf_apply_basic_corrector(
+    point: &[f32],
+    gap: usize,
+    shingle_size: usize,
+    base_dimension: usize,
+    has_anomaly: u8,
+    last_expected: &[f32],
+    last_anomalous: &[f32],
+    relative_index: i32,
+    use_difference: u8,
+    time_augmented: u8,
+    out: &mut [f32],
+) -> u8
+    ensures { λ n. ⌜ filled n (now (out .exit)) ≡ Buffers.applyBasicCorrector (now (point .entry)) gap «shingle_size» «base_dimension» «has_anomaly» (now («last_expected» .entry)) (now («last_anomalous» .entry)) «relative_index» «use_difference» «time_augmented» (now (out .entry)) ⌝ }
+{
+    if (has_anomaly <= 1) & ((use_difference <= 1) & (time_augmented <= 1)) {
+        let answer = calls::apply_basic_corrector(
+            point,
+            gap,
+            shingle_size,
+            base_dimension,
+            has_anomaly == 1,
+            last_expected,
+            last_anomalous,
+            relative_index,
+            use_difference == 1,
+            time_augmented == 1,
+            out,
+        );
+        return answer.number();
+    }
+    RANGE
+}
+
+// The state's two yes/no bytes. Nothing inside a slice of another length is looked at.
+fn codes_ok(state: &[u8]) -> bool
+    ensures { λ r. ⌜ r ≡ Buffers.codesOk (now (state .entry)) ⌝ }
+{
+    if state.len() == 1310 {
+        return (state[124] <= 1) & (state[149] <= 1);
+    }
+    true
+}
+
+// Within a run with auto adjust, counts the oldest row of the point.
+#[no_mangle]
+pub extern "C" fn krcf_update_auto_adjust(
+    state: &mut [u8],
+    shingle_size: usize,
+    point: &[f32],
+) -> u8
+    ensures { λ n. ⌜ left n (now (state .exit)) ≡ Buffers.updateAutoAdjust (now (state .entry)) «shingle_size» (now (point .entry)) ⌝ }
+{
+    if codes_ok(state) {
+        if state.len() == 1310 {
+            let changed = calls::update_auto_adjust(layout::read_state(state), shingle_size, point);
+            let answer = changed.answer;
+            let s = changed.state;
+            return match answer {
+                Answer::Done => {
+                    layout::write_state(state, s);
+                    0
+                }
+                Answer::Refused(why) => why.number(),
+            };
+        }
+        if descriptor::sizes_ok(shingle_size, 1) {
+            return LENGTH;
+        }
+    }
+    RANGE
+}
