@@ -69,6 +69,7 @@ fn run(name: &str, seed: u64) -> u64 {
     if name == "sample" {
         sample::write(&mut Random::new(seed)).expect("a sample written");
         vector_sample::write(&mut Random::new(seed)).expect("vector calls written");
+        buffers::sample::write(&mut Random::new(seed)).expect("calls on buffers written");
         parts::exits::write().expect("readings written");
         return 0;
     }

@@ -3,6 +3,7 @@
 pub mod adjusting;
 pub mod corrector;
 pub mod expected;
+pub mod sample;
 
 use crate::parts::vectors::list;
 use crate::random::Random;

@@ -1,0 +1,203 @@
+// Makes the calls on a reading's buffers that standard input has, and writes a line for each: the operation, the refusal's number or 0, and a checksum of what the
+// call may write. Standard output is to be the Rust's lines; `oracle/run SOURCES sample` writes both.
+//
+// A call is 336 bytes. The first 16: the operation (0 the expected point, 1 the corrector, 2 auto adjust), shingle size, base dimension, position or gap, the yes/no
+// of an anomaly, of differences and of time, 1 where the relative index is -1, six lengths (point, median or last expected point, last anomalous point, high,
+// low, the buffer that may be written), 1 where the state is to lack its last byte, and 0. Then 5 rows of 16 floats, 4 bytes each, the lowest first, in the order of
+// the lengths. Behind a call of auto adjust stands the state, 1310 bytes.
+ghost use Prim.Native.Nat.{_≤_, _<_};
+
+fn wide(b: u8) -> u32
+    ensures { λ r. ⌜ r < 0x100 ⌝ }
+{
+    b as u32
+}
+
+// A float takes its four bytes one after the other, and is right with the last.
+fn reals(b: &[u8; 336]) -> [f32; 80] {
+    let mut out = [0.0f32; 80];
+    let mut word = 0u32;
+    let mut i = 0usize;
+    while i < 320 {
+        word = (word >> 8) | (wide(b[16 + i]) << 24);
+        out[i / 4] = ieee::f32_from_bits(word);
+        i += 1;
+    }
+    out
+}
+
+fn wides(x: &[f32; 80]) -> [f64; 80] {
+    let mut out = [0.0f64; 80];
+    let mut i = 0usize;
+    while i < 80 {
+        out[i] = ieee::widen(x[i]);
+        i += 1;
+    }
+    out
+}
+
+fn size(b: u8) -> usize {
+    b as usize
+}
+
+// At most a row.
+fn length(b: u8) -> usize
+    ensures { λ r. ⌜ r ≤ 16 ⌝ }
+{
+    (b % 17) as usize
+}
+
+// Of each of these `n` elements from `at` on, or all where there are fewer.
+fn row(x: &[f32], at: usize, n: usize) -> &[f32] {
+    if at <= x.len() {
+        if n <= x.len() - at {
+            return &x[at..at + n];
+        }
+    }
+    x
+}
+
+fn wide_row(x: &[f64], at: usize, n: usize) -> &[f64] {
+    if at <= x.len() {
+        if n <= x.len() - at {
+            return &x[at..at + n];
+        }
+    }
+    x
+}
+
+fn mix(sum: u64, bits: u64) -> u64 {
+    std::num::wrapping_add_u64((sum << 7) | (sum >> 57), bits)
+}
+
+fn mix_floats(x: [f32; 16]) -> u64 {
+    let mut sum = 0u64;
+    let mut i = 0usize;
+    while i < 16 {
+        sum = mix(sum, ieee::f32_to_bits(x[i]) as u64);
+        i += 1;
+    }
+    sum
+}
+
+fn mix_bytes(x: [u8; 1310]) -> u64 {
+    let mut sum = 0u64;
+    let mut i = 0usize;
+    while i < 1310 {
+        sum = mix(sum, wide(x[i]) as u64);
+        i += 1;
+    }
+    sum
+}
+
+// The refusal's number or 0, and the checksum.
+struct Said {
+    number: u8,
+    sum: u64,
+}
+
+fn expected_point(b: &[u8; 336], x: &[f32], w: &[f64]) -> Said {
+    let mut out = [-1.0f32; 16];
+    let n = length(b[13]);
+    let number = c_calls::krcf_expected_point(
+        size(b[1]),
+        size(b[2]),
+        size(b[3]),
+        row(x, 0, length(b[8])),
+        wide_row(w, 48, length(b[11])),
+        wide_row(w, 64, length(b[12])),
+        row(x, 16, length(b[9])),
+        &mut out[..n],
+    );
+    Said {
+        number,
+        sum: mix_floats(out),
+    }
+}
+
+fn relative_index(b: u8) -> i32 {
+    if b == 0 {
+        return 0;
+    }
+    -1
+}
+
+fn apply_basic_corrector(b: &[u8; 336], x: &[f32]) -> Said {
+    let mut out = [-1.0f32; 16];
+    let n = length(b[13]);
+    let number = c_calls::krcf_apply_basic_corrector(
+        row(x, 0, length(b[8])),
+        size(b[3]),
+        size(b[1]),
+        size(b[2]),
+        b[4],
+        row(x, 16, length(b[9])),
+        row(x, 32, length(b[10])),
+        relative_index(b[7]),
+        b[5],
+        b[6],
+        &mut out[..n],
+    );
+    Said {
+        number,
+        sum: mix_floats(out),
+    }
+}
+
+fn blank_state() -> [u8; 1310] {
+    [0u8; 1310]
+}
+
+fn update_auto_adjust(b: &[u8; 336], x: &[f32]) -> Said {
+    let mut state = blank_state();
+    io::read_full(0, &mut state);
+    let n = 1310 - (b[14] % 2) as usize;
+    let number = c_calls::krcf_update_auto_adjust(
+        &mut state[..n],
+        size(b[1]),
+        row(x, 0, length(b[8])),
+    );
+    Said {
+        number,
+        sum: mix_bytes(state),
+    }
+}
+
+fn call(b: &[u8; 336]) -> Said {
+    let singles = reals(b);
+    let doubles = wides(&singles);
+    let x = &singles[..];
+    let w = &doubles[..];
+    match b[0] {
+        0 => expected_point(b, x, w),
+        1 => apply_basic_corrector(b, x),
+        _ => update_auto_adjust(b, x),
+    }
+}
+
+fn write_line(operation: u8, said: Said) {
+    io::print_decimal(1, wide(operation) as u64);
+    io::write_all(1, b" ");
+    io::print_decimal(1, wide(said.number) as u64);
+    io::write_all(1, b" ");
+    io::print_hex(1, said.sum, 16);
+    io::write_all(1, b"\n");
+}
+
+fn blank() -> [u8; 336] {
+    [0u8; 336]
+}
+
+// Up to 1000 calls, to the end of the input.
+fn main() {
+    let mut k = 0usize;
+    while k < 1000 {
+        let mut bytes = blank();
+        let n = io::read_full(0, &mut bytes);
+        if n < 336 {
+            return;
+        }
+        write_line(bytes[0], call(&bytes));
+        k += 1;
+    }
+}
