@@ -1,95 +1,118 @@
--- Demand 3 of the watch: any list of DISTANCE readings, judged in turn from a new state with z and horizon set. Assumes nothing.
+-- Demand 3 of calls: a construction, settings of z and horizon, then DISTANCE readings judged in turn. Assumes nothing.
 use mathlib.Core.Path.{_≡_, refl, sym, ap, ap₂, _∙_, subst}
-use mathlib.Core.Bool.{Bool, true, false, not, cond, _&&_}
-use mathlib.Core.List.{List, [], _∷_, map}
-use Prim.Native.Nat.{ℕ, _≤_}
+use mathlib.Core.Bool.{Bool, true, false, cond, _&&_}
+use mathlib.Core.List.{List, [], _∷_}
+use Prim.Native.Nat.{ℕ}
 use lib.Dec.{T, leb}
-use lib.Ieee.{Float, binary64, fits, eq, lt, le}
+use lib.Ieee.{Float, binary64, fits}
 use Rattle.types.specs.declared.Refusal.the-variants as Refusals
 use Rattle.types.specs.declared.Answer.{Answer}
 use Rattle.types.specs.declared.Answer.the-variants as Answers
 use Rattle.deviation.specs.Statistics.{isDiscount}
-use Rattle.basicthresholder.specs.Const.{zero32, sixteen32, zFactorDefault}
-use Rattle.ledger.specs.Statement.{Told, Shown, told, showed, accepted, Sizes, Demand3}
-use Rattle.ledger.proofs.Laws.{New, new-fresh, new-z, new-horizon}
+use Rattle.basicthresholder.specs.Const.{zFactorDefault}
+use Rattle.ledger.specs.Statement.{Told, Shown, told, showed, InBounds, Demand3}
+use Rattle.ledger.specs.Theorem.{New}
+use Rattle.ledger.proofs.Laws.{new-fresh, new-z, new-horizon}
 use Rattle.ledger.proofs.WholeList as WholeList
-use Rattle.predictorcorrector.specs.State.{new, freshState, refusedNew, zFactorSet, horizonSetTo}
+use Rattle.predictorcorrector.specs.State as State
+use Rattle.predictorcorrector.specs.State.{freshState, refusedNew, zFactorSet, horizonSetTo, setHorizon}
 use Rattle.predictorcorrector.specs.declared.PredictorCorrector.{PredictorCorrector}
 use Rattle.predictorcorrector.specs.declared.Changed.{Changed}
-use Rattle.demand3.specs.Watch.{Setting, z-factor, horizon, setAll, zAfter, started, zOf, Lending, isRefusal, isRefused, answerAt, AnswersWith, opened, shownBy, ends, watch, Call, lending, Kept, Returned, InTurn, toldOf, showedOf}
-use Rattle.demand3.proofs.Keeps.{watch-keeps, refusal-is, threshold-is}
+use Rattle.detection.specs.declared.Outcome.{Outcome}
+use Rattle.demand3.specs.Calls.{Judging, Call, new, set-z-factor, set-horizon, detect-and-modify, Kept, JudgedInTurn, SetInTurn, InTurn, Made, zAfter, zOf, answerAt, isRefusal, toldOf, shownBy, shownOf}
+use Rattle.demand3.specs.Statement.{Returned, Demand3OfCalls}
+use Rattle.demand3.proofs.Keeps.{Lending, watch, returned-at, watch-keeps}
+use Rattle.demand3.proofs.Calmness.{calm-met}
 
--- ---- a new state
-record Made (d : Float) (auto : Bool) (base : ℕ) : Type 0 where
-  discount : T (isDiscount d)
-  state : new d auto base .state ≡ freshState d auto base
+pub returned : (s : PredictorCorrector) (c : Judging) → Kept s c → Returned s c (c .judgment .outcome)
+returned s c k = subst (Returned s c) (sym (k .contract .says)) (returned-at s c)
 
-made : (d : Float) (auto : Bool) (base : ℕ) → new d auto base .answer ≡ Answers.Done → Made d auto base
-unfolding new refusedNew
-made d auto base e = (let p = go (isDiscount d) (leb 1 base && leb base 16) e in record { discount = p .0; state = p .1 })
+-- ---- judgments in turn, as the watch judges
+lendings : (cs : List Call) (s : PredictorCorrector) → JudgedInTurn s cs → List Lending
+lendings [] s k = []
+lendings (new d auto base r ∷ cs) s k = absurd k
+lendings (set-z-factor x s′ ∷ cs) s k = absurd k
+lendings (set-horizon x r ∷ cs) s k = absurd k
+lendings (detect-and-modify c ∷ cs) s k = record { call = c; distance = k .0 .distance } ∷ lendings cs (c .judgment .state) (k .1)
+
+told-of : (cs : List Call) (s : PredictorCorrector) (k : JudgedInTurn s cs) → told watch s (lendings cs s k) ≡ toldOf s cs
+unfolding lendings
+told-of [] s k = refl
+told-of (new d auto base r ∷ cs) s k = absurd k
+told-of (set-z-factor x s′ ∷ cs) s k = absurd k
+told-of (set-horizon x r ∷ cs) s k = absurd k
+told-of (detect-and-modify c ∷ cs) s k =
+    ap (λ (ts : List Told). record { refused = isRefusal (answerAt s c); score = c .reading .score } ∷ ts)
+    (ap (λ (u : PredictorCorrector). told watch u (lendings cs (c .judgment .state) (k .1))) (sym (k .0 .contract .state)) ∙ told-of cs (c .judgment .state) (k .1))
+
+showed-of : (cs : List Call) (s : PredictorCorrector) (k : JudgedInTurn s cs) → showed watch s (lendings cs s k) ≡ shownOf s cs
+unfolding lendings
+showed-of [] s k = refl
+showed-of (new d auto base r ∷ cs) s k = absurd k
+showed-of (set-z-factor x s′ ∷ cs) s k = absurd k
+showed-of (set-horizon x r ∷ cs) s k = absurd k
+showed-of (detect-and-modify c ∷ cs) s k =
+    ap₂ (λ (v : Shown) (vs : List Shown). v ∷ vs)
+    (ap (shownBy s (c .reading)) (sym (k .0 .contract .says)))
+    (ap (λ (u : PredictorCorrector). showed watch u (lendings cs (c .judgment .state) (k .1))) (sym (k .0 .contract .state)) ∙ showed-of cs (c .judgment .state) (k .1))
+
+pub judged-in-turn : (d z : Float) (s : PredictorCorrector) (cs : List Call) → T (fits binary64 d) → T (isDiscount d) → New d z (s .«basic_thresholder») → JudgedInTurn s cs
+    → InBounds z (toldOf s cs) → Demand3 d z (toldOf s cs) (shownOf s cs)
+judged-in-turn d z s cs f i n k b =
+    let t = told-of cs s k in
+    subst (λ (ts : List Told). Demand3 d z ts (shownOf s cs)) t
+    (subst (λ (vs : List Shown). Demand3 d z (told watch s (lendings cs s k)) vs) (showed-of cs s k)
+    (WholeList.demand-3 watch (λ (s : PredictorCorrector). s .«basic_thresholder») watch-keeps d z f i s n (lendings cs s k) (subst (InBounds z) (sym t) b)))
+
+z-stays : (cs : List Call) (s : PredictorCorrector) (z : Float) → JudgedInTurn s cs → zAfter z cs ≡ z
+z-stays [] s z k = refl
+z-stays (new d auto base r ∷ cs) s z k = absurd k
+z-stays (set-z-factor x s′ ∷ cs) s z k = absurd k
+z-stays (set-horizon x r ∷ cs) s z k = absurd k
+z-stays (detect-and-modify c ∷ cs) s z k = z-stays cs (c .judgment .state) z (k .1)
+
+-- ---- settings before them
+horizon-left : (s : PredictorCorrector) (x : Float) (r : Changed) → r ≡ setHorizon s x → r .state ≡ horizonSetTo s x
+unfolding setHorizon
+horizon-left s x r e = ap (λ (c : Changed). c .state) e
+
+set-in-turn : (d : Float) → T (fits binary64 d) → T (isDiscount d) → (cs : List Call) (z : Float) (s : PredictorCorrector) → New d z (s .«basic_thresholder») → SetInTurn s cs
+    → InBounds (zAfter z cs) (toldOf s cs) → Demand3 d (zAfter z cs) (toldOf s cs) (shownOf s cs)
+set-in-turn d f i [] z s n k b = judged-in-turn d z s [] f i n tt b
+set-in-turn d f i (new e auto base r ∷ cs) z s n k b = absurd k
+set-in-turn d f i (set-z-factor x s′ ∷ cs) z s n k b =
+    set-in-turn d f i cs x s′ (subst (λ (u : PredictorCorrector). New d x (u .«basic_thresholder»)) (sym (k .0)) (new-z d z x (s .«basic_thresholder») n)) (k .1) b
+set-in-turn d f i (set-horizon x r ∷ cs) z s n k b =
+    set-in-turn d f i cs z (r .state) (subst (λ (u : PredictorCorrector). New d z (u .«basic_thresholder»)) (sym (horizon-left s x r (k .0))) (new-horizon d z x (s .«basic_thresholder») n)) (k .1) b
+set-in-turn d f i (detect-and-modify c ∷ cs) z s n k b =
+    let e = z-stays (detect-and-modify c ∷ cs) s z k in
+    subst (λ (y : Float). Demand3 d y (toldOf s (detect-and-modify c ∷ cs)) (shownOf s (detect-and-modify c ∷ cs))) (sym e)
+    (judged-in-turn d z s (detect-and-modify c ∷ cs) f i n k (subst (λ (y : Float). InBounds y (toldOf s (detect-and-modify c ∷ cs))) e b))
+
+-- ---- a new state before those
+pub record Fresh (d : Float) (s : PredictorCorrector) : Type 0 where
+  pub discount : T (isDiscount d)
+  pub new : New d zFactorDefault (s .«basic_thresholder»)
+
+pub fresh : (d : Float) (auto : Bool) (base : ℕ) → State.new d auto base .answer ≡ Answers.Done → Fresh d (State.new d auto base .state)
+unfolding State.new refusedNew freshState
+fresh d auto base e = (let p = go (isDiscount d) (leb 1 base && leb base 16) e in record { discount = p .0; new = p .1 })
   where
     by : Bool → Bool → Changed
     by c k = cond c (cond k (record { answer = Answers.Done; state = freshState d auto base }) (refusedNew (Answers.Refused Refusals.Range))) (refusedNew (Answers.Refused Refusals.Discount))
 
-    go : (c k : Bool) → by c k .answer ≡ Answers.Done → T c × (by c k .state ≡ freshState d auto base)
-    go true true q = (tt, refl)
+    go : (c k : Bool) → by c k .answer ≡ Answers.Done → T c × New d zFactorDefault (by c k .state .«basic_thresholder»)
+    go true true q = (tt, new-fresh d false)
     go true false q = absurd (subst (λ (a : Answer). T (isRefusal a)) q tt)
     go false k q = absurd (subst (λ (a : Answer). T (isRefusal a)) q tt)
 
-fresh-new : (d : Float) (auto : Bool) (base : ℕ) → New d zFactorDefault (freshState d auto base .«basic_thresholder»)
-unfolding freshState
-fresh-new d auto base = new-fresh d false
+pub demand-3 : (d : Float) (auto : Bool) (base : ℕ) (r : Changed) (cs : List Call) → InTurn (new d auto base r ∷ cs) → InBounds (zOf cs) (toldOf (r .state) cs)
+    → Demand3 d (zOf cs) (toldOf (r .state) cs) (shownOf (r .state) cs)
+demand-3 d auto base r cs k b =
+    let m = k .0 in
+    let n = fresh d auto base (ap (λ (c : Changed). c .answer) (sym (m .contract)) ∙ m .accepted) in
+    set-in-turn d (m .discount) (n .discount) cs zFactorDefault (r .state)
+    (subst (λ (c : Changed). New d zFactorDefault (c .state .«basic_thresholder»)) (sym (m .contract)) (n .new)) (k .1) b
 
-set-new : (d z : Float) (ks : List Setting) (s : PredictorCorrector) → New d z (s .«basic_thresholder») → New d (zAfter z ks) (setAll s ks .«basic_thresholder»)
-set-new d z [] s n = n
-set-new d z (z-factor x ∷ ks) s n = set-new d x ks (zFactorSet s x) (new-z d z x (s .«basic_thresholder») n)
-set-new d z (horizon x ∷ ks) s n = set-new d z ks (horizonSetTo s x) (new-horizon d z x (s .«basic_thresholder») n)
-
--- ---- demand 3
-pub demand-3 : (d : Float) (auto : Bool) (base : ℕ) (ks : List Setting) (rs : List Lending)
-    → T (fits binary64 d) → new d auto base .answer ≡ Answers.Done → T (lt zero32 (zOf ks)) → T (le (zOf ks) sixteen32)
-    → accepted (told watch (started d auto base ks) rs) ≤ 65536 → Sizes (told watch (started d auto base ks) rs)
-    → Demand3 d (zOf ks) (told watch (started d auto base ks) rs) (showed watch (started d auto base ks) rs)
-demand-3 d auto base ks rs f a z-above z-most l sizes =
-    let m = made d auto base a in
-    let n : New d zFactorDefault (new d auto base .state .«basic_thresholder») = subst (λ (s : PredictorCorrector). New d zFactorDefault (s .«basic_thresholder»)) (sym (m .state)) (fresh-new d auto base) in
-    WholeList.demand-3 watch (λ (s : PredictorCorrector). s .«basic_thresholder») watch-keeps d (zOf ks) f (m .discount) z-above z-most
-    (started d auto base ks) (set-new d zFactorDefault ks (new d auto base .state) n) rs l sizes
-
--- ---- the same, of calls of `detect_and_modify`
-pub returned : (s : PredictorCorrector) (c : Call) → Kept s c → Returned s c
-returned s c k = record {
-  refused = ap isRefused (k .says) ∙ refusal-is s (lending c);
-  state = k .state;
-  grade = ap ends (k .says);
-  threshold = λ (a : T (not (isRefused (c .judgment .outcome)))) (z : T (not (eq (c .reading .score) zero32))).
-      subst (AnswersWith (opened s (c .reading) .threshold)) (sym (k .says))
-      (threshold-is s (lending c) (subst (λ (b : Bool). T (not b)) (ap isRefused (k .says) ∙ refusal-is s (lending c)) a) z);
-}
-
-told-of : (cs : List Call) (s : PredictorCorrector) → InTurn s cs → told watch s (map lending cs) ≡ toldOf s cs
-told-of [] s k = refl
-told-of (c ∷ cs) s k =
-    ap (λ (ts : List Told). record { refused = isRefusal (answerAt s (lending c)); score = c .reading .score } ∷ ts)
-    (ap (λ (u : PredictorCorrector). told watch u (map lending cs)) (sym (k .0 .state)) ∙ told-of cs (c .judgment .state) (k .1))
-
-showed-of : (cs : List Call) (s : PredictorCorrector) → InTurn s cs → showed watch s (map lending cs) ≡ showedOf s cs
-showed-of [] s k = refl
-showed-of (c ∷ cs) s k =
-    ap₂ (λ (v : Shown) (vs : List Shown). v ∷ vs)
-    (ap (shownBy (opened s (c .reading))) (sym (k .0 .says)))
-    (ap (λ (u : PredictorCorrector). showed watch u (map lending cs)) (sym (k .0 .state)) ∙ showed-of cs (c .judgment .state) (k .1))
-
-pub demand-3-of-calls : (d : Float) (auto : Bool) (base : ℕ) (ks : List Setting) (cs : List Call)
-    → T (fits binary64 d) → new d auto base .answer ≡ Answers.Done → T (lt zero32 (zOf ks)) → T (le (zOf ks) sixteen32)
-    → InTurn (started d auto base ks) cs
-    → accepted (toldOf (started d auto base ks) cs) ≤ 65536 → Sizes (toldOf (started d auto base ks) cs)
-    → Demand3 d (zOf ks) (toldOf (started d auto base ks) cs) (showedOf (started d auto base ks) cs)
-demand-3-of-calls d auto base ks cs f a z-above z-most k l sizes =
-    let s = started d auto base ks in
-    let t = told-of cs s k in
-    subst (λ (ts : List Told). Demand3 d (zOf ks) ts (showedOf s cs)) t
-    (subst (λ (vs : List Shown). Demand3 d (zOf ks) (told watch s (map lending cs)) vs) (showed-of cs s k)
-    (demand-3 d auto base ks (map lending cs) f a z-above z-most
-    (subst (λ (ts : List Told). accepted ts ≤ 65536) (sym t) l)
-    (subst Sizes (sym t) sizes)))
+pub demand-3-of-calls : Demand3OfCalls
+demand-3-of-calls = record { returned = returned; demand-3 = demand-3; met = calm-met }

@@ -1,10 +1,10 @@
 -- What judging by DISTANCE keeps: the laws that the ledger's theorem asks of a judge. Assumes nothing.
 use mathlib.Core.Path.{_≡_, refl, sym, ap, _∙_, subst}
-use mathlib.Core.Bool.{Bool, true, false, not, cond, _&&_}
+use mathlib.Core.Bool.{Bool, true, false, not, cond, _&&_, true≢false}
 use mathlib.Core.List.{List}
 use lib.Dec.{T, ltb}
-use lib.Ieee as Ieee
-use lib.Ieee.{Float, binary32, eq, ofBits}
+use lib.ListN.{length}
+use lib.Ieee.{Float, eq, ofBits}
 use Rattle.types.specs.Codes.{isHeight}
 use Rattle.types.specs.declared.Answer.{Answer}
 use Rattle.types.specs.declared.Answer.the-variants as Answers
@@ -17,25 +17,48 @@ use Rattle.basicthresholder.specs.Grades.{primaryThresholdAndGrade}
 use Rattle.basicthresholder.specs.Updates.{primaryCounted}
 use Rattle.basicthresholder.specs.declared.BasicThresholder.{BasicThresholder}
 use Rattle.basicthresholder.specs.declared.Graded.{Graded}
-use Rattle.ledger.proofs.Laws.{Laws, Counts, primary-counts}
+use Rattle.ledger.specs.Statement.{Judge, Shown}
+use Rattle.ledger.specs.Theorem.{Laws, Counts}
+use Rattle.ledger.proofs.Laws.{primary-counts}
 use Rattle.descriptor.specs.Lent.{Lent}
 use Rattle.descriptor.specs.declared.Reading.{Reading}
 use Rattle.descriptor.specs.declared.LastDescriptor.{LastDescriptor}
 use Rattle.predictorcorrector.specs.State.{runEnded, autoAdjusted, candidateCounted, runGrown, scoreCounted}
 use Rattle.predictorcorrector.specs.declared.PredictorCorrector.{PredictorCorrector}
-use Rattle.detection.specs.Judging.{opening, gap, recent, noisePass, explained, triggered, withinBox, entered, candidateWith, candidateState, isDataDrift, lateVerdict, gradedVerdict, verdict, runAfterMode, after}
+use Rattle.detection.specs.Judging.{opening, entered, candidateWith, candidateState, verdict, runAfterMode, after}
 use Rattle.detection.specs.Judged.{outcome, outcomeOf, stateAfter}
 use Rattle.detection.specs.declared.Verdict.{Verdict}
 use Rattle.detection.specs.declared.Verdict.the-variants.{Quiet, Corrected, Raised, Skipped}
-use Rattle.detection.specs.declared.Outcome.the-variants.{Accepted}
-use Rattle.demand3.specs.Watch.{Lending, isRefusal, isRefused, answerAt, outcomeAt, Carries, AnswersWith, opened, verdictEnds, ends, watch}
+use Rattle.detection.specs.declared.Outcome.{Outcome}
+use Rattle.detection.specs.declared.Outcome.the-variants.{Accepted, Refused}
+use Rattle.demand3.specs.Calls.{Judging, answerAt, isRefusal, opened, gradeOf, shownBy}
+use Rattle.demand3.specs.Statement.{isSkipped, Shows, Returned}
+use Rattle.demand3.proofs.Opens.{verdict-shows, zero-skips, quiet-ends}
+
+-- ---- the watch as a judge of the ledger's theorem: a DISTANCE reading with all that it lends, its answer left out
+pub record Lending : Type 0 where
+  pub call : Judging
+  pub distance : call .reading .«scoring_strategy» ≡ DISTANCE
+
+abbrev pub outcomeAt : PredictorCorrector → Judging → Outcome
+outcomeAt s c = outcome s (c .reading) (c .last) (c .lent) (length (c .expected)) (length (c .high)) (length (c .low))
+
+abbrev pub watch : Judge
+watch = record {
+  State = PredictorCorrector;
+  Reading = Lending;
+  refused = λ (s : PredictorCorrector) (r : Lending). isRefusal (answerAt s (r .call));
+  score = λ (r : Lending). r .call .reading .score;
+  next = λ (s : PredictorCorrector) (r : Lending). stateAfter s (r .call .reading) (r .call .last) (r .call .lent) (outcomeAt s (r .call));
+  shown = λ (s : PredictorCorrector) (r : Lending). shownBy s (r .call .reading) (outcomeAt s (r .call));
+}
 
 -- ---- small facts
 true-of : (b : Bool) → T b → b ≡ true
 true-of true t = refl
 true-of false t = absurd t
 
-false-of : (b : Bool) → T (not b) → b ≡ false
+pub false-of : (b : Bool) → T (not b) → b ≡ false
 false-of true t = absurd t
 false-of false t = refl
 
@@ -71,17 +94,7 @@ grown-keeps : (s : PredictorCorrector) → runGrown s .«basic_thresholder» ≡
 unfolding runGrown
 grown-keeps s = refl
 
--- ---- verdicts: all but "skipped" carry the opening threshold
-record Says (x : Float) (v : Verdict) : Type 0 where
-  carries : Carries x v
-
-says : {x : Float} {v : Verdict} → Carries x v → Says x v
-says k = record { carries = k }
-
-either-says : {x : Float} (c : Bool) (u v : Verdict) → Says x u → Says x v → Says x (cond c u v)
-either-says true u v p q = p
-either-says false u v p q = q
-
+-- ---- a verdict that is not "skipped" counts the score once, uncapped
 module _ (s : PredictorCorrector) (r : Reading) (l : LastDescriptor) (b : Lent) where
   candidate-keeps : (threshold : Float) → candidateState r l b s threshold .«basic_thresholder» ≡ s .«basic_thresholder»
   unfolding candidateState
@@ -97,44 +110,17 @@ module _ (s : PredictorCorrector) (r : Reading) (l : LastDescriptor) (b : Lent) 
   mode-keeps threshold Modes.FORECAST = adjusted-keeps s (b .point)
   mode-keeps threshold Modes.«DATA_DRIFT» = candidate-keeps threshold
 
-  -- A score enters once, uncapped, whatever counts as corrected.
   entered-counts : (u : PredictorCorrector) (corrected : Float) → isHeight (r .«scoring_strategy») ≡ false → u .«basic_thresholder» ≡ s .«basic_thresholder»
       → entered u r l corrected .«basic_thresholder» ≡ primaryCounted (s .«basic_thresholder») (r .score)
   unfolding entered scoreCounted
   entered-counts u corrected d e = rw d (ap (λ (t : BasicThresholder). primaryCounted t (r .score)) e)
 
-  after-counts : (x : Float) (v : Verdict) → isHeight (r .«scoring_strategy») ≡ false → Says x v → after r l b s v .«basic_thresholder» ≡ primaryCounted (s .«basic_thresholder») (r .score)
+  after-counts : (v : Verdict) → isHeight (r .«scoring_strategy») ≡ false → isSkipped v ≡ false → after r l b s v .«basic_thresholder» ≡ primaryCounted (s .«basic_thresholder») (r .score)
   unfolding after
-  after-counts x (Quiet t) d k = entered-counts (runEnded s) _ d (ended-keeps s)
-  after-counts x (Corrected t m) d k = entered-counts (runAfterMode r l b s t m) _ d (mode-keeps t m)
-  after-counts x (Raised t g) d k = entered-counts (runGrown (candidateState r l b s t)) _ d (grown-keeps (candidateState r l b s t) ∙ candidate-keeps t)
-  after-counts x Skipped d k = absurd (k .carries)
-
-  late-says : (threshold working : Float) → Says threshold (lateVerdict r l b s threshold working)
-  unfolding lateVerdict
-  late-says threshold working =
-      either-says (s .«auto_adjust» && explained r l b) _ _ (says refl)
-      (either-says (ltb (gap r l b) (r .«shingle_size») && not (triggered r l b threshold)) _ _ (says refl)
-      (either-says (withinBox r l b) _ _ (says refl) (either-says (isDataDrift r l b s threshold) _ _ (says refl) (says refl))))
-
-  graded-says : (threshold grade : Float) → Says threshold (gradedVerdict r l b s threshold grade)
-  unfolding gradedVerdict
-  graded-says threshold grade =
-      either-says (recent r l b && eq (opening (s .«basic_thresholder») r (r .«corrected_score») .grade) zero32) _ _ (says refl)
-      (either-says (eq (Ieee.mul binary32 grade (noisePass r l b)) zero32) _ _ (says refl) (late-says threshold _))
-
-  verdict-says : eq (r .score) zero32 ≡ false → Says (opening (s .«basic_thresholder») r (r .score) .threshold) (verdict r l b s)
-  unfolding verdict
-  verdict-says e = rw e (either-says (eq (opening (s .«basic_thresholder») r (r .score) .grade) zero32) _ _ (says refl) (graded-says _ _))
-
-  zero-skips : eq (r .score) zero32 ≡ true → verdict r l b s ≡ Skipped
-  unfolding verdict
-  zero-skips e = rw e refl
-
-  -- An opening grade of 0 ends with grade 0.
-  quiet-ends : eq (r .score) zero32 ≡ false → opening (s .«basic_thresholder») r (r .score) .grade ≡ zero32 → verdictEnds (verdict r l b s) ≡ zero32
-  unfolding verdict
-  quiet-ends e g = rw (e, g, zero-is-zero) refl
+  after-counts (Quiet t) d k = entered-counts (runEnded s) _ d (ended-keeps s)
+  after-counts (Corrected t m) d k = entered-counts (runAfterMode r l b s t m) _ d (mode-keeps t m)
+  after-counts (Raised t g) d k = entered-counts (runGrown (candidateState r l b s t)) _ d (grown-keeps (candidateState r l b s t) ∙ candidate-keeps t)
+  after-counts Skipped d k = absurd (true≢false k)
 
   -- ---- an accepted reading, a refused one
   accepted-outcome : (a : Answer) → T (not (isRefusal a)) → outcomeOf s r l b a ≡ Accepted (verdict r l b s)
@@ -154,61 +140,75 @@ module _ (s : PredictorCorrector) (r : Reading) (l : LastDescriptor) (b : Lent) 
   accepted-counts : isHeight (r .«scoring_strategy») ≡ false → eq (r .score) zero32 ≡ false
       → stateAfter s r l b (Accepted (verdict r l b s)) .«basic_thresholder» ≡ primaryCounted (s .«basic_thresholder») (r .score)
   unfolding stateAfter
-  accepted-counts d e = after-counts _ (verdict r l b s) d (verdict-says e)
+  accepted-counts d e = after-counts (verdict r l b s) d (verdict-shows s r l b e .skipped)
 
 -- The opening of a DISTANCE reading.
 opening-is : (t : BasicThresholder) (r : Reading) (x : Float) → isHeight (r .«scoring_strategy») ≡ false → opening t r x ≡ primaryThresholdAndGrade t x
 unfolding opening
 opening-is t r x d = rw d refl
 
-accepted-at : (s : PredictorCorrector) (r : Lending) → T (not (isRefusal (answerAt s r))) → outcomeAt s r ≡ Accepted (verdict (r .reading) (r .last) (r .lent) s)
-unfolding outcome
-accepted-at s r k = accepted-outcome s (r .reading) (r .last) (r .lent) (answerAt s r) k
+module _ (s : PredictorCorrector) (c : Judging) where
+  abbrev said : Verdict
+  said = verdict (c .reading) (c .last) (c .lent) s
 
-refused-at : (s : PredictorCorrector) (r : Lending) → T (isRefusal (answerAt s r)) → stateAfter s (r .reading) (r .last) (r .lent) (outcomeAt s r) ≡ s
-unfolding outcome
-refused-at s r k = refused-state s (r .reading) (r .last) (r .lent) (answerAt s r) k
+  accepted-at : T (not (isRefusal (answerAt s c))) → outcomeAt s c ≡ Accepted said
+  unfolding outcome
+  accepted-at k = accepted-outcome s (c .reading) (c .last) (c .lent) (answerAt s c) k
 
--- ---- what a call returns
-pub refusal-is : (s : PredictorCorrector) (r : Lending) → isRefused (outcomeAt s r) ≡ isRefusal (answerAt s r)
-unfolding outcome outcomeOf
-refusal-is s r = go (answerAt s r)
-  where
-    go : (a : Answer) → isRefused (outcomeOf s (r .reading) (r .last) (r .lent) a) ≡ isRefusal a
-    go Answers.Done = refl
-    go (Answers.Refused why) = refl
+  refused-at : T (isRefusal (answerAt s c)) → stateAfter s (c .reading) (c .last) (c .lent) (outcomeAt s c) ≡ s
+  unfolding outcome
+  refused-at k = refused-state s (c .reading) (c .last) (c .lent) (answerAt s c) k
 
-pub threshold-is : (s : PredictorCorrector) (r : Lending) → T (not (isRefusal (answerAt s r))) → T (not (eq (r .reading .score) zero32)) → AnswersWith (opened s (r .reading) .threshold) (outcomeAt s r)
-threshold-is s r a c =
-    subst (AnswersWith (opened s (r .reading) .threshold)) (sym (accepted-at s r a)) (verdict-says s (r .reading) (r .last) (r .lent) (false-of _ c) .carries)
+  -- ---- what a call returns
+  pub returned-at : Returned s c (outcomeAt s c)
+  unfolding outcome outcomeOf
+  returned-at = go (answerAt s c) refl
+    where
+      go : (a : Answer) → answerAt s c ≡ a → Returned s c (outcomeOf s (c .reading) (c .last) (c .lent) a)
+      go Answers.Done e = (ap isRefusal e, λ (z : T (not (eq (c .reading .score) zero32))). verdict-shows s (c .reading) (c .last) (c .lent) (false-of _ z))
+      go (Answers.Refused why) e = ap isRefusal e
 
--- ---- the laws
+  -- ---- the laws, of an accepted reading
+  module _ (a : T (not (isRefusal (answerAt s c)))) where
+    state-of : stateAfter s (c .reading) (c .last) (c .lent) (outcomeAt s c) ≡ stateAfter s (c .reading) (c .last) (c .lent) (Accepted said)
+    state-of = ap (stateAfter s (c .reading) (c .last) (c .lent)) (accepted-at a)
+
+    shown-of : shownBy s (c .reading) (outcomeAt s c) ≡ shownBy s (c .reading) (Accepted said)
+    shown-of = ap (shownBy s (c .reading)) (accepted-at a)
+
+    zeros : T (eq (c .reading .score) zero32) → stateAfter s (c .reading) (c .last) (c .lent) (outcomeAt s c) ≡ s
+    zeros z = state-of ∙ skipped-state s (c .reading) (c .last) (c .lent) (zero-skips s (c .reading) (c .last) (c .lent) (true-of _ z))
+
+    module _ (d : c .reading .«scoring_strategy» ≡ DISTANCE) (z : T (not (eq (c .reading .score) zero32))) where
+      shows : Shows (opened s (c .reading)) said
+      shows = verdict-shows s (c .reading) (c .last) (c .lent) (false-of _ z)
+
+      opens : opened s (c .reading) ≡ primaryThresholdAndGrade (s .«basic_thresholder») (c .reading .score)
+      opens = opening-is (s .«basic_thresholder») (c .reading) (c .reading .score) (by-distance _ d)
+
+      counts : Counts (s .«basic_thresholder») (c .reading .score) (stateAfter s (c .reading) (c .last) (c .lent) (outcomeAt s c) .«basic_thresholder»)
+      counts =
+          subst (λ (t : BasicThresholder). Counts (s .«basic_thresholder») (c .reading .score) t)
+          (sym (ap (λ (u : PredictorCorrector). u .«basic_thresholder») state-of ∙ accepted-counts s (c .reading) (c .last) (c .lent) (by-distance _ d) (false-of _ z)))
+          (primary-counts (s .«basic_thresholder») (c .reading .score))
+
+      threshold-opens : shownBy s (c .reading) (outcomeAt s c) .threshold ≡ primaryThresholdAndGrade (s .«basic_thresholder») (c .reading .score) .threshold
+      threshold-opens = ap (λ (v : Shown). v .threshold) shown-of ∙ shows .threshold ∙ ap (λ (g : Graded). g .threshold) opens
+
+      grade-opens : shownBy s (c .reading) (outcomeAt s c) .opening ≡ primaryThresholdAndGrade (s .«basic_thresholder») (c .reading .score) .grade
+      grade-opens = ap (λ (v : Shown). v .opening) shown-of ∙ ap (λ (g : Graded). g .grade) opens
+
+      ends-quiet : shownBy s (c .reading) (outcomeAt s c) .opening ≡ zero32 → shownBy s (c .reading) (outcomeAt s c) .ends ≡ zero32
+      ends-quiet g =
+          let o : opened s (c .reading) .grade ≡ zero32 = sym (ap (λ (v : Shown). v .opening) shown-of) ∙ g in
+          ap (λ (v : Shown). v .ends) shown-of ∙ quiet-ends said (shows .quiet ∙ ap (λ (x : Float). eq x zero32) o ∙ zero-is-zero)
+
 pub watch-keeps : Laws watch (λ (s : PredictorCorrector). s .«basic_thresholder»)
 watch-keeps = record {
-  refused-keeps = refused-at;
-  zero-keeps = zeros;
-  counts = counts;
-  opens-threshold = λ (s : PredictorCorrector) (r : Lending) (a : T (not (isRefusal (answerAt s r)))) (c : T (not (eq (r .reading .score) zero32))). ap (λ (g : Graded). g .threshold) (opens s r);
-  opens-grade = λ (s : PredictorCorrector) (r : Lending) (a : T (not (isRefusal (answerAt s r)))) (c : T (not (eq (r .reading .score) zero32))). ap (λ (g : Graded). g .grade) (opens s r);
-  ends = quiet;
+  refused-keeps = λ (s : PredictorCorrector) (r : Lending). refused-at s (r .call);
+  zero-keeps = λ (s : PredictorCorrector) (r : Lending). zeros s (r .call);
+  counts = λ (s : PredictorCorrector) (r : Lending) (a : T (not (isRefusal (answerAt s (r .call))))). counts s (r .call) a (r .distance);
+  opens-threshold = λ (s : PredictorCorrector) (r : Lending) (a : T (not (isRefusal (answerAt s (r .call))))). threshold-opens s (r .call) a (r .distance);
+  opens-grade = λ (s : PredictorCorrector) (r : Lending) (a : T (not (isRefusal (answerAt s (r .call))))). grade-opens s (r .call) a (r .distance);
+  ends = λ (s : PredictorCorrector) (r : Lending) (a : T (not (isRefusal (answerAt s (r .call))))). ends-quiet s (r .call) a (r .distance);
 }
-  where
-    opens : (s : PredictorCorrector) (r : Lending) → opening (s .«basic_thresholder») (r .reading) (r .reading .score) ≡ primaryThresholdAndGrade (s .«basic_thresholder») (r .reading .score)
-    opens s r = opening-is (s .«basic_thresholder») (r .reading) (r .reading .score) (by-distance _ (r .distance))
-
-    state-of : (s : PredictorCorrector) (r : Lending) → T (not (isRefusal (answerAt s r))) → watch .next s r ≡ stateAfter s (r .reading) (r .last) (r .lent) (Accepted (verdict (r .reading) (r .last) (r .lent) s))
-    state-of s r a = ap (stateAfter s (r .reading) (r .last) (r .lent)) (accepted-at s r a)
-
-    zeros : (s : PredictorCorrector) (r : Lending) → T (not (isRefusal (answerAt s r))) → T (eq (r .reading .score) zero32) → watch .next s r ≡ s
-    zeros s r a z = state-of s r a ∙ skipped-state s (r .reading) (r .last) (r .lent) (zero-skips s (r .reading) (r .last) (r .lent) (true-of _ z))
-
-    counts : (s : PredictorCorrector) (r : Lending) → T (not (isRefusal (answerAt s r))) → T (not (eq (r .reading .score) zero32))
-        → Counts (s .«basic_thresholder») (r .reading .score) (watch .next s r .«basic_thresholder»)
-    counts s r a c =
-        subst (λ (t : BasicThresholder). Counts (s .«basic_thresholder») (r .reading .score) t)
-        (sym (ap (λ (u : PredictorCorrector). u .«basic_thresholder») (state-of s r a) ∙ accepted-counts s (r .reading) (r .last) (r .lent) (by-distance _ (r .distance)) (false-of _ c)))
-        (primary-counts (s .«basic_thresholder») (r .reading .score))
-
-    quiet : (s : PredictorCorrector) (r : Lending) → T (not (isRefusal (answerAt s r))) → T (not (eq (r .reading .score) zero32))
-        → opening (s .«basic_thresholder») (r .reading) (r .reading .score) .grade ≡ zero32 → ends (outcomeAt s r) ≡ zero32
-    quiet s r a c g = ap ends (accepted-at s r a) ∙ quiet-ends s (r .reading) (r .last) (r .lent) (false-of _ c) g

@@ -1,1 +1,3 @@
-pub mod Watch
+pub mod Calls
+pub mod Calm
+pub mod Statement

@@ -11,9 +11,9 @@ use Rattle.basicthresholder.specs.Updates.{freshThresholder}
 use Rattle.ledger.proofs.Model as Model
 use Rattle.ledger.specs.Fractions.{Fraction, times, dividedBy, Le, fractionOf, plusZero}
 use Rattle.ledger.specs.Ledger.{Ledger, blank, mean, variance, Under, At, Over, AtOrUnder, AtOrOver, spreadSquared}
-use Rattle.ledger.specs.Statement.{accepted, Sizes}
+use Rattle.ledger.specs.Statement.{mostReadings, accepted, Sizes}
 use Rattle.ledger.proofs.Impostors.{in-bounds, jump, dip, accepts, shows, Broken, Breaks, raisedOnly, all-zero-is-out, fixed-is-out, never-updating-is-out, raised-only-is-out}
-use Rattle.ledger.proofs.Laws.{Laws}
+use Rattle.ledger.specs.Theorem.{Laws}
 use Rattle.ledger.proofs.Order.{in-order}
 use Rattle.ledger.proofs.Schwarz.{after, sound, mean-squared}
 use Rattle.ledger.proofs.Sides.{some-side, not-under-at, not-under-over, not-at-over, at-or-under, under-or-at, at-or-over, over-or-at}
@@ -64,7 +64,7 @@ model = Model.model-keeps
 
 -- ---- the watches that demand 3 excludes, each by one closed list within its bounds
 pub record Excluded : Type 0 where
-  pub in-bounds : (accepted (accepts jump) ≤ 65536) × Sizes (accepts jump) × (accepted (accepts dip) ≤ 65536) × Sizes (accepts dip)
+  pub in-bounds : (accepted (accepts jump) ≤ mostReadings) × Sizes (accepts jump) × (accepted (accepts dip) ≤ mostReadings) × Sizes (accepts dip)
   pub all-zero : (thresholds ends : ℕ → Float) → Broken jump (shows thresholds (λ n. plusZero) ends 12)
   pub fixed-threshold : (c : Float) (openings ends : ℕ → Float) → Broken jump (shows (λ n. c) openings ends 12)
   pub never-updates : (t : BasicThresholder) → Breaks (λ u x. u) t jump

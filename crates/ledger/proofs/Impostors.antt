@@ -20,7 +20,7 @@ use Rattle.ieee.specs.Round.{narrow}
 use Rattle.util.specs.Util.{minf32}
 use Rattle.ledger.specs.Fractions.{over, fractionOf, plusZero}
 use Rattle.ledger.specs.Ledger.{blank, factor}
-use Rattle.ledger.specs.Statement.{Judged, Told, Shown, Demand3, accepted, Sized, Sizes, showed}
+use Rattle.ledger.specs.Statement.{mostReadings, Judged, Told, Shown, Demand3, accepted, Sized, Sizes, showed}
 use Rattle.ledger.proofs.Model.{Reading, watch}
 use Rattle.ledger.proofs.Schwarz.{after}
 use Rattle.ledger.proofs.Values.{plusOne}
@@ -124,7 +124,7 @@ raised-only-is-out adjust h =
 sized-one : Sized plusOne
 sized-one = record { plain = tt; least = lit≤ tt; most = lit≤ tt }
 
-pub in-bounds : (accepted (accepts jump) ≤ 65536) × Sizes (accepts jump) × (accepted (accepts dip) ≤ 65536) × Sizes (accepts dip)
+pub in-bounds : (accepted (accepts jump) ≤ mostReadings) × Sizes (accepts jump) × (accepted (accepts dip) ≤ mostReadings) × Sizes (accepts dip)
 in-bounds = (lit≤ tt, ten thousand (record { plain = tt; least = lit≤ tt; most = lit≤ tt }), lit≤ tt, ten half (record { plain = tt; least = lit≤ tt; most = lit≤ tt }))
   where
     more : (n : ℕ) (xs : List Float) → Sizes (accepts xs) → Sizes (accepts (ones n xs))

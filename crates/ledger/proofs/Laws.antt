@@ -1,37 +1,12 @@
--- What a judge must keep for demand 3: a handful of laws over the thresholder that its state holds. Assumes nothing.
-use mathlib.Core.Path.{_≡_, refl}
-use mathlib.Core.Bool.{Bool, true, false, not, cond}
-use lib.IntN.{pos}
-use lib.Dec.{T}
-use lib.Ieee.{Float, eq}
-use Rattle.deviation.specs.Statistics.{fresh, counted, oneMore}
-use Rattle.basicthresholder.specs.Const.{zero32, zFactorDefault}
+-- The thresholder of basicthresholder.rs counts as a judge's must, and a new one is new. Assumes nothing.
+use mathlib.Core.Path.{refl}
+use mathlib.Core.Bool.{Bool, true, false, cond}
+use lib.Ieee.{Float}
+use Rattle.basicthresholder.specs.Const.{zFactorDefault}
 use Rattle.basicthresholder.specs.declared.BasicThresholder.{BasicThresholder}
-use Rattle.basicthresholder.specs.Grades.{primaryThresholdAndGrade}
 use Rattle.basicthresholder.specs.Updates.{freshThresholder, primaryCounted, withZFactor, horizonSet, isHorizon, withScoreDifferencing}
-use Rattle.ledger.specs.Statement.{Judge}
+use Rattle.ledger.specs.Theorem.{Counts, New}
 
--- a thresholder that takes a score: it enters the primary statistic once and uncapped, and the z factor stays
-pub record Counts (before : BasicThresholder) (score : Float) (after : BasicThresholder) : Type 0 where
-  pub primary : after .«primary_deviation» ≡ counted (before .«primary_deviation») score
-  pub count : after .count ≡ oneMore (before .count)
-  pub z-factor : after .«z_factor» ≡ before .«z_factor»
-
-pub record Laws (J : Judge) (thresholder : J .State → BasicThresholder) : Type 0 where
-  pub refused-keeps : (s : J .State) (r : J .Reading) → T (J .refused s r) → J .next s r ≡ s
-  pub zero-keeps : (s : J .State) (r : J .Reading) → T (not (J .refused s r)) → T (eq (J .score r) zero32) → J .next s r ≡ s
-  pub counts : (s : J .State) (r : J .Reading) → T (not (J .refused s r)) → T (not (eq (J .score r) zero32)) → Counts (thresholder s) (J .score r) (thresholder (J .next s r))
-  pub opens-threshold : (s : J .State) (r : J .Reading) → T (not (J .refused s r)) → T (not (eq (J .score r) zero32)) → J .shown s r .threshold ≡ primaryThresholdAndGrade (thresholder s) (J .score r) .threshold
-  pub opens-grade : (s : J .State) (r : J .Reading) → T (not (J .refused s r)) → T (not (eq (J .score r) zero32)) → J .shown s r .opening ≡ primaryThresholdAndGrade (thresholder s) (J .score r) .grade
-  pub ends : (s : J .State) (r : J .Reading) → T (not (J .refused s r)) → T (not (eq (J .score r) zero32)) → J .shown s r .opening ≡ zero32 → J .shown s r .ends ≡ zero32
-
--- what the thresholder of a new state has, z being set or not, and whatever horizon was set
-pub record New (d z : Float) (t : BasicThresholder) : Type 0 where
-  pub primary : t .«primary_deviation» ≡ fresh d
-  pub count : t .count ≡ pos 0
-  pub z-factor : t .«z_factor» ≡ z
-
--- ---- how the definitions of basicthresholder.rs give these
 pub primary-counts : (t : BasicThresholder) (x : Float) → Counts t x (primaryCounted t x)
 unfolding primaryCounted
 primary-counts t x = record { primary = refl; count = refl; z-factor = refl }

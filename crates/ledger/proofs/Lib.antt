@@ -12,6 +12,7 @@ mod Variance
 mod Threshold
 mod Opening
 mod Grade
+mod Weaker
 mod OneScore
 pub mod Laws
 pub mod WholeList

@@ -16,7 +16,8 @@ use Rattle.ieee.specs.Round.{narrow, sqrt, isqrt}
 use Rattle.ledger.specs.Fractions.{Fraction, over, Same, plusZero}
 use Rattle.ledger.specs.Ledger.{Ledger, blank, enter, factor, mean, At}
 use Rattle.ledger.specs.Statement.{Judge}
-use Rattle.ledger.proofs.Laws.{Counts, Laws, primary-counts}
+use Rattle.ledger.specs.Theorem.{Counts, Laws}
+use Rattle.ledger.proofs.Laws.{primary-counts}
 use Rattle.ledger.proofs.Schwarz.{after}
 use Rattle.ledger.proofs.Values.{plusOne}
 

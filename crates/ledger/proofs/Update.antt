@@ -2,7 +2,7 @@
 use mathlib.Core.Path.{_≡_, refl, sym, ap, _∙_, subst, subst₂}
 use mathlib.Core.Logic.{_⊎_, inl, inr}
 use Prim.Native.Nat.{ℕ, suc, _+_, _*_, _^_, _≤_, _<_, zero-le}
-use native.Mathlib.Nat.{le-trans, le-of-eq, le-refl, mul-assoc, mul-le-mul-right, mul-le-mul, mul-pos, zero-mul, mul-one, one-mul, zero-lt-suc, suc-mul}
+use native.Mathlib.Nat.{le-trans, le-of-eq, le-refl, mul-assoc, mul-le-mul-left, mul-le-mul-right, mul-le-mul, mul-pos, zero-mul, mul-one, one-mul, zero-lt-suc, suc-mul}
 use native.Mathlib.Omega.{arith}
 use lib.Dec.{T, lit≤}
 use lib.Arith.{le-zero}
@@ -82,7 +82,10 @@ moved-about n e S f x s r v N E a h b R q c D t =
 
 -- ---- all three
 pub sized-range : (x : Float) → Sized x → Range 30 30 (fractionOf x)
-sized-range x w = record { least = le-trans (le-of-eq (sym (one-mul (denOf x)))) (w .least); most = le-trans (le-of-eq (sym (mul-one (numOf x)))) (w .most) }
+sized-range x w = record {
+  least = le-trans (le-of-eq (sym (one-mul (denOf x)))) (le-trans (w .least) (mul-le-mul-left (numOf x) (lit≤ tt)));
+  most = le-trans (le-of-eq (sym (mul-one (numOf x)))) (le-trans (w .most) (mul-le-mul-right (denOf x) (lit≤ tt)));
+}
 
 -- the statistic s of discount d and the ledger b have both counted the same n scores
 pub record Track (d : Float) (n : ℕ) (s : Deviation) (b : Ledger) : Type 0 where

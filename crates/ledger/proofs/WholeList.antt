@@ -9,7 +9,7 @@ use native.Mathlib.Numerals.{add-one}
 use mathlib.Core.Bool.{Bool, true, false, not, _&&_, cond}
 use lib.IntN.{ℤ, pos}
 use lib.Dec.{T, leb, ltb, eqb, lit≤, leb→le, nleb→lt, eqb→eq, le→leb, ltb→lt, lt→ltb}
-use lib.Ieee.{Float, nan, inf, fin, binary64, up, down, eq, lt, le, ne, fits, ofBits}
+use lib.Ieee.{Float, nan, inf, fin, up, down, eq, lt, le, ne, ofBits}
 use lib.Ieee.Positive.{num as numOf, den as denOf, den-pos, positive, le→cross}
 use Rattle.deviation.specs.declared.Deviation.{Deviation}
 use Rattle.deviation.specs.Statistics as Statistics
@@ -18,9 +18,9 @@ use Rattle.basicthresholder.specs.declared.BasicThresholder.{BasicThresholder}
 use Rattle.basicthresholder.specs.Grades.{primaryThresholdAndGrade, threshold, primaryGrade, isDeviationReady, countsReady}
 use Rattle.ledger.specs.Fractions.{Fraction, over, none, plus, minus, part, larger, Le, plain, fractionOf, plusZero}
 use Rattle.ledger.specs.Ledger.{Ledger, blank, enter, AtOrUnder, AtOrOver, Over}
-use Rattle.ledger.specs.Statement.{counted, Told, Judged, Either, Agree, Demand3, accepted, Sized, Sizes, Judge, told, showed}
+use Rattle.ledger.specs.Statement.{closeness, clearance, enoughScores, counted, Told, Judged, Either, Agree, accepted, Sized, Sizes, InBounds, Judge, told, showed}
+use Rattle.ledger.specs.Theorem.{Laws, New, Theorem}
 use Rattle.ledger.proofs.Factor.{eq-is, zero-num, Discount, discount-of}
-use Rattle.ledger.proofs.Laws.{Laws, New}
 use Rattle.ledger.proofs.OneScore.{compared, openingGrade}
 use Rattle.ledger.proofs.Opening.{Capped, capped-step, opening}
 use Rattle.ledger.proofs.Update.{Track, sized-range, track-fresh, track-step}
@@ -192,10 +192,10 @@ module _ (J : Judge) (thresholder : J .State → BasicThresholder) (F : Laws J t
   opened-grade n t x h e f g = ap (λ (k : Bool). cond k (openingGrade (t .«z_factor») (t .«primary_deviation») x) zero32) (ready n t h e f) ∙ ap (λ (k : Float). openingGrade k (t .«primary_deviation») x) g
 
   judged : (n : ℕ) (s : J .State) (b : Ledger) (M : Fraction) (r : J .Reading) → n ≤ 65536 → T (not (J .refused s r)) → T (not (eq (J .score r) zero32)) → Sized (J .score r) → Inv n s b M
-      → 10 ≤ b .n → Judged (fractionOf z) M b (J .score r) (J .shown s r)
+      → enoughScores ≤ b .n → Judged (fractionOf z) M b (J .score r) (J .shown s r)
   unfolding ofBits
   judged n s b M r l a c w i ten =
-      let n-ten : 10 ≤ n = subst (λ (k : ℕ). 10 ≤ k) (i .track .counted) ten in
+      let n-ten : 10 ≤ n = le-trans (lit≤ tt) (subst (λ (k : ℕ). enoughScores ≤ k) (i .track .counted) ten) in
       let x = J .score r in
       let p = thresholder s .«primary_deviation» in
       let t-is : J .shown s r .threshold ≡ opening z p = F .opens-threshold s r a c ∙ opened-threshold (thresholder s) x (i .z-factor) in
@@ -203,10 +203,10 @@ module _ (J : Judge) (thresholder : J .State → BasicThresholder) (F : Laws J t
       let m = compared d n p b z M (le-trans (lit≤ tt) n-ten) l (i .track) (i .capped) (i .den) (full n-ten (i .range)) z-p z-le x w in
       record {
         number = subst (λ (k : Float). T (plain k)) (sym t-is) (m .number);
-        not-over = subst (λ (k : Float). AtOrUnder (fractionOf z) b (minus (fractionOf k) (part M 2048))) (sym t-is) (m .not-over);
-        not-under = subst (λ (k : Float). AtOrOver (fractionOf z) b (plus (fractionOf k) (part M 2048))) (sym t-is) (m .not-under);
-        quiet = λ (h : AtOrUnder (fractionOf z) b (plus (fractionOf x) (part M 1024))). F .ends s r a c (g-is ∙ m .quiet h);
-        raised = λ (h : Over (fractionOf z) b (minus (fractionOf x) (part M 1024))). subst (λ (k : Float). T (lt plusZero k)) (sym g-is) (m .raised h);
+        not-over = subst (λ (k : Float). AtOrUnder (fractionOf z) b (minus (fractionOf k) (part M closeness))) (sym t-is) (m .not-over);
+        not-under = subst (λ (k : Float). AtOrOver (fractionOf z) b (plus (fractionOf k) (part M closeness))) (sym t-is) (m .not-under);
+        quiet = λ (h : AtOrUnder (fractionOf z) b (plus (fractionOf x) (part M clearance))). F .ends s r a c (g-is ∙ m .quiet h);
+        raised = λ (h : Over (fractionOf z) b (minus (fractionOf x) (part M clearance))). subst (λ (k : Float). T (lt plusZero k)) (sym g-is) (m .raised h);
       }
     where
       full : {n : ℕ} {M : Fraction} → 10 ≤ n → ((n ≡ 0) × (M .num ≡ 0)) ⊎ Range 30 30 M → Range 30 30 M
@@ -258,11 +258,10 @@ module _ (J : Judge) (thresholder : J .State → BasicThresholder) (F : Laws J t
   }
 
 -- ---- demand 3: any list of readings, judged in turn from a new state
-pub demand-3 : (J : Judge) (thresholder : J .State → BasicThresholder) → Laws J thresholder
-    → (d z : Float) → T (fits binary64 d) → T (Statistics.isDiscount d) → T (lt zero32 z) → T (le z sixteen32)
-    → (s : J .State) → New d z (thresholder s)
-    → (rs : List (J .Reading)) → accepted (told J s rs) ≤ 65536 → Sizes (told J s rs)
-    → Demand3 d z (told J s rs) (showed J s rs)
-demand-3 J thresholder F d z f D z-above z-le s w rs l sizes =
-    let p = z-positive z z-above z-le in
-    along J thresholder F d z (discount-of d f D) (z-plain z p) (z-most z p z-le) rs 0 s blank none (start J thresholder F d z (discount-of d f D) (z-plain z p) (z-most z p z-le) s w) (le-trans (le-of-eq (zero-add (accepted (told J s rs)))) l) sizes
+pub demand-3 : Theorem
+demand-3 J thresholder F d z f D s w rs b =
+    let p = z-positive z (b .z-above) (b .z-most) in
+    let D' = discount-of d f D in
+    let z-le = z-most z p (b .z-most) in
+    let few : 0 + accepted (told J s rs) ≤ 65536 = le-trans (le-of-eq (zero-add (accepted (told J s rs)))) (le-trans (b .readings) (lit≤ tt)) in
+    along J thresholder F d z D' (z-plain z p) z-le rs 0 s blank none (start J thresholder F d z D' (z-plain z p) z-le s w) few (b .scores)

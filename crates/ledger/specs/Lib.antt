@@ -1,3 +1,4 @@
 pub mod Fractions
 pub mod Ledger
 pub mod Statement
+pub mod Theorem

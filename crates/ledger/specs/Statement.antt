@@ -6,10 +6,33 @@ use mathlib.Core.Bool.{Bool, true, false, not, cond, _&&_}
 use mathlib.Core.List.{List, [], _∷_}
 use Prim.Native.Nat.{ℕ, _+_, _^_, _≤_}
 use lib.Dec.{T, eqb}
-use lib.Ieee.{Float, lt, eq}
+use lib.Ieee.{Float, lt, le, eq}
+use Rattle.basicthresholder.specs.Const.{zero32, sixteen32}
 use Rattle.ledger.specs.Fractions.{Fraction, over, none, plus, minus, part, larger, Le, fractionOf, plain, plusZero}
 use Rattle.ledger.specs.Ledger.{Ledger, blank, enter, AtOrUnder, AtOrOver, Over}
 
+-- ---- the numbers of the statement, each in this place alone
+-- "The two opening thresholds differ by at most M/2048."
+abbrev pub closeness : ℕ
+closeness = 2048
+
+-- "A score M/1024 or more under the ledger's threshold"; "one more than M/1024 over it".
+abbrev pub clearance : ℕ
+clearance = 1024
+
+-- "With ten or more counted before it."
+abbrev pub enoughScores : ℕ
+enoughScores = 10
+
+-- "At most 65,536 accepted readings."
+abbrev pub mostReadings : ℕ
+mostReadings = 65536
+
+-- "From 2^-30 to 2^30."
+abbrev pub largestScore : ℕ
+largestScore = 2 ^ 30
+
+-- ---- what is told, what is shown, and that the two agree
 -- "Of each reading it is told besides [its score] only whether the refusal table refuses it."
 pub record Told : Type 0 where
   pub refused : Bool
@@ -30,10 +53,10 @@ counted t = not (t .refused) && not (eqb (fractionOf (t .score) .num) 0)
 -- more than M/1024 over it gets an opening grade above 0".
 pub record Judged (z M : Fraction) (b : Ledger) (x : Float) (v : Shown) : Type 0 where
   pub number : T (plain (v .threshold))
-  pub not-over : AtOrUnder z b (minus (fractionOf (v .threshold)) (part M 2048))
-  pub not-under : AtOrOver z b (plus (fractionOf (v .threshold)) (part M 2048))
-  pub quiet : AtOrUnder z b (plus (fractionOf x) (part M 1024)) → v .ends ≡ plusZero
-  pub raised : Over z b (minus (fractionOf x) (part M 1024)) → T (lt plusZero (v .opening))
+  pub not-over : AtOrUnder z b (minus (fractionOf (v .threshold)) (part M closeness))
+  pub not-under : AtOrOver z b (plus (fractionOf (v .threshold)) (part M closeness))
+  pub quiet : AtOrUnder z b (plus (fractionOf x) (part M clearance)) → v .ends ≡ plusZero
+  pub raised : Over z b (minus (fractionOf x) (part M clearance)) → T (lt plusZero (v .opening))
 
 abbrev pub Either : Bool → Type 0 → Type 0 → Type 0
 Either true A B = A
@@ -46,14 +69,14 @@ Agree d z b M [] (v ∷ vs) = ⊥
 Agree d z b M (t ∷ ts) [] = ⊥
 Agree d z b M (t ∷ ts) (v ∷ vs) =
     Either (counted t)
-    ((10 ≤ b .n → Judged z M b (t .score) v) × Agree d z (enter d b (fractionOf (t .score))) (larger M (fractionOf (t .score))) ts vs)
+    ((enoughScores ≤ b .n → Judged z M b (t .score) v) × Agree d z (enter d b (fractionOf (t .score))) (larger M (fractionOf (t .score))) ts vs)
     (Agree d z b M ts vs)
 
 -- The list from its start, for the discount d and the z factor.
 abbrev pub Demand3 : Float → Float → List Told → List Shown → Type 0
 Demand3 d z ts vs = Agree (fractionOf d) (fractionOf z) blank none ts vs
 
--- "At most 65,536 accepted readings": how many of a list are accepted.
+-- How many readings of a list are accepted.
 abbrev pub accepted : List Told → ℕ
 accepted [] = 0
 accepted (t ∷ ts) = cond (t .refused) 0 1 + accepted ts
@@ -61,13 +84,22 @@ accepted (t ∷ ts) = cond (t .refused) 0 1 + accepted ts
 -- "Their scores zero or from 2^-30 to 2^30, none negative."
 pub record Sized (x : Float) : Type 0 where
   pub plain : T (plain x)
-  pub least : Le (over 1 (2 ^ 30)) (fractionOf x)
-  pub most : Le (fractionOf x) (over (2 ^ 30) 1)
+  pub least : Le (over 1 largestScore) (fractionOf x)
+  pub most : Le (fractionOf x) (over largestScore 1)
 
 abbrev pub Sizes : List Told → Type 0
 Sizes [] = Unit
 Sizes (t ∷ ts) = (T (not (t .refused)) → T (eq (t .score) plusZero) ⊎ Sized (t .score)) × Sizes ts
 
+-- The bounds of the statement: "a fixed z factor above 0 and at most 16, at most 65,536 accepted readings, their scores zero or from 2^-30 to 2^30, none
+-- negative".
+pub record InBounds (z : Float) (ts : List Told) : Type 0 where
+  pub z-above : T (lt zero32 z)
+  pub z-most : T (le z sixteen32)
+  pub readings : accepted ts ≤ mostReadings
+  pub scores : Sizes ts
+
+-- ---- a judge, and what it shows
 -- A judge: "each reading takes the state that the one before it returned". Whether a reading is refused may depend on the state.
 pub record Judge : Type 1 where
   pub State : Type 0
