@@ -1,93 +1,57 @@
-//! Judges the recorded week of `week.txt` and prints what a ward wants to see: the readings that
-//! are raised or could not be judged, and each drawer's counts.
+//! Judges the recorded month and prints one week of it as a ward wants to see it: the readings that
+//! are raised, corrected or could not be judged, and each drawer's counts.
 
 mod ward;
 
-use std::collections::BTreeMap;
 use std::fmt::Write;
 use std::process::ExitCode;
 
-use ward::{Drawer, Lent, SHINGLE};
-use withdrawal_watch::{Refusal, Verdict};
+use ward::{lines, wanted, ward, Judged, Wanted, Watched, MONTH, SHINGLE};
+use withdrawal_watch::Verdict;
 
-const WEEK: &str = include_str!("week.txt");
+const HELP: &str = "\
+Judges the recorded month of five drawers and prints what was said in one week of it.
 
-/// One line of the file.
-struct Withdrawal<'a> {
-    when: String,
-    drawer: &'a str,
-    drug: &'a str,
-    lent: Lent,
-}
+    week [DAY]    the week that begins on this day of the month, 1 to 24; 12 if none is given
 
-/// The next four numbers.
-fn four<T: Copy + Default>(from: &mut impl Iterator<Item = T>) -> Option<[T; SHINGLE]> {
-    let mut row = [T::default(); SHINGLE];
-    for place in &mut row {
-        *place = from.next()?;
-    }
-    Some(row)
-}
+For each reading that was raised (recount the drawer), corrected (something explains it) or not
+judged: its score beside the threshold that it was held to. At the end each drawer's counts, and the
+range of its scores and thresholds.
+";
 
-/// The numbers of a line in the file's order. Each is read as an f64, which holds every f32.
-fn lent(mut numbers: impl Iterator<Item = f64>) -> Option<Lent> {
-    let from = &mut numbers;
-    let narrow = |row: [f64; SHINGLE]| row.map(|x| x as f32);
-    let lent = Lent {
-        point: narrow(four(from)?),
-        score: from.next()? as f32,
-        corrected_score: from.next()? as f32,
-        high: four(from)?,
-        low: four(from)?,
-        median: narrow(four(from)?),
-        expected_high: four(from)?,
-        expected_low: four(from)?,
-    };
-    from.next().is_none().then_some(lent)
-}
-
-fn withdrawal(line: &str) -> Option<Withdrawal<'_>> {
-    let mut words = line.split_whitespace().filter(|word| *word != "|");
-    let when = format!("{} {}", words.next()?, words.next()?);
-    let (drawer, drug) = (words.next()?, words.next()?);
-    let numbers: Option<Vec<f64>> = words.map(|word| word.parse().ok()).collect();
-    let lent = lent(numbers?.into_iter())?;
-    Some(Withdrawal {
-        when,
-        drawer,
-        drug,
-        lent,
-    })
-}
-
-/// A drawer and how often each answer came up.
-struct Watched<'a> {
-    drug: &'a str,
-    drawer: Drawer,
+/// How often each answer came up in the week, and how far scores and thresholds went.
+#[derive(Default)]
+struct Counts {
     quiet: u32,
     corrected: u32,
     raised: u32,
     skipped: u32,
     refused: u32,
+    scores: Range,
+    thresholds: Range,
 }
 
-impl<'a> Watched<'a> {
-    fn new(drug: &'a str) -> Result<Watched<'a>, Refusal> {
-        Ok(Watched {
-            drug,
-            drawer: Drawer::new()?,
-            quiet: 0,
-            corrected: 0,
-            raised: 0,
-            skipped: 0,
-            refused: 0,
-        })
+/// The smallest and the largest of some numbers.
+#[derive(Default)]
+struct Range(Option<(f32, f32)>);
+
+impl Range {
+    fn add(&mut self, x: f32) {
+        let (least, most) = self.0.unwrap_or((x, x));
+        self.0 = Some((least.min(x), most.max(x)));
     }
 
-    /// Judges a withdrawal; what the ward is to see of it at once.
-    fn judge(&mut self, w: &Withdrawal) -> Option<String> {
-        let verdict = self.drawer.judge(&w.lent);
-        let counter = match &verdict {
+    fn show(&self) -> String {
+        match self.0 {
+            Some((least, most)) => format!("{least:.2} to {most:.2}"),
+            None => "none".to_string(),
+        }
+    }
+}
+
+impl Counts {
+    fn add(&mut self, judged: &Judged) {
+        let counter = match &judged.said {
             Ok(Verdict::Quiet { .. }) => &mut self.quiet,
             Ok(Verdict::Corrected { .. }) => &mut self.corrected,
             Ok(Verdict::Raised { .. }) => &mut self.raised,
@@ -95,99 +59,140 @@ impl<'a> Watched<'a> {
             Err(_) => &mut self.refused,
         };
         *counter += 1;
-        match verdict {
-            Ok(Verdict::Raised {
-                grade,
-                relative_index,
-                expected_point,
-                ..
-            }) => Some(recount(w, grade, relative_index, &expected_point)),
-            Err(why) => Some(format!("not judged, {why}")),
-            Ok(_) => None,
+        judged.score.into_iter().for_each(|x| self.scores.add(x));
+        if let Some(threshold) = judged.said.as_ref().ok().and_then(Verdict::threshold) {
+            self.thresholds.add(threshold);
         }
     }
 
-    fn counts(&self) -> String {
-        let Watched {
+    fn show(&self) -> String {
+        let Counts {
             quiet,
             corrected,
             raised,
             skipped,
             refused,
-            ..
+            scores,
+            thresholds,
         } = self;
         let readings = quiet + corrected + raised + skipped + refused;
         format!(
             "{readings} readings: {quiet} quiet, {corrected} corrected, {raised} raised, \
-             {skipped} skipped, {refused} not judged"
+             {skipped} skipped, {refused} not judged; scores {}, thresholds {}",
+            scores.show(),
+            thresholds.show()
         )
     }
 }
 
-/// What stands out in a raised reading. Its row is counted back from the newest, which is 0.
-fn recount(w: &Withdrawal, grade: f32, relative_index: i32, expected: &[f32]) -> String {
-    let back = relative_index.unsigned_abs() as usize;
-    let row = SHINGLE - 1 - back;
-    let which = match back {
-        0 => String::new(),
-        _ => format!(", {back} withdrawals before"),
-    };
-    format!(
-        "recount: grade {grade:.2}, {} taken where {} was expected{which}",
-        w.lent.point[row], expected[row]
-    )
+/// What the ward is to see of a reading at once.
+fn said(watched: &Watched, judged: &Judged) -> Option<String> {
+    let score = judged.score.unwrap_or(0.0);
+    match &judged.said {
+        Ok(Verdict::Raised {
+            threshold,
+            grade,
+            relative_index,
+            expected_point,
+            ..
+        }) => {
+            let back = relative_index.unsigned_abs() as usize;
+            let row = SHINGLE - 1 - back;
+            let which = match back {
+                0 => String::new(),
+                1 => ", the withdrawal before".to_string(),
+                _ => format!(", {back} withdrawals before"),
+            };
+            Some(format!(
+                "recount: score {score:.2} over threshold {threshold:.2}, grade {grade:.2}; \
+                 {} taken where {:.1} was expected{which}",
+                watched.point[row], expected_point[row]
+            ))
+        }
+        Ok(Verdict::Corrected { threshold, mode }) => Some(format!(
+            "corrected: score {score:.2} over threshold {threshold:.2}, {mode:?}"
+        )),
+        Ok(_) => None,
+        Err(why) => Some(format!("not judged, {why}")),
+    }
 }
 
-fn report(week: &str) -> Result<String, String> {
+fn report(month: &str, first: u32) -> Result<String, String> {
     let mut out = String::new();
-    let mut ward: BTreeMap<&str, Watched> = BTreeMap::new();
-    let lines = week.lines().enumerate();
-    for (k, line) in lines.filter(|(_, line)| !line.starts_with('#')) {
-        let w = withdrawal(line).ok_or_else(|| format!("line {}: {line}", k + 1))?;
-        if !ward.contains_key(w.drawer) {
-            let watched = Watched::new(w.drug).map_err(|why| why.to_string())?;
-            ward.insert(w.drawer, watched);
+    let mut drawers = ward().map_err(|why| why.to_string())?;
+    let mut counts: Vec<Counts> = drawers.iter().map(|_| Counts::default()).collect();
+    for line in lines(month)? {
+        let known = drawers.iter().position(|d| d.about.name == line.drawer);
+        let k = known.ok_or_else(|| format!("no drawer {}", line.drawer))?;
+        let judged = drawers[k].judge(line.amount);
+        if !(first..first + 7).contains(&line.day) {
+            continue;
         }
-        let watched = ward.get_mut(w.drawer).expect("inserted above");
-        if let Some(said) = watched.judge(&w) {
-            let (when, drawer, drug) = (&w.when, w.drawer, w.drug);
-            writeln!(out, "{when}  drawer {drawer}  {drug:<9}  {said}").expect("a string");
+        counts[k].add(&judged);
+        if let Some(said) = said(&drawers[k], &judged) {
+            let (day, time, about) = (line.day, line.time, &drawers[k].about);
+            let (name, drug) = (about.name, about.drug);
+            writeln!(out, "{day:2} {time}  drawer {name}  {drug:<9}  {said}").expect("a string");
         }
     }
     out.push('\n');
-    for (name, watched) in &ward {
-        let counts = watched.counts();
-        writeln!(out, "drawer {name}  {:<9}  {counts}", watched.drug).expect("a string");
+    for (drawer, counts) in drawers.iter().zip(&counts) {
+        let (name, drug) = (drawer.about.name, drawer.about.drug);
+        writeln!(out, "drawer {name}  {drug:<9}  {}", counts.show()).expect("a string");
     }
     Ok(out)
 }
 
+/// The day that the arguments name.
+fn first_day(given: &[String]) -> Result<u32, String> {
+    let Some(word) = given.first() else {
+        return Ok(12);
+    };
+    let day = word.parse().ok().filter(|day| (1..=24).contains(day));
+    day.ok_or_else(|| format!("no day from 1 to 24: {word}"))
+}
+
 fn main() -> ExitCode {
-    match report(WEEK) {
+    let given = match wanted(1) {
+        Wanted::Run(given) => first_day(&given),
+        Wanted::Help => {
+            print!("{HELP}");
+            return ExitCode::SUCCESS;
+        }
+        Wanted::Wrong(why) => Err(why),
+    };
+    match given.and_then(|first| report(MONTH, first)) {
         Ok(text) => {
             print!("{text}");
             ExitCode::SUCCESS
         }
         Err(why) => {
             eprintln!("week: {why}");
-            ExitCode::FAILURE
+            ExitCode::from(2)
         }
     }
 }
 
 #[cfg(test)]
 mod tests {
-    use super::{report, WEEK};
+    use super::{first_day, report, MONTH};
 
     #[test]
     fn prints_the_stored_week() {
-        assert_eq!(report(WEEK).unwrap(), include_str!("week.stdout"));
+        assert_eq!(report(MONTH, 12).unwrap(), include_str!("week.stdout"));
     }
 
     #[test]
-    fn a_line_that_lacks_a_number_is_named() {
-        let line = WEEK.lines().last().unwrap();
-        let cut = &line[..line.rfind(' ').unwrap()];
-        assert_eq!(report(cut), Err(format!("line 1: {cut}")));
+    fn a_line_that_lacks_its_amount_is_named() {
+        assert_eq!(report("1 06:00 A", 1), Err("line 1: 1 06:00 A".to_string()));
+    }
+
+    #[test]
+    fn a_day_out_of_the_month_is_named() {
+        assert_eq!(first_day(&[]), Ok(12));
+        for word in ["0", "25", "x"] {
+            let why = format!("no day from 1 to 24: {word}");
+            assert_eq!(first_day(&[word.to_string()]), Err(why));
+        }
     }
 }

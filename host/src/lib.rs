@@ -16,10 +16,11 @@
 //!     attribution: even, expected_attribution: even, ..Reading::default()
 //! };
 //! assert_eq!(watch.judge(&reading)?, Verdict::Quiet { threshold: 1.5 });
-//! # Ok::<(), withdrawal_watch::Refusal>(())
+//! # Ok::<(), withdrawal_watch::Refused>(())
 //! ```
 //!
-//! A call that cannot be carried out answers a [`Refusal`] and changes nothing. No input panics.
+//! A call that cannot be carried out says why ([`Refused`], [`NotJudged`]) and changes nothing. No
+//! input panics.
 
 #![deny(missing_docs)]
 #![deny(unsafe_code)]
@@ -28,16 +29,29 @@
 mod bytes;
 #[allow(unsafe_code)]
 mod calls;
+mod culprit;
 #[allow(unsafe_code)]
 mod declarations;
+mod drawer;
+mod forest;
+mod kept;
+mod points;
 mod reading;
 mod refusal;
+mod state;
+mod store;
 mod types;
 mod verdict;
 mod watch;
 
-pub use reading::{newest_row, LastAnomaly, LastDescriptor, LentAttribution, Reading};
-pub use refusal::Refusal;
+pub use drawer::{Drawer, NotJudged, Withdrawal};
+pub use forest::Forest;
+pub use kept::Anomaly;
+pub use points::newest_row;
+pub use reading::{LastAnomaly, LastDescriptor, LentAttribution, Reading};
+pub use refusal::{Refusal, Refused};
+pub use state::STATE_BYTES;
+pub use store::{StoreError, STORE_VERSION};
 pub use types::{CorrectionMode, ScoringStrategy, TransformMethod};
 pub use verdict::{Attribution, Verdict};
-pub use watch::{Watch, STATE_BYTES};
+pub use watch::Watch;

@@ -1,7 +1,5 @@
 //! What the caller lends with a reading.
 
-use crate::calls;
-use crate::refusal::Refusal;
 use crate::types::{ScoringStrategy, TransformMethod};
 
 /// The forest's attribution of a score: how much each coordinate adds by being too high or too low.
@@ -53,8 +51,10 @@ pub struct LastDescriptor<'a> {
 /// use withdrawal_watch::{Reading, Refusal, Watch};
 ///
 /// let mut watch = Watch::new(0.01, false, 1)?;
-/// assert_eq!(watch.judge(&Reading::default()), Err(Refusal::Range));
-/// # Ok::<(), Refusal>(())
+/// let why = watch.judge(&Reading::default()).unwrap_err();
+/// assert_eq!(why.refusal(), Refusal::Range);
+/// assert_eq!(why.about(), "shingle_size: 0, not 1 to 64");
+/// # Ok::<(), withdrawal_watch::Refused>(())
 /// ```
 #[derive(Clone, Copy, Debug, Default, PartialEq)]
 pub struct Reading<'a> {
@@ -94,7 +94,45 @@ pub struct Reading<'a> {
     pub last_descriptor: LastDescriptor<'a>,
 }
 
+/// As many zeros as a list of a reading can be long.
+pub(crate) static ZEROS: [f32; 1024] = [0.0; 1024];
+
+/// The attribution of nothing, for a point of this length.
+pub(crate) fn no_attribution(dimension: usize) -> LentAttribution<'static> {
+    static ZEROS: [f64; 1024] = [0.0; 1024];
+    LentAttribution {
+        high: &ZEROS[..dimension],
+        low: &ZEROS[..dimension],
+    }
+}
+
 impl Reading<'_> {
+    /// One that every sound state of this base skips.
+    pub(crate) fn skipped(base_dimension: usize) -> Reading<'static> {
+        let row = &ZEROS[..base_dimension.min(16)];
+        let nothing = no_attribution(row.len());
+        Reading {
+            shingle_size: 1,
+            base_dimension,
+            values_seen: 1,
+            rcf_point: row,
+            scale: row,
+            shift: row,
+            difference_deviations: row,
+            attribution: nothing,
+            median: row,
+            expected_attribution: nothing,
+            ..Reading::default()
+        }
+    }
+
+    /// How much later it is than the last anomaly, or than nothing at all.
+    pub(crate) fn gap(&self) -> usize {
+        let last = self.last_descriptor.last_anomaly;
+        let since = last.map_or(0, |anomaly| anomaly.values_seen);
+        self.values_seen.saturating_sub(since)
+    }
+
     /// How long the buffers of a raised reading must be; 0 for sizes that are refused.
     pub(crate) fn dimension(&self) -> usize {
         if (1..=64).contains(&self.shingle_size) && (1..=16).contains(&self.base_dimension) {
@@ -103,25 +141,4 @@ impl Reading<'_> {
             0
         }
     }
-}
-
-/// The newest row of a shingled point, a part of the caller's own slice. Refused for sizes out of
-/// range (2) and a point that is not shingle times base long (3).
-///
-/// ```
-/// use withdrawal_watch::{newest_row, Refusal};
-///
-/// let point = [1.0, 2.0, 3.0, 4.0, 5.0, 6.0];
-/// assert_eq!(newest_row(&point, 3, 2)?, &[5.0, 6.0]);
-/// assert_eq!(newest_row(&point[1..], 3, 2).unwrap_err().number(), 3);
-/// assert_eq!(newest_row(&point, 0, 2).unwrap_err().number(), 2);
-/// # Ok::<(), Refusal>(())
-/// ```
-pub fn newest_row(
-    point: &[f32],
-    shingle_size: usize,
-    base_dimension: usize,
-) -> Result<&[f32], Refusal> {
-    let start = calls::newest_row(point, shingle_size, base_dimension)?;
-    Ok(&point[start..])
 }

@@ -3,25 +3,23 @@
 use std::error::Error;
 use std::fmt;
 
-/// Why a call was refused. Where several reasons apply, the one with the smallest number is given.
-/// A refused call has changed nothing.
+/// The reasons for a refusal, by number. Where several apply, the smallest is given.
 ///
 /// ```
-/// use withdrawal_watch::{Refusal, Watch};
+/// use withdrawal_watch::Refusal;
 ///
-/// let why = Watch::new(1.0, false, 1).unwrap_err();
-/// assert_eq!(why, Refusal::Discount);
-/// assert_eq!(why.number(), 1);
-/// assert_eq!(why.to_string(), "refusal 1: the discount must be at least 0 and below 1");
+/// assert_eq!(Refusal::Length.number(), 3);
+/// assert_eq!(Refusal::of_number(3), Refusal::Length);
+/// assert_eq!(Refusal::of_number(77).number(), 77);
 /// ```
 #[derive(Clone, Copy, Debug, PartialEq, Eq, Hash)]
-#[repr(u8)]
+#[non_exhaustive]
 pub enum Refusal {
     /// 1: the discount is not in [0, 1).
-    Discount = 1,
+    Discount,
     /// 2: shingle size or base dimension is out of range, or the base is not the watch's.
     Range,
-    /// 3: a slice is not of its length.
+    /// 3: a list is not of its length.
     Length,
     /// 4: a number of the reading or of the last descriptor is infinite or NaN.
     NotFinite,
@@ -31,59 +29,60 @@ pub enum Refusal {
     Count,
     /// 7: the horizon is not in [0, 1].
     Horizon,
-    /// 8: an attribution cannot be cut into blocks. No call of a [`Watch`](crate::Watch) gives it.
+    /// 8: an attribution cannot be cut into blocks. No call of this crate gives it.
     Blocks,
+    /// A number that has no name here.
+    Other(u8),
 }
 
-impl Refusal {
-    const ALL: [Refusal; 8] = [
-        Refusal::Discount,
-        Refusal::Range,
-        Refusal::Length,
-        Refusal::NotFinite,
-        Refusal::ValuesSeen,
-        Refusal::Count,
-        Refusal::Horizon,
-        Refusal::Blocks,
-    ];
+/// Each named refusal with its number.
+const NUMBERED: [(u8, Refusal); 8] = [
+    (1, Refusal::Discount),
+    (2, Refusal::Range),
+    (3, Refusal::Length),
+    (4, Refusal::NotFinite),
+    (5, Refusal::ValuesSeen),
+    (6, Refusal::Count),
+    (7, Refusal::Horizon),
+    (8, Refusal::Blocks),
+];
 
-    /// Its number, 1 to 8.
+impl Refusal {
+    /// Its number.
     pub fn number(self) -> u8 {
-        self as u8
+        if let Refusal::Other(number) = self {
+            return number;
+        }
+        let named = NUMBERED.iter().find(|(_, refusal)| *refusal == self);
+        named.map_or(0, |(number, _)| *number)
+    }
+
+    /// The refusal with this number.
+    pub fn of_number(number: u8) -> Refusal {
+        let named = NUMBERED.iter().find(|(its, _)| *its == number);
+        named.map_or(Refusal::Other(number), |(_, refusal)| *refusal)
     }
 
     /// What the library's answer means: 0 is done.
     pub(crate) fn answered(number: u8) -> Result<(), Refusal> {
         match number {
             0 => Ok(()),
-            _ => Err(Refusal::ALL[number as usize - 1]),
+            _ => Err(Refusal::of_number(number)),
         }
     }
 
-    fn reason(self) -> &'static str {
+    /// The reason in general.
+    pub(crate) fn reason(self) -> &'static str {
         match self {
-            Refusal::Discount => "the discount must be at least 0 and below 1",
-            Refusal::Range => {
-                "the shingle size must be 1 to 64 and the base dimension 1 to 16, \
-                 the same as the watch was made with"
-            }
-            Refusal::Length => {
-                "a list has the wrong length for the reading's shingle size and base dimension, \
-                 or the neighbours are not 0 to 256 whole points"
-            }
-            Refusal::NotFinite => {
-                "a number of the reading or of the last descriptor is infinite or not a number"
-            }
-            Refusal::ValuesSeen => {
-                "values_seen must be 1 to 16777216 and later than the last anomaly's"
-            }
-            Refusal::Count => {
-                "a count of this watch is outside 0 to 16777215; it can count no more readings"
-            }
-            Refusal::Horizon => "the horizon must be 0 to 1",
-            Refusal::Blocks => {
-                "gap and base must not be 0, and the attribution must be whole blocks of the base"
-            }
+            Refusal::Discount => "the discount is not at least 0 and below 1",
+            Refusal::Range => "a size is out of its range, or the base is not the watch's",
+            Refusal::Length => "a list is not of its length",
+            Refusal::NotFinite => "a number is infinite or not a number",
+            Refusal::ValuesSeen => "values_seen is out of its range or not late enough",
+            Refusal::Count => "a count of the watch is out of its range",
+            Refusal::Horizon => "the horizon is not 0 to 1",
+            Refusal::Blocks => "the attribution cannot be cut into blocks",
+            Refusal::Other(_) => "a reason that has no name here",
         }
     }
 }
@@ -96,15 +95,65 @@ impl fmt::Display for Refusal {
 
 impl Error for Refusal {}
 
+/// A call that was refused, and which list, length or number that was about. It has changed nothing.
+///
+/// ```
+/// use withdrawal_watch::{Refusal, Watch};
+///
+/// let why = Watch::new(1.0, false, 1).unwrap_err();
+/// assert_eq!(why.refusal(), Refusal::Discount);
+/// assert_eq!(why.number(), 1);
+/// assert_eq!(why.to_string(), "refusal 1: discount: 1, not at least 0 and below 1");
+/// ```
+#[derive(Clone, Debug, PartialEq, Eq)]
+pub struct Refused {
+    refusal: Refusal,
+    about: String,
+}
+
+impl Refused {
+    pub(crate) fn new(refusal: Refusal, about: String) -> Refused {
+        Refused { refusal, about }
+    }
+
+    /// The reason.
+    pub fn refusal(&self) -> Refusal {
+        self.refusal
+    }
+
+    /// The reason's number.
+    pub fn number(&self) -> u8 {
+        self.refusal.number()
+    }
+
+    /// What it was about, in plain words.
+    pub fn about(&self) -> &str {
+        &self.about
+    }
+}
+
+impl fmt::Display for Refused {
+    fn fmt(&self, f: &mut fmt::Formatter) -> fmt::Result {
+        write!(f, "refusal {}: {}", self.number(), self.about)
+    }
+}
+
+impl Error for Refused {}
+
 #[cfg(test)]
 mod tests {
-    use super::Refusal;
+    use super::{Refusal, NUMBERED};
 
     #[test]
-    fn each_refusal_stands_at_its_number() {
+    fn each_number_has_one_refusal_and_back() {
         assert_eq!(Refusal::answered(0), Ok(()));
-        for refusal in Refusal::ALL {
-            assert_eq!(Refusal::answered(refusal.number()), Err(refusal));
+        for number in 1..=u8::MAX {
+            let refusal = Refusal::of_number(number);
+            assert_eq!(refusal.number(), number);
+            assert_eq!(Refusal::answered(number), Err(refusal));
+        }
+        for (number, refusal) in NUMBERED {
+            assert_eq!(refusal.number(), number);
         }
     }
 }

@@ -75,12 +75,29 @@ impl TransformMethod {
     pub fn code(self) -> u8 {
         self as u8
     }
+
+    /// Whether points are differences from the input before.
+    pub(crate) fn is_difference(self) -> bool {
+        matches!(
+            self,
+            TransformMethod::Difference | TransformMethod::NormalizeDifference
+        )
+    }
 }
 
 impl ScoringStrategy {
     /// Its number in the C interface.
     pub fn code(self) -> u8 {
         self as u8
+    }
+
+    /// The strategy with this number.
+    pub(crate) fn of_code(code: u8) -> Option<ScoringStrategy> {
+        let all = [
+            ScoringStrategy::ExpectedInverseHeight,
+            ScoringStrategy::Distance,
+        ];
+        all.into_iter().find(|strategy| strategy.code() == code)
     }
 }
 
@@ -100,9 +117,11 @@ impl CorrectionMode {
         self as u8
     }
 
-    /// The mode with this number, which the library has written.
-    pub(crate) fn of_code(code: u8) -> CorrectionMode {
-        CorrectionMode::ALL[code as usize]
+    /// The mode with this number.
+    pub(crate) fn of_code(code: u8) -> Option<CorrectionMode> {
+        CorrectionMode::ALL
+            .into_iter()
+            .find(|mode| mode.code() == code)
     }
 }
 
@@ -113,7 +132,8 @@ mod tests {
     #[test]
     fn each_mode_stands_at_its_code() {
         for mode in CorrectionMode::ALL {
-            assert_eq!(CorrectionMode::of_code(mode.code()), mode);
+            assert_eq!(CorrectionMode::of_code(mode.code()), Some(mode));
         }
+        assert_eq!(CorrectionMode::of_code(7), None);
     }
 }

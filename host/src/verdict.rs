@@ -1,14 +1,26 @@
 //! What the watch says of a reading.
 
+use crate::reading::LentAttribution;
 use crate::types::CorrectionMode;
 
-/// A raised reading's attribution, normalised: its numbers add up to the score.
-#[derive(Clone, Debug, PartialEq)]
+/// An attribution: how much each coordinate adds to a score, krcf's `DiVector`. That of a verdict is
+/// normalised: its numbers add up to the score.
+#[derive(Clone, Debug, Default, PartialEq)]
 pub struct Attribution {
     /// What each coordinate adds by being too high.
     pub high: Vec<f64>,
     /// What each coordinate adds by being too low.
     pub low: Vec<f64>,
+}
+
+impl Attribution {
+    /// The attribution, to be lent with a reading.
+    pub fn lent(&self) -> LentAttribution<'_> {
+        LentAttribution {
+            high: &self.high,
+            low: &self.low,
+        }
+    }
 }
 
 /// What the watch says of an accepted reading.
@@ -50,4 +62,16 @@ pub enum Verdict {
     },
     /// The score is 0: the reading was not counted.
     Skipped,
+}
+
+impl Verdict {
+    /// The threshold that the score was held to; a skipped reading has none.
+    pub fn threshold(&self) -> Option<f32> {
+        match *self {
+            Verdict::Quiet { threshold }
+            | Verdict::Corrected { threshold, .. }
+            | Verdict::Raised { threshold, .. } => Some(threshold),
+            Verdict::Skipped => None,
+        }
+    }
 }

@@ -1,25 +1,36 @@
-//! The watch over one drawer.
+//! The watch over one drawer's readings, for a caller who lends the forest's results.
 
 use std::fmt;
 
 use crate::bytes::{self, Said, VERDICT};
 use crate::calls::{self, Buffers};
+use crate::culprit;
 use crate::reading::Reading;
-use crate::refusal::Refusal;
+use crate::refusal::{Refusal, Refused};
+use crate::state::{self, STATE_BYTES};
 use crate::types::CorrectionMode;
 use crate::verdict::{Attribution, Verdict};
 
-/// How many bytes a watch's state has.
-pub const STATE_BYTES: usize = 1310;
-
-/// The watch over one drawer: it judges the drawer's readings in turn.
+/// The watch over one drawer: it judges the drawer's readings in turn. The caller asks the forest
+/// and keeps the last descriptor; a [`Drawer`](crate::Drawer) does both by itself.
 #[derive(Clone)]
 pub struct Watch {
     state: [u8; STATE_BYTES],
-    // Room for what a raised reading writes, kept so that no other reading allocates.
+    room: Room,
+}
+
+/// Room for what a raised reading writes, kept so that no other reading allocates.
+#[derive(Clone, Default)]
+struct Room {
     expected: Vec<f32>,
     high: Vec<f64>,
     low: Vec<f64>,
+}
+
+/// What a judgment would leave.
+pub(crate) struct Trial {
+    pub state: [u8; STATE_BYTES],
+    pub verdict: Verdict,
 }
 
 impl Watch {
@@ -33,18 +44,40 @@ impl Watch {
     /// use withdrawal_watch::{Refusal, Watch};
     ///
     /// assert!(Watch::new(0.01, true, 16).is_ok());
-    /// assert_eq!(Watch::new(f64::NAN, true, 17).unwrap_err(), Refusal::Discount);
-    /// assert_eq!(Watch::new(0.01, true, 17).unwrap_err(), Refusal::Range);
+    /// assert_eq!(Watch::new(f64::NAN, true, 17).unwrap_err().refusal(), Refusal::Discount);
+    /// assert_eq!(Watch::new(0.01, true, 17).unwrap_err().refusal(), Refusal::Range);
     /// ```
-    pub fn new(discount: f64, auto_adjust: bool, base_dimension: usize) -> Result<Watch, Refusal> {
+    pub fn new(discount: f64, auto_adjust: bool, base_dimension: usize) -> Result<Watch, Refused> {
         let mut state = [0; STATE_BYTES];
-        calls::new(discount, auto_adjust, base_dimension, &mut state)?;
+        calls::new(discount, auto_adjust, base_dimension, &mut state)
+            .map_err(|refusal| culprit::of_new(refusal, discount, base_dimension))?;
         Ok(Watch {
             state,
-            expected: Vec::new(),
-            high: Vec::new(),
-            low: Vec::new(),
+            room: Room::default(),
         })
+    }
+
+    /// The watch whose [`state_bytes`](Watch::state_bytes) these are. Refused where the library
+    /// would refuse every reading of it: a size or a yes/no that no state has (2).
+    ///
+    /// ```
+    /// # use withdrawal_watch::Watch;
+    /// let watch = Watch::new(0.01, true, 3)?;
+    /// let again = Watch::of_state_bytes(watch.state_bytes())?;
+    /// assert_eq!(again.state_bytes(), watch.state_bytes());
+    /// assert_eq!(Watch::of_state_bytes(&[7; 1310]).unwrap_err().number(), 2);
+    /// # Ok::<(), withdrawal_watch::Refused>(())
+    /// ```
+    pub fn of_state_bytes(bytes: &[u8; STATE_BYTES]) -> Result<Watch, Refused> {
+        let mut watch = Watch {
+            state: *bytes,
+            room: Room::default(),
+        };
+        // A skipped reading changes nothing. Counts that are used up are no reason against a state.
+        match watch.trial(&Reading::skipped(state::base_dimension(bytes))) {
+            Err(why) if why.refusal() != Refusal::Count => Err(why),
+            _ => Ok(watch),
+        }
     }
 
     /// Sets how many deviations above the mean the threshold lies; 3 at first. Never refused.
@@ -53,10 +86,11 @@ impl Watch {
     /// # use withdrawal_watch::Watch;
     /// let mut watch = Watch::new(0.01, false, 1)?;
     /// watch.set_z_factor(2.5)?;
-    /// # Ok::<(), withdrawal_watch::Refusal>(())
+    /// # Ok::<(), withdrawal_watch::Refused>(())
     /// ```
-    pub fn set_z_factor(&mut self, factor: f32) -> Result<(), Refusal> {
+    pub fn set_z_factor(&mut self, factor: f32) -> Result<(), Refused> {
         calls::set_z_factor(&mut self.state, factor)
+            .map_err(|refusal| culprit::of_setting(refusal, "z_factor", factor))
     }
 
     /// Sets the smallest threshold for [`ExpectedInverseHeight`] scores; 0.8 at first. Never
@@ -66,12 +100,13 @@ impl Watch {
     /// # use withdrawal_watch::Watch;
     /// let mut watch = Watch::new(0.01, false, 1)?;
     /// watch.set_lower_threshold(1.0)?;
-    /// # Ok::<(), withdrawal_watch::Refusal>(())
+    /// # Ok::<(), withdrawal_watch::Refused>(())
     /// ```
     ///
     /// [`ExpectedInverseHeight`]: crate::ScoringStrategy::ExpectedInverseHeight
-    pub fn set_lower_threshold(&mut self, lower: f32) -> Result<(), Refusal> {
+    pub fn set_lower_threshold(&mut self, lower: f32) -> Result<(), Refused> {
         calls::set_lower_threshold(&mut self.state, lower)
+            .map_err(|refusal| culprit::of_setting(refusal, "lower_threshold", lower))
     }
 
     /// Sets the threshold for [`ExpectedInverseHeight`] scores until ten are counted; 1.5 at
@@ -81,26 +116,29 @@ impl Watch {
     /// # use withdrawal_watch::Watch;
     /// let mut watch = Watch::new(0.01, false, 1)?;
     /// watch.set_initial_threshold(1.75)?;
-    /// # Ok::<(), withdrawal_watch::Refusal>(())
+    /// # Ok::<(), withdrawal_watch::Refused>(())
     /// ```
     ///
     /// [`ExpectedInverseHeight`]: crate::ScoringStrategy::ExpectedInverseHeight
-    pub fn set_initial_threshold(&mut self, initial: f32) -> Result<(), Refusal> {
+    pub fn set_initial_threshold(&mut self, initial: f32) -> Result<(), Refused> {
         calls::set_initial_threshold(&mut self.state, initial)
+            .map_err(|refusal| culprit::of_setting(refusal, "initial_threshold", initial))
     }
 
     /// Sets how much the spread of scores counts against that of their differences, 0 to 1; 0.5
     /// at first. Refusal: 7.
     ///
     /// ```
-    /// # use withdrawal_watch::{Refusal, Watch};
+    /// # use withdrawal_watch::Watch;
     /// let mut watch = Watch::new(0.01, false, 1)?;
     /// watch.set_horizon(1.0)?;
-    /// assert_eq!(watch.set_horizon(1.5), Err(Refusal::Horizon));
-    /// # Ok::<(), Refusal>(())
+    /// let why = watch.set_horizon(1.5).unwrap_err();
+    /// assert_eq!(why.to_string(), "refusal 7: horizon: 1.5, not 0 to 1");
+    /// # Ok::<(), withdrawal_watch::Refused>(())
     /// ```
-    pub fn set_horizon(&mut self, horizon: f32) -> Result<(), Refusal> {
+    pub fn set_horizon(&mut self, horizon: f32) -> Result<(), Refused> {
         calls::set_horizon(&mut self.state, horizon)
+            .map_err(|refusal| culprit::of_setting(refusal, "horizon", horizon))
     }
 
     /// Judges the drawer's next reading and counts its score. Refusals: 2 to 6.
@@ -130,20 +168,22 @@ impl Watch {
     ///     }
     ///     other => panic!("{other:?}"),
     /// }
-    /// # Ok::<(), withdrawal_watch::Refusal>(())
+    /// # Ok::<(), withdrawal_watch::Refused>(())
     /// ```
-    pub fn judge(&mut self, reading: &Reading) -> Result<Verdict, Refusal> {
-        let d = reading.dimension();
-        self.make_room(d);
-        let mut verdict = [0; VERDICT];
-        let out = Buffers {
-            expected: &mut self.expected[..d],
-            high: &mut self.high[..d],
-            low: &mut self.low[..d],
-            verdict: &mut verdict,
-        };
-        calls::judge(&mut self.state, reading, out)?;
-        Ok(self.verdict(bytes::said(&verdict), d))
+    pub fn judge(&mut self, reading: &Reading) -> Result<Verdict, Refused> {
+        self.room.judge(&mut self.state, reading)
+    }
+
+    /// What judging a reading would leave. The watch stays as it is.
+    pub(crate) fn trial(&mut self, reading: &Reading) -> Result<Trial, Refused> {
+        let mut state = self.state;
+        let verdict = self.room.judge(&mut state, reading)?;
+        Ok(Trial { state, verdict })
+    }
+
+    /// Takes what a trial left.
+    pub(crate) fn take(&mut self, state: [u8; STATE_BYTES]) {
+        self.state = state;
     }
 
     /// The state, as the library keeps it.
@@ -154,13 +194,34 @@ impl Watch {
     /// let before = *watch.state_bytes();
     /// assert!(watch.set_horizon(-1.0).is_err());
     /// assert_eq!(watch.state_bytes(), &before);
-    /// # Ok::<(), withdrawal_watch::Refusal>(())
+    /// # Ok::<(), withdrawal_watch::Refused>(())
     /// ```
     pub fn state_bytes(&self) -> &[u8; STATE_BYTES] {
         &self.state
     }
+}
 
-    fn make_room(&mut self, d: usize) {
+impl Room {
+    fn judge(
+        &mut self,
+        state: &mut [u8; STATE_BYTES],
+        reading: &Reading,
+    ) -> Result<Verdict, Refused> {
+        let d = reading.dimension();
+        self.widen(d);
+        let mut verdict = [0; VERDICT];
+        let out = Buffers {
+            expected: &mut self.expected[..d],
+            high: &mut self.high[..d],
+            low: &mut self.low[..d],
+            verdict: &mut verdict,
+        };
+        calls::judge(state, reading, out)
+            .map_err(|refusal| culprit::of_reading(refusal, reading, state))?;
+        Ok(self.verdict(bytes::said(&verdict), d))
+    }
+
+    fn widen(&mut self, d: usize) {
         if self.expected.len() < d {
             self.expected.resize(d, 0.0);
             self.high.resize(d, 0.0);
@@ -168,13 +229,14 @@ impl Watch {
         }
     }
 
+    /// The library has these four kinds, the last one 3, and gives every correction its mode.
     fn verdict(&self, said: Said, d: usize) -> Verdict {
         let threshold = said.threshold;
         match said.kind {
             0 => Verdict::Quiet { threshold },
             1 => Verdict::Corrected {
                 threshold,
-                mode: CorrectionMode::of_code(said.mode),
+                mode: CorrectionMode::of_code(said.mode).unwrap_or(CorrectionMode::None),
             },
             2 => Verdict::Raised {
                 threshold,
@@ -186,8 +248,7 @@ impl Watch {
                     low: self.low[..d].to_vec(),
                 },
             },
-            3 => Verdict::Skipped,
-            kind => unreachable!("the library has no verdict of kind {kind}"),
+            _ => Verdict::Skipped,
         }
     }
 }

@@ -16,7 +16,7 @@ fn refused(why: Refusal, reading: Reading) {
             watch.judge(&before).expect("accepted");
         }
         let mut other = watch.clone();
-        assert_eq!(watch.judge(&reading), Err(why));
+        assert_eq!(watch.judge(&reading).unwrap_err().refusal(), why);
         assert_eq!(watch.state_bytes(), other.state_bytes());
         let verdict = watch.judge(&raised());
         assert!(verdict.is_ok());
@@ -34,7 +34,7 @@ fn the_unchanged_reading_is_accepted() {
 fn discount_1() {
     for discount in [1.0, -0.5, f64::NAN, f64::INFINITY] {
         let made = Watch::new(discount, false, 1);
-        assert_eq!(made.unwrap_err(), Refusal::Discount);
+        assert_eq!(made.unwrap_err().refusal(), Refusal::Discount);
     }
     assert!(Watch::new(0.0, false, 1).is_ok());
 }
@@ -42,7 +42,8 @@ fn discount_1() {
 #[test]
 fn range_2() {
     for base in [0, 17, usize::MAX] {
-        assert_eq!(Watch::new(0.01, true, base).unwrap_err(), Refusal::Range);
+        let why = Watch::new(0.01, true, base).unwrap_err();
+        assert_eq!(why.refusal(), Refusal::Range);
     }
     for shingle_size in [0, 65, (1 << 32) + 4, usize::MAX] {
         let reading = Reading {
@@ -182,7 +183,11 @@ fn count_6() {
         assert!(watch.judge(&reading).is_ok(), "reading {seen}");
     }
     let before = *watch.state_bytes();
-    assert_eq!(watch.judge(&reading), Err(Refusal::Count));
+    let why = watch.judge(&reading).unwrap_err();
+    assert_eq!(
+        why.to_string(),
+        "refusal 6: count of the primary statistic: 16,777,216, not 0 to 16,777,215"
+    );
     assert_eq!(watch.state_bytes(), &before);
 }
 
@@ -191,7 +196,8 @@ fn horizon_7() {
     let mut watch = fresh(true);
     let before = *watch.state_bytes();
     for horizon in [1.5, -0.5, f32::NAN, f32::INFINITY] {
-        assert_eq!(watch.set_horizon(horizon), Err(Refusal::Horizon));
+        let why = watch.set_horizon(horizon).unwrap_err();
+        assert_eq!(why.refusal(), Refusal::Horizon);
         assert_eq!(watch.state_bytes(), &before);
     }
     assert_eq!(watch.set_horizon(1.0), Ok(()));

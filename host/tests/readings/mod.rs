@@ -1,5 +1,8 @@
 //! Readings to change one thing in.
 
+// Each test needs a part of them.
+#![allow(dead_code)]
+
 use withdrawal_watch::{LastAnomaly, LastDescriptor, LentAttribution, Reading, Watch};
 
 /// A watch that has seen nothing.

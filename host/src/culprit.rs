@@ -1,0 +1,223 @@
+//! Which list, length or number a refusal is about, in plain words. The library decides; what it was
+//! given is looked at again only to say why.
+
+use crate::reading::Reading;
+use crate::refusal::{Refusal, Refused};
+use crate::state::{self, LARGEST_SEEN, STATE_BYTES};
+
+/// The most neighbours that a reading lends.
+const NEIGHBOURS: usize = 256;
+
+/// A whole number with its thousands apart.
+fn grouped(n: usize) -> String {
+    let digits = n.to_string();
+    let mut out = String::new();
+    for (k, digit) in digits.chars().enumerate() {
+        if k > 0 && (digits.len() - k) % 3 == 0 {
+            out.push(',');
+        }
+        out.push(digit);
+    }
+    out
+}
+
+/// How many numbers, as words.
+fn numbers(n: usize) -> String {
+    let unit = if n == 1 { "number" } else { "numbers" };
+    format!("{} {unit}", grouped(n))
+}
+
+/// What refused a construction: its discount or its base.
+pub fn of_new(refusal: Refusal, discount: f64, base_dimension: usize) -> Refused {
+    let about = match refusal {
+        Refusal::Discount => format!("discount: {discount}, not at least 0 and below 1"),
+        Refusal::Range => base(base_dimension),
+        _ => refusal.reason().to_string(),
+    };
+    Refused::new(refusal, about)
+}
+
+/// What refused a setting.
+pub fn of_setting(refusal: Refusal, name: &str, value: f32) -> Refused {
+    let about = match refusal {
+        Refusal::Horizon => format!("{name}: {value}, not 0 to 1"),
+        _ => refusal.reason().to_string(),
+    };
+    Refused::new(refusal, about)
+}
+
+/// What refused a call on a point of these sizes.
+pub fn of_point(refusal: Refusal, len: usize, shingle: usize, base_dimension: usize) -> Refused {
+    let about = match refusal {
+        Refusal::Range => sizes(shingle, base_dimension),
+        Refusal::Length => length("point", len, shingle * base_dimension),
+        _ => None,
+    };
+    Refused::new(refusal, about.unwrap_or(refusal.reason().to_string()))
+}
+
+/// What refused a reading, or a step on its lists.
+pub fn of_reading(refusal: Refusal, r: &Reading, bytes: &[u8; STATE_BYTES]) -> Refused {
+    let about = match refusal {
+        Refusal::Range => range(r, bytes),
+        Refusal::Length => lengths(r),
+        Refusal::NotFinite => not_finite(r),
+        Refusal::ValuesSeen => Some(values_seen(r)),
+        Refusal::Count => count(bytes),
+        _ => None,
+    };
+    Refused::new(refusal, about.unwrap_or(refusal.reason().to_string()))
+}
+
+fn base(base_dimension: usize) -> String {
+    format!("base_dimension: {}, not 1 to 16", grouped(base_dimension))
+}
+
+/// Sizes out of their ranges.
+fn sizes(shingle_size: usize, base_dimension: usize) -> Option<String> {
+    if !(1..=64).contains(&shingle_size) {
+        let size = grouped(shingle_size);
+        return Some(format!("shingle_size: {size}, not 1 to 64"));
+    }
+    (!(1..=16).contains(&base_dimension)).then(|| base(base_dimension))
+}
+
+fn range(r: &Reading, bytes: &[u8; STATE_BYTES]) -> Option<String> {
+    let own = state::base_dimension(bytes);
+    sizes(r.shingle_size, r.base_dimension).or_else(|| {
+        (r.base_dimension != own).then(|| {
+            let given = r.base_dimension;
+            format!("base_dimension: {given}, where the watch has {own}")
+        })
+    })
+}
+
+fn length(name: &str, len: usize, wanted: usize) -> Option<String> {
+    (len != wanted).then(|| format!("{name}: {}, not {}", numbers(len), grouped(wanted)))
+}
+
+/// The lists of f32 that are as long as the point, and those as long as a row.
+fn singles<'a>(r: &Reading<'a>) -> Vec<(&'static str, &'a [f32], bool)> {
+    let mut lists = vec![
+        ("rcf_point", r.rcf_point, true),
+        ("scale", r.scale, false),
+        ("shift", r.shift, false),
+        ("difference_deviations", r.difference_deviations, false),
+        ("median", r.median, true),
+    ];
+    if let Some(anomaly) = r.last_descriptor.last_anomaly {
+        lists.extend([
+            (
+                "last_anomaly.expected_rcf_point",
+                anomaly.expected_rcf_point,
+                true,
+            ),
+            (
+                "last_anomaly.anomalous_rcf_point",
+                anomaly.anomalous_rcf_point,
+                true,
+            ),
+        ]);
+    }
+    lists
+}
+
+fn doubles<'a>(r: &Reading<'a>) -> [(&'static str, &'a [f64]); 4] {
+    [
+        ("attribution.high", r.attribution.high),
+        ("attribution.low", r.attribution.low),
+        ("expected_attribution.high", r.expected_attribution.high),
+        ("expected_attribution.low", r.expected_attribution.low),
+    ]
+}
+
+fn lengths(r: &Reading) -> Option<String> {
+    let d = r.dimension();
+    let single = singles(r).into_iter().find_map(|(name, list, whole)| {
+        length(name, list.len(), if whole { d } else { r.base_dimension })
+    });
+    single
+        .or_else(|| {
+            doubles(r)
+                .into_iter()
+                .find_map(|(name, list)| length(name, list.len(), d))
+        })
+        .or_else(|| neighbours(r.neighbours.len(), d))
+}
+
+fn neighbours(len: usize, d: usize) -> Option<String> {
+    if len % d.max(1) != 0 {
+        let size = grouped(d);
+        return Some(format!(
+            "neighbours: {}, not a multiple of {size}",
+            numbers(len)
+        ));
+    }
+    let points = len / d.max(1);
+    (points > NEIGHBOURS).then(|| {
+        format!(
+            "neighbours: {} points, more than {NEIGHBOURS}",
+            grouped(points)
+        )
+    })
+}
+
+fn not_finite(r: &Reading) -> Option<String> {
+    let say =
+        |name: &str, x: f64| (!x.is_finite()).then(|| format!("{name}: {x}, not a finite number"));
+    let at = |name: &str, k: usize, x: f64| say(&format!("{name}[{k}]"), x);
+    let last = &r.last_descriptor;
+    let mut alone = vec![
+        ("score", r.score),
+        ("corrected_score", r.corrected_score),
+        ("last_descriptor.score", last.score),
+        ("last_descriptor.threshold", last.threshold),
+    ];
+    alone.extend(last.last_anomaly.map(|a| ("last_anomaly.score", a.score)));
+    let mut lists = singles(r);
+    lists.push(("neighbours", r.neighbours, true));
+    let first = alone.into_iter().find_map(|(name, x)| say(name, x.into()));
+    let single = || {
+        lists.into_iter().find_map(|(name, list, _)| {
+            let mut each = list.iter().enumerate();
+            each.find_map(|(k, x)| at(name, k, (*x).into()))
+        })
+    };
+    let double = || {
+        doubles(r).into_iter().find_map(|(name, list)| {
+            let mut each = list.iter().enumerate();
+            each.find_map(|(k, x)| at(name, k, *x))
+        })
+    };
+    first.or_else(single).or_else(double)
+}
+
+fn values_seen(r: &Reading) -> String {
+    let seen = grouped(r.values_seen);
+    match r.last_descriptor.last_anomaly {
+        Some(anomaly) if (1..=LARGEST_SEEN).contains(&r.values_seen) => format!(
+            "values_seen: {seen}, not later than the last anomaly's {}",
+            grouped(anomaly.values_seen)
+        ),
+        _ => format!("values_seen: {seen}, not 1 to {}", grouped(LARGEST_SEEN)),
+    }
+}
+
+fn count(bytes: &[u8; STATE_BYTES]) -> Option<String> {
+    let (name, value) = state::counts(bytes)
+        .into_iter()
+        .find(|(_, value)| !(0..=state::LARGEST_COUNT).contains(value))?;
+    let value = usize::try_from(value).map_or(value.to_string(), grouped);
+    Some(format!("{name}: {value}, not 0 to 16,777,215"))
+}
+
+#[cfg(test)]
+mod tests {
+    use super::grouped;
+
+    #[test]
+    fn thousands_apart() {
+        let all = [0, 7, 999, 1_000, 1_023, 16_777_216].map(grouped);
+        assert_eq!(all, ["0", "7", "999", "1,000", "1,023", "16,777,216"]);
+    }
+}

@@ -1,0 +1,75 @@
+//! What a drawer asks of the forest.
+
+use crate::verdict::Attribution;
+
+/// The forest's calls that a judgment makes, under krcf's names (`AugmentedRCF` in rcf.rs) and with
+/// its arguments, so that each can be passed on to a krcf forest in a line.
+///
+/// A [`Drawer`](crate::Drawer) makes exactly the calls that the Rust's `detect_and_modify` makes, in
+/// its order, with its arguments, and no other:
+///
+/// | | [`ExpectedInverseHeight`] | [`Distance`] | of | fills |
+/// |---|---|---|---|---|
+/// | 1 | `score` | `density_interpolant` | the point | `score` |
+/// | 2 | `score` | `density_interpolant` | the corrected point | `corrected_score` |
+/// | 3 | `attribution` | `density_interpolant` | the corrected point | `attribution` |
+/// | 4 | `near_neighbor_list` | `near_neighbor_list` | the corrected point | `neighbours` |
+/// | 5 | `conditional_field` | `conditional_field` | the point | `median` |
+/// | 6 | `attribution` | `attribution` | the expected point | `expected_attribution` |
+///
+/// Which of them a reading costs depends on where it ends:
+///
+/// | A reading that ends as | costs | of these |
+/// |---|---|---|
+/// | skipped, quiet | 1 | |
+/// | corrected: anomaly in shingle, by the corrected score | 1, 2 | |
+/// | corrected: noise | 1, 2 | 2 if an anomaly is at most a shingle back |
+/// | corrected: conditional forecast | 1 to 4 | 2 as above |
+/// | corrected: anomaly in shingle, forecast or data drift; raised | 1 to 6 | 2 as above; 4 with auto adjust; 5 if a coordinate stands out; 6 within a shingle of the last anomaly, or of the start |
+///
+/// "Fills" names the field of a [`Reading`](crate::Reading). The library looks at every field that
+/// is lent (refusals 3 and 4), so a field that was not asked for is lent as zeros of its length, the
+/// neighbours as none: no judgment that ends before the call reads it. Call 6 is made as the Rust
+/// makes it also where there is no anomaly yet, and is then not read.
+///
+/// The corrected point, the expected point and the positions of call 5 come from the library's
+/// proved calls (`krcf_apply_basic_corrector`, `krcf_expected_point`, `krcf_likely_missing_indices`),
+/// and so does the step from the forest's f64 to the f32 that is judged (`krcf_total`,
+/// `krcf_narrow`).
+///
+/// [`ExpectedInverseHeight`]: crate::ScoringStrategy::ExpectedInverseHeight
+/// [`Distance`]: crate::ScoringStrategy::Distance
+pub trait Forest {
+    /// What a call that fails answers; krcf's is `RCFError`. A drawer whose forest fails is left as
+    /// it was.
+    type Error;
+
+    /// krcf's `score(point)`: the score of a point.
+    fn score(&self, point: &[f32]) -> Result<f64, Self::Error>;
+
+    /// krcf's `attribution(point)`: how much each coordinate adds to the score. Both lists are as
+    /// long as the point.
+    fn attribution(&self, point: &[f32]) -> Result<Attribution, Self::Error>;
+
+    /// krcf's `density_interpolant(point)`, its field `distance`: how far each coordinate is from
+    /// what the forest has seen. A score under [`Distance`](crate::ScoringStrategy::Distance) is
+    /// its total.
+    fn density_interpolant(&self, point: &[f32]) -> Result<Attribution, Self::Error>;
+
+    /// krcf's `near_neighbor_list(point, percentile)`, of each neighbour the point (the middle one
+    /// of its three parts), one after the other. `percentile` is 50; at most 256 neighbours.
+    fn near_neighbor_list(&self, point: &[f32], percentile: usize)
+        -> Result<Vec<f32>, Self::Error>;
+
+    /// krcf's `conditional_field(positions, point, centrality, project, max_number)`, its field
+    /// `median`: what the other coordinates make likely at these positions, in a list as long as
+    /// the point. Centrality is 1, `project` false, `max_number` 0.
+    fn conditional_field(
+        &self,
+        positions: &[usize],
+        point: &[f32],
+        centrality: f64,
+        project: bool,
+        max_number: usize,
+    ) -> Result<Vec<f32>, Self::Error>;
+}

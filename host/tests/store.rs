@@ -1,0 +1,192 @@
+//! Stored drawers: a restart changes nothing, and bytes that are not whole are an error.
+
+#[path = "../examples/ward/mod.rs"]
+mod ward;
+
+use ward::{lines, Watched, DRAWERS, MONTH};
+use withdrawal_watch::{Drawer, StoreError, Verdict, STORE_VERSION};
+
+/// What was said of each withdrawal of one drawer, as far as it can be compared.
+type Said = Vec<Result<Verdict, String>>;
+
+fn amounts(name: &str) -> Vec<Option<f32>> {
+    let all = lines(MONTH).expect("a sound month");
+    let own = all.iter().filter(|line| line.drawer == name);
+    own.map(|line| line.amount).collect()
+}
+
+fn judge(watched: &mut Watched, amounts: &[Option<f32>]) -> Said {
+    let judged = amounts.iter().map(|amount| watched.judge(*amount).said);
+    judged
+        .map(|said| said.map_err(|why| why.to_string()))
+        .collect()
+}
+
+/// Each drawer's month, cut at every reading: what comes after a restart is what would have come.
+#[test]
+fn a_restart_at_every_reading() {
+    for about in DRAWERS {
+        let amounts = amounts(about.name);
+        assert_eq!(amounts.len(), 180);
+        let mut whole = Watched::new(about).unwrap();
+        let said = judge(&mut whole, &amounts);
+        let mut first = Watched::new(about).unwrap();
+        for cut in 0..=amounts.len() {
+            let stored = first.drawer.to_bytes();
+            let mut again = first.clone();
+            again.drawer = Drawer::of_bytes(&stored).unwrap();
+            assert_eq!(again.drawer.to_bytes(), stored);
+            assert_eq!(judge(&mut again, &amounts[cut..]), said[cut..]);
+            assert_eq!(again.drawer.to_bytes(), whole.drawer.to_bytes());
+            if let Some(amount) = amounts.get(cut) {
+                first.judge(*amount).said.ok();
+            }
+        }
+    }
+}
+
+/// A drawer with an anomaly, and its bytes.
+fn stored() -> Vec<u8> {
+    let mut watched = Watched::new(DRAWERS[2]).unwrap();
+    judge(&mut watched, &amounts("C"));
+    assert!(watched.drawer.last_anomaly().is_some());
+    watched.drawer.to_bytes()
+}
+
+fn error(bytes: &[u8]) -> StoreError {
+    Drawer::of_bytes(bytes).unwrap_err()
+}
+
+#[test]
+fn short_and_long_stores() {
+    let bytes = stored();
+    assert!(Drawer::of_bytes(&bytes).is_ok());
+    for cut in 0..bytes.len() {
+        let found = cut;
+        let why = error(&bytes[..cut]);
+        assert!(
+            matches!(why, StoreError::Length { found: n, .. } if n == found),
+            "{cut}: {why}"
+        );
+    }
+    for more in 1..100 {
+        let mut long = bytes.clone();
+        long.resize(bytes.len() + more, 0);
+        let (found, wanted) = (long.len(), bytes.len());
+        assert_eq!(error(&long), StoreError::Length { found, wanted });
+    }
+}
+
+/// Every byte counts: one that is changed is found.
+#[test]
+fn damaged_stores() {
+    let bytes = stored();
+    for at in 0..bytes.len() {
+        for change in [0x01, 0x80, 0xff] {
+            let mut other = bytes.clone();
+            other[at] ^= change;
+            let why = error(&other);
+            match at {
+                0..=7 => assert_eq!(why, StoreError::NotADrawer),
+                8..=11 => assert!(matches!(why, StoreError::Version { .. })),
+                12..=15 => assert!(matches!(why, StoreError::Length { .. })),
+                _ => assert_eq!(why, StoreError::Damaged),
+            }
+        }
+    }
+}
+
+/// CRC-32, so that a store can be changed and still be whole.
+fn sealed(mut bytes: Vec<u8>) -> Vec<u8> {
+    let end = bytes.len() - 4;
+    let crc = bytes[..end].iter().fold(u32::MAX, |crc, byte| {
+        (0..8).fold(crc ^ u32::from(*byte), |crc, _| {
+            (crc >> 1) ^ (0xedb8_8320 & 0u32.wrapping_sub(crc & 1))
+        })
+    });
+    bytes[end..].copy_from_slice(&(!crc).to_le_bytes());
+    bytes
+}
+
+/// Numbers that no drawer has, in bytes whose checksum is right.
+#[test]
+fn impossible_stores() {
+    let bytes = stored();
+    let state = 16;
+    let kept = state + 1310;
+    let put = |at: usize, new: &[u8]| {
+        let mut other = bytes.clone();
+        other[at..at + new.len()].copy_from_slice(new);
+        error(&sealed(other)).to_string()
+    };
+    let infinite = f32::INFINITY.to_le_bytes();
+    let cases = [
+        (
+            8,
+            &7u32.to_le_bytes()[..],
+            "version 7, where this program reads 1",
+        ),
+        (kept, &[2], "no drawer has this strategy"),
+        (kept + 1, &infinite, "no drawer has this score"),
+        (kept + 5, &infinite, "no drawer has this threshold"),
+        (kept + 9, &[0xff; 8], "no drawer has this values_seen"),
+        (
+            kept + 17,
+            &2000u32.to_le_bytes(),
+            "no drawer has this dimension",
+        ),
+        (kept + 17, &8u32.to_le_bytes(), "no drawer has this length"),
+        (kept + 17, &0u32.to_le_bytes(), "no drawer has this length"),
+        (
+            kept + 21,
+            &1i32.to_le_bytes(),
+            "no drawer has this relative index",
+        ),
+        (kept + 41, &infinite, "no drawer has this point"),
+        (state + 149, &[2], "its state gets refusal 2: "),
+        (state + 154, &[17], "its state gets refusal 2: "),
+    ];
+    for (at, new, why) in cases {
+        let said = put(at, new);
+        assert!(said.starts_with(&format!("stored drawer: {why}")), "{said}");
+    }
+    assert_eq!(STORE_VERSION, 1);
+}
+
+/// A drawer whose counts are used up comes back, and is refused as it was.
+#[test]
+fn a_drawer_that_can_count_no_more() {
+    let mut bytes = stored();
+    bytes[16 + 48..16 + 52].copy_from_slice(&16_777_216i32.to_le_bytes());
+    let mut watched = Watched::new(DRAWERS[2]).unwrap();
+    watched.drawer = Drawer::of_bytes(&sealed(bytes)).unwrap();
+    let why = watched.judge(Some(4.0)).said.unwrap_err();
+    assert_eq!(
+        why.to_string(),
+        "refusal 6: count of the primary statistic: 16,777,216, not 0 to 16,777,215"
+    );
+}
+
+/// No bytes at all make a panic.
+#[test]
+fn any_bytes() {
+    let bytes = stored();
+    let mut n = 1u64;
+    for _ in 0..2_000 {
+        let mut other = bytes.clone();
+        for _ in 0..4 {
+            n = n
+                .wrapping_mul(6364136223846793005)
+                .wrapping_add(1442695040888963407);
+            let at = 16 + (n >> 33) as usize % (other.len() - 16);
+            other[at] = (n >> 24) as u8;
+        }
+        if let Ok(drawer) = Drawer::of_bytes(&sealed(other)) {
+            let mut watched = Watched::new(DRAWERS[2]).unwrap();
+            watched.drawer = drawer;
+            for _ in 0..5 {
+                watched.judge(Some(9.0)).said.ok();
+            }
+        }
+    }
+}
