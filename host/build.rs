@@ -1,7 +1,8 @@
 //! Builds the library's archives where they are missing or older than their sources, and
 //! tells the linker where they are.
 
-use std::io;
+use std::fs::OpenOptions;
+use std::io::{self, Write};
 use std::path::{Path, PathBuf};
 use std::process::{Command, ExitCode};
 use std::time::SystemTime;
@@ -18,6 +19,14 @@ fn changed(path: &Path) -> io::Result<SystemTime> {
         }
     }
     Ok(newest)
+}
+
+/// Tells whoever waits what takes so long. Cargo holds a build script's output back, so this goes to
+/// the terminal, if there is one.
+fn tell(line: &str) {
+    if let Ok(mut terminal) = OpenOptions::new().write(true).open("/dev/tty") {
+        writeln!(terminal, "{line}").ok();
+    }
 }
 
 /// Proves and builds one archive. What `rt` prints is shown only where it fails.
@@ -40,14 +49,23 @@ fn build(root: &Path, name: &str) -> Result<(), String> {
     }
 }
 
-/// Sees to it that the archive is there and as new as the sources.
-fn provide(root: &Path, folder: &Path, name: &str, sources: SystemTime) -> Result<(), String> {
+/// Sees to it that the archive is there and as new as the sources. `place` is its place among all.
+fn provide(
+    root: &Path,
+    folder: &Path,
+    (place, name): (usize, &str),
+    sources: SystemTime,
+) -> Result<(), String> {
     let archive = folder.join(format!("lib{name}.a"));
     println!("cargo:rerun-if-changed={}", archive.display());
     let fresh = |archive: &Path| changed(archive).is_ok_and(|made| made >= sources);
     if fresh(&archive) {
         return Ok(());
     }
+    let of = ARCHIVES.len();
+    tell(&format!(
+        "     Proving lib{name}.a, {place} of {of}: half a minute, minutes where nothing below it is proved"
+    ));
     build(root, name)?;
     if archive.exists() {
         return Ok(());
@@ -65,8 +83,8 @@ fn run() -> Result<(), String> {
     let folder = root.join("target/staticlib");
     println!("cargo:rerun-if-changed={}", crates.display());
     let sources = changed(&crates).map_err(|why| format!("{}: {why}", crates.display()))?;
-    for name in ARCHIVES {
-        provide(&root, &folder, name, sources)?;
+    for (k, name) in ARCHIVES.into_iter().enumerate() {
+        provide(&root, &folder, (k + 1, name), sources)?;
     }
     println!("cargo:rustc-link-search=native={}", folder.display());
     Ok(())

@@ -3,7 +3,7 @@
 
 use crate::bytes;
 use crate::declarations as c;
-use crate::reading::Reading;
+use crate::reading::{LastAnomaly, LentAttribution, Reading};
 use crate::refusal::Refusal;
 use crate::state::{STATE_BYTES, THRESHOLDER_BYTES};
 use crate::types::ScoringStrategy;
@@ -168,91 +168,110 @@ pub fn corrected_grade(state: &[u8; STATE_BYTES], r: &Reading) -> Result<f32, Re
     Ok(f32::from_le_bytes(bytes::take(&out, 4)))
 }
 
-/// The point with the last anomaly's effect taken out.
-pub fn corrected_point(r: &Reading) -> Result<Vec<f32>, Refusal> {
-    let anomaly = r.last_descriptor.last_anomaly.unwrap_or_default();
-    let mut out = vec![0.0; r.dimension()];
+/// Shingle size and base dimension.
+type Sizes = (usize, usize);
+
+pub fn apply_basic_corrector(
+    point: &[f32],
+    gap: usize,
+    (shingle_size, base_dimension): Sizes,
+    last_anomaly: Option<&LastAnomaly>,
+    (use_difference, time_augmented): (bool, bool),
+    out: &mut [f32],
+) -> Result<(), Refusal> {
+    let anomaly = last_anomaly.copied().unwrap_or_default();
+    let (expected, anomalous) = (anomaly.expected_rcf_point, anomaly.anomalous_rcf_point);
     // SAFETY: `out` is borrowed alone, all others for reading, and each goes with its own length.
     let number = unsafe {
         c::krcf_apply_basic_corrector(
-            r.rcf_point.as_ptr(),
-            r.rcf_point.len(),
-            r.gap(),
-            r.shingle_size,
-            r.base_dimension,
-            r.last_descriptor.last_anomaly.is_some().into(),
-            anomaly.expected_rcf_point.as_ptr(),
-            anomaly.expected_rcf_point.len(),
-            anomaly.anomalous_rcf_point.as_ptr(),
-            anomaly.anomalous_rcf_point.len(),
+            point.as_ptr(),
+            point.len(),
+            gap,
+            shingle_size,
+            base_dimension,
+            last_anomaly.is_some().into(),
+            expected.as_ptr(),
+            expected.len(),
+            anomalous.as_ptr(),
+            anomalous.len(),
             anomaly.relative_index,
-            r.transform_method.is_difference().into(),
-            r.time_augmented.into(),
+            use_difference.into(),
+            time_augmented.into(),
             out.as_mut_ptr(),
             out.len(),
         )
     };
-    Refusal::answered(number)?;
-    Ok(out)
+    Refusal::answered(number)
 }
 
-/// The coordinates that the forest's conditional field is asked for.
-pub struct Missing {
-    /// Where the row starts that stands out.
-    pub position: usize,
-    /// Its coordinates that contribute most; none where the field is not asked.
-    pub indices: Vec<usize>,
+pub fn expected_point(
+    (shingle_size, base_dimension): Sizes,
+    position: usize,
+    point: &[f32],
+    attribution: LentAttribution,
+    median: &[f32],
+    out: &mut [f32],
+) -> Result<(), Refusal> {
+    // SAFETY: `out` is borrowed alone, all others for reading, and each goes with its own length.
+    let number = unsafe {
+        c::krcf_expected_point(
+            shingle_size,
+            base_dimension,
+            position,
+            point.as_ptr(),
+            point.len(),
+            attribution.high.as_ptr(),
+            attribution.high.len(),
+            attribution.low.as_ptr(),
+            attribution.low.len(),
+            median.as_ptr(),
+            median.len(),
+            out.as_mut_ptr(),
+            out.len(),
+        )
+    };
+    Refusal::answered(number)
 }
 
-pub fn likely_missing_indices(r: &Reading) -> Result<Missing, Refusal> {
+pub fn update_auto_adjust(
+    state: &mut [u8],
+    shingle_size: usize,
+    point: &[f32],
+) -> Result<(), Refusal> {
+    // SAFETY: `state` is borrowed alone, `point` for reading, and each goes with its own length.
+    let number = unsafe {
+        c::krcf_update_auto_adjust(
+            state.as_mut_ptr(),
+            state.len(),
+            shingle_size,
+            point.as_ptr(),
+            point.len(),
+        )
+    };
+    Refusal::answered(number)
+}
+
+/// The block that contributes most, of those since the last anomaly.
+pub fn max_gap_contribution(
+    attribution: LentAttribution,
+    base_dimension: usize,
+    gap: usize,
+) -> Result<usize, Refusal> {
+    let LentAttribution { high, low } = attribution;
     let mut block = [0; 8];
+    // SAFETY: `block` is borrowed alone, the others for reading, and each goes with its own length.
     let number = unsafe {
         c::krcf_max_gap_contribution(
-            r.attribution.high.as_ptr(),
-            r.attribution.high.len(),
-            r.attribution.low.as_ptr(),
-            r.attribution.low.len(),
-            r.base_dimension,
-            r.gap(),
+            high.as_ptr(),
+            high.len(),
+            low.as_ptr(),
+            low.len(),
+            base_dimension,
+            gap,
             block.as_mut_ptr(),
             block.len(),
         )
     };
     Refusal::answered(number)?;
-    let position = u64::from_le_bytes(block) as usize * r.base_dimension;
-    let d = r.dimension();
-    let probe = Reading {
-        rcf_point: &vec![0.0; d],
-        median: &vec![1.0; d],
-        ..*r
-    };
-    let out = expected_point(&probe, position)?;
-    let indices = (0..d).filter(|k| out[*k] == 1.0).collect();
-    Ok(Missing { position, indices })
-}
-
-/// The point with the conditional median at the coordinates that contribute most to the row from
-/// `position` on.
-pub fn expected_point(r: &Reading, position: usize) -> Result<Vec<f32>, Refusal> {
-    let mut out = vec![0.0; r.dimension()];
-    // SAFETY: `out` is borrowed alone, all others for reading, and each goes with its own length.
-    let number = unsafe {
-        c::krcf_expected_point(
-            r.shingle_size,
-            r.base_dimension,
-            position,
-            r.rcf_point.as_ptr(),
-            r.rcf_point.len(),
-            r.attribution.high.as_ptr(),
-            r.attribution.high.len(),
-            r.attribution.low.as_ptr(),
-            r.attribution.low.len(),
-            r.median.as_ptr(),
-            r.median.len(),
-            out.as_mut_ptr(),
-            out.len(),
-        )
-    };
-    Refusal::answered(number)?;
-    Ok(out)
+    Ok(u64::from_le_bytes(block) as usize)
 }

@@ -46,27 +46,39 @@ pub fn of_setting(refusal: Refusal, name: &str, value: f32) -> Refused {
     Refused::new(refusal, about)
 }
 
-/// What refused a call on a point of these sizes.
-pub fn of_point(refusal: Refusal, len: usize, shingle: usize, base_dimension: usize) -> Refused {
+/// What refused a reading.
+pub fn of_reading(refusal: Refusal, r: &Reading, bytes: &[u8; STATE_BYTES]) -> Refused {
     let about = match refusal {
-        Refusal::Range => sizes(shingle, base_dimension),
-        Refusal::Length => length("point", len, shingle * base_dimension),
+        Refusal::Range => own_base(r, bytes),
+        Refusal::Count => count(bytes),
+        _ => None,
+    };
+    match about {
+        Some(about) => Refused::new(refusal, about),
+        None => of_lists(refusal, r),
+    }
+}
+
+/// What refused a call on some of a reading's lists, all others of which are sound.
+pub fn of_lists(refusal: Refusal, r: &Reading) -> Refused {
+    let about = match refusal {
+        Refusal::Range => sizes(r.shingle_size, r.base_dimension),
+        Refusal::Length => lengths(r),
+        Refusal::NotFinite => not_finite(r),
+        Refusal::ValuesSeen => Some(values_seen(r)),
         _ => None,
     };
     Refused::new(refusal, about.unwrap_or(refusal.reason().to_string()))
 }
 
-/// What refused a reading, or a step on its lists.
-pub fn of_reading(refusal: Refusal, r: &Reading, bytes: &[u8; STATE_BYTES]) -> Refused {
-    let about = match refusal {
-        Refusal::Range => range(r, bytes),
-        Refusal::Length => lengths(r),
-        Refusal::NotFinite => not_finite(r),
-        Refusal::ValuesSeen => Some(values_seen(r)),
-        Refusal::Count => count(bytes),
-        _ => None,
-    };
-    Refused::new(refusal, about.unwrap_or(refusal.reason().to_string()))
+/// What refused a call on some of a reading's lists from a row's start on.
+pub fn of_start(refusal: Refusal, r: &Reading, position: usize) -> Refused {
+    if refusal == Refusal::Length && lengths(r).is_none() {
+        let most = grouped(r.dimension().saturating_sub(r.base_dimension));
+        let about = format!("position: {}, not 0 to {most}", grouped(position));
+        return Refused::new(refusal, about);
+    }
+    of_lists(refusal, r)
 }
 
 fn base(base_dimension: usize) -> String {
@@ -82,14 +94,11 @@ fn sizes(shingle_size: usize, base_dimension: usize) -> Option<String> {
     (!(1..=16).contains(&base_dimension)).then(|| base(base_dimension))
 }
 
-fn range(r: &Reading, bytes: &[u8; STATE_BYTES]) -> Option<String> {
-    let own = state::base_dimension(bytes);
-    sizes(r.shingle_size, r.base_dimension).or_else(|| {
-        (r.base_dimension != own).then(|| {
-            let given = r.base_dimension;
-            format!("base_dimension: {given}, where the watch has {own}")
-        })
-    })
+/// A base within its range that is not the state's.
+fn own_base(r: &Reading, bytes: &[u8; STATE_BYTES]) -> Option<String> {
+    let (given, own) = (r.base_dimension, state::base_dimension(bytes));
+    let sound = sizes(r.shingle_size, given).is_none();
+    (sound && given != own).then(|| format!("base_dimension: {given}, where the watch has {own}"))
 }
 
 fn length(name: &str, len: usize, wanted: usize) -> Option<String> {

@@ -7,9 +7,10 @@ use crate::calls;
 use crate::culprit;
 use crate::forest::Forest;
 use crate::kept::{Accepted, Anomaly, Kept};
-use crate::reading::{no_attribution, LastDescriptor, Reading, ZEROS};
+use crate::reading::{LastDescriptor, Reading};
 use crate::refusal::{Refusal, Refused};
 use crate::state::{self, STATE_BYTES};
+use crate::steps;
 use crate::types::{CorrectionMode, ScoringStrategy, TransformMethod};
 use crate::verdict::{Attribution, Verdict};
 use crate::watch::{Trial, Watch};
@@ -53,9 +54,7 @@ pub struct Withdrawal<'a> {
 impl<'a> Withdrawal<'a> {
     /// The reading before the forest was asked: zeros of the right length for all that it may say.
     fn unasked(&self, last_descriptor: LastDescriptor<'a>) -> Reading<'a> {
-        let mut reading = Reading {
-            shingle_size: self.shingle_size,
-            base_dimension: self.base_dimension,
+        Reading {
             scoring_strategy: self.scoring_strategy,
             transform_method: self.transform_method,
             time_augmented: self.time_augmented,
@@ -65,13 +64,8 @@ impl<'a> Withdrawal<'a> {
             shift: self.shift,
             difference_deviations: self.difference_deviations,
             last_descriptor,
-            ..Reading::default()
-        };
-        let dimension = reading.dimension();
-        reading.median = &ZEROS[..dimension];
-        reading.attribution = no_attribution(dimension);
-        reading.expected_attribution = no_attribution(dimension);
-        reading
+            ..Reading::blank(self.shingle_size, self.base_dimension)
+        }
     }
 }
 
@@ -289,7 +283,7 @@ impl<F: Forest + ?Sized> Asking<'_, '_, F> {
     /// Call 2, within a shingle of the last anomaly. A corrected score of grade 0 ends here, and
     /// noise.
     fn corrected_score(self, reading: Reading, mut trial: Trial) -> Asked<F> {
-        let corrected = self.step(&reading, calls::corrected_point(&reading))?;
+        let corrected = self.step(&reading, steps::corrected_point(&reading))?;
         let mut reading = reading;
         let corrects =
             reading.last_descriptor.last_anomaly.is_some() && reading.gap() <= reading.shingle_size;
@@ -333,7 +327,7 @@ impl<F: Forest + ?Sized> Asking<'_, '_, F> {
     /// Calls 5, if a coordinate stands out, and 6, within a shingle of the last anomaly. Every
     /// reading ends here.
     fn expected_point(self, reading: Reading) -> Asked<F> {
-        let missing = self.step(&reading, calls::likely_missing_indices(&reading))?;
+        let missing = self.step(&reading, steps::likely_missing_indices(&reading))?;
         let median;
         let mut reading = reading;
         if !missing.indices.is_empty() {
@@ -349,7 +343,7 @@ impl<F: Forest + ?Sized> Asking<'_, '_, F> {
         let expected_attribution;
         if reading.gap() < reading.shingle_size {
             let expected =
-                self.step(&reading, calls::expected_point(&reading, missing.position))?;
+                self.step(&reading, steps::expected_point(&reading, missing.position))?;
             expected_attribution = said(self.forest.attribution(&expected))?;
             reading.expected_attribution = expected_attribution.lent();
         }

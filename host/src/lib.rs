@@ -1,8 +1,13 @@
 //! A hospital's withdrawal watch: which drawers to recount.
 //!
-//! A random cut forest scores each withdrawal from the dispensing cabinets. A [`Watch`] turns the
-//! scores of one drawer into verdicts. The forest stays with the caller, who lends its results in a
-//! [`Reading`]; the decision itself is made by a library that is written in Rattle and proved.
+//! A random cut forest scores each withdrawal from the dispensing cabinets; this crate turns the
+//! scores of one drawer into verdicts. The decision itself is made by a library that is written in
+//! Rattle and proved, the forest stays with the caller. There are two ways to lend its results:
+//!
+//! - A [`Drawer`] asks the forest by itself, through the trait [`Forest`], keeps what the next
+//!   withdrawal needs and can be stored over a restart. Its page has an example, and
+//!   `examples/thousand.rs` is a whole program.
+//! - A [`Watch`] judges a [`Reading`] that the caller has filled in:
 //!
 //! ```
 //! use withdrawal_watch::{LentAttribution, Reading, Verdict, Watch};
@@ -39,6 +44,7 @@ mod points;
 mod reading;
 mod refusal;
 mod state;
+mod steps;
 mod store;
 mod types;
 mod verdict;
@@ -47,7 +53,7 @@ mod watch;
 pub use drawer::{Drawer, NotJudged, Withdrawal};
 pub use forest::Forest;
 pub use kept::Anomaly;
-pub use points::newest_row;
+pub use points::{apply_basic_corrector, expected_point, newest_row};
 pub use reading::{LastAnomaly, LastDescriptor, LentAttribution, Reading};
 pub use refusal::{Refusal, Refused};
 pub use state::STATE_BYTES;

@@ -107,22 +107,24 @@ pub(crate) fn no_attribution(dimension: usize) -> LentAttribution<'static> {
 }
 
 impl Reading<'_> {
-    /// One that every sound state of this base skips.
-    pub(crate) fn skipped(base_dimension: usize) -> Reading<'static> {
-        let row = &ZEROS[..base_dimension.min(16)];
-        let nothing = no_attribution(row.len());
-        Reading {
-            shingle_size: 1,
+    /// Zeros of the right length for every list; none for sizes that are refused.
+    pub(crate) fn blank(shingle_size: usize, base_dimension: usize) -> Reading<'static> {
+        let sizes = Reading {
+            shingle_size,
             base_dimension,
-            values_seen: 1,
-            rcf_point: row,
+            ..Reading::default()
+        };
+        let point = &ZEROS[..sizes.dimension()];
+        let row = &point[..base_dimension.min(point.len())];
+        Reading {
+            rcf_point: point,
             scale: row,
             shift: row,
             difference_deviations: row,
-            attribution: nothing,
-            median: row,
-            expected_attribution: nothing,
-            ..Reading::default()
+            attribution: no_attribution(point.len()),
+            median: point,
+            expected_attribution: no_attribution(point.len()),
+            ..sizes
         }
     }
 

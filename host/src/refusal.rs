@@ -23,7 +23,7 @@ pub enum Refusal {
     Length,
     /// 4: a number of the reading or of the last descriptor is infinite or NaN.
     NotFinite,
-    /// 5: `values_seen` is 0, too large or not later than the last anomaly's.
+    /// 5: `values_seen` is 0, too large or not later than the last anomaly's; a gap of 0.
     ValuesSeen,
     /// 6: a count in the watch's state is outside 0 to 16,777,215.
     Count,

@@ -74,7 +74,11 @@ impl Watch {
             room: Room::default(),
         };
         // A skipped reading changes nothing. Counts that are used up are no reason against a state.
-        match watch.trial(&Reading::skipped(state::base_dimension(bytes))) {
+        let skipped = Reading {
+            values_seen: 1,
+            ..Reading::blank(1, state::base_dimension(bytes))
+        };
+        match watch.trial(&skipped) {
             Err(why) if why.refusal() != Refusal::Count => Err(why),
             _ => Ok(watch),
         }
@@ -172,6 +176,34 @@ impl Watch {
     /// ```
     pub fn judge(&mut self, reading: &Reading) -> Result<Verdict, Refused> {
         self.room.judge(&mut self.state, reading)
+    }
+
+    /// Within a run of raised readings, with `auto_adjust`, counts the oldest row of a point in the
+    /// drawer's statistics, as a judgment does for each corrected reading; otherwise nothing.
+    /// Refusals: 2 to 4, 6.
+    ///
+    /// ```
+    /// # use withdrawal_watch::Watch;
+    /// let mut watch = Watch::new(0.01, true, 1)?;
+    /// let before = *watch.state_bytes();
+    /// watch.update_auto_adjust(4, &[2.0, 1.0, 2.0, 9.0])?;
+    /// assert_eq!(watch.state_bytes(), &before);
+    /// let why = watch.update_auto_adjust(4, &[f32::NAN; 4]).unwrap_err();
+    /// assert_eq!(why.to_string(), "refusal 4: rcf_point[0]: NaN, not a finite number");
+    /// # Ok::<(), withdrawal_watch::Refused>(())
+    /// ```
+    pub fn update_auto_adjust(
+        &mut self,
+        shingle_size: usize,
+        point: &[f32],
+    ) -> Result<(), Refused> {
+        calls::update_auto_adjust(&mut self.state, shingle_size, point).map_err(|refusal| {
+            let lent = Reading {
+                rcf_point: point,
+                ..Reading::blank(shingle_size, state::base_dimension(&self.state))
+            };
+            culprit::of_reading(refusal, &lent, &self.state)
+        })
     }
 
     /// What judging a reading would leave. The watch stays as it is.

@@ -186,7 +186,7 @@ fn count_6() {
     let why = watch.judge(&reading).unwrap_err();
     assert_eq!(
         why.to_string(),
-        "refusal 6: count of the primary statistic: 16,777,216, not 0 to 16,777,215"
+        "refusal 6: count of the scores: 16,777,216, not 0 to 16,777,215"
     );
     assert_eq!(watch.state_bytes(), &before);
 }

@@ -22,14 +22,15 @@ pub struct Lent {
     pub median: Vec<f32>,
 }
 
-/// A call that the chain made, with the point that it asked about.
+/// A call that the chain made, with the point that it asked about. The field's other arguments are
+/// its centrality, whether it projects, and its largest number.
 #[derive(Clone, Debug)]
 pub enum Call {
     Score(Vec<f32>),
     Density(Vec<f32>),
     Attribution(Vec<f32>),
-    Neighbours(Vec<f32>),
-    Field(Vec<usize>, Vec<f32>),
+    Neighbours(Vec<f32>, usize),
+    Field(Vec<usize>, Vec<f32>, (f64, bool, usize)),
 }
 
 /// What density_interpolant answers, as far as the chain reads it.
@@ -137,9 +138,9 @@ impl<Label, Attributes> AugmentedRCF<Label, Attributes> for RCFLarge<Label, Attr
     fn near_neighbor_list(
         &self,
         point: &[f32],
-        _percentile: usize,
+        percentile: usize,
     ) -> Result<Vec<(f64, Vec<f32>, f64)>> {
-        self.record(|| Call::Neighbours(point.to_vec()));
+        self.record(|| Call::Neighbours(point.to_vec(), percentile));
         Ok(take(&mut self.lent.borrow_mut().neighbours))
     }
 
@@ -147,11 +148,12 @@ impl<Label, Attributes> AugmentedRCF<Label, Attributes> for RCFLarge<Label, Attr
         &self,
         positions: &[usize],
         point: &[f32],
-        _centrality: f64,
-        _project: bool,
-        _max_number: usize,
+        centrality: f64,
+        project: bool,
+        max_number: usize,
     ) -> Result<SampleSummary> {
-        self.record(|| Call::Field(positions.to_vec(), point.to_vec()));
+        let others = (centrality, project, max_number);
+        self.record(|| Call::Field(positions.to_vec(), point.to_vec(), others));
         let median = take(&mut self.lent.borrow_mut().median);
         Ok(SampleSummary { median })
     }

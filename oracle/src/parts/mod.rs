@@ -5,6 +5,7 @@ mod bytes;
 mod conversions;
 mod demand3;
 mod deviation;
+mod drawer;
 mod drill;
 pub mod exits;
 mod floor;
@@ -43,6 +44,7 @@ pub const PARTS: &[Part] = &[
     part("drill", drill::compare),
     part("exits", exits::compare),
     part("judging", judging::compare),
+    part("drawer", drawer::compare),
     part("bytes", bytes::compare),
     part("expected", buffers::expected),
     part("corrector", buffers::corrector),

@@ -19,7 +19,7 @@ fn letters(calls: &[Call]) -> String {
         Call::Score(_) => 'S',
         Call::Density(_) => 'D',
         Call::Attribution(_) => 'A',
-        Call::Neighbours(_) => 'N',
+        Call::Neighbours(..) => 'N',
         Call::Field(..) => 'F',
     };
     calls.iter().map(letter).collect()
