@@ -1,75 +1,88 @@
 -- Bytes written one after the other, and how many there are. Assumes nothing.
-use mathlib.Core.Path.{_≡_, refl, sym, ap, ap₂, _∙_}
+use mathlib.Core.Path.{_≡_, refl, sym, ap, ap₂, _∙_, subst, subst⁻¹}
 use mathlib.Core.Bool.{Bool, true, false, cond}
 use mathlib.Core.List.{List, [], _∷_, _++_, append-assoc}
 use Prim.Native.Nat.{ℕ, zero, suc, _+_, _-_, _/_, _%_, _^_, _≤_, _<_}
-use native.Mathlib.Nat.{add-zero, add-assoc, div-lt-iff-lt-mul, pow-suc}
+use native.Mathlib.Nat.{le-refl, le-trans, lt-of-not-le, add-assoc, mod-eq-of-lt, le-div-iff-mul-le, div-lt-iff-lt-mul, pow-suc, pow-le-pow-right}
 use native.Mathlib.Numerals.{add-one}
 use native.Mathlib.Omega.{arith}
 use lib.Dec.{ltb}
-use lib.ListN.{length, take, drop, set, getD, length-append, length-drop, take-append-drop}
-use lib.Seq.{take-suc, take-all, take-at, drop-at, drop-drop, set-split, length-take-le}
+use lib.Ieee.{Float}
+use lib.ListN.{length, take, drop, set, getD, length-append}
+use lib.Seq.{paste, paste-zero, length-paste, take-paste, drop-paste, take-suc, take-all, drop-drop, set-split, length-take-le}
 use borrow.Author.Tests.{lt-ltb, le-ltb}
-use Rattle.score_lines.specs.Output.{glyph, decimalBy, decimal, hexBy, hex}
-use Rattle.score_lines.specs.Feeding.{pasted, Put}
+use Rattle.io.specs.Digits.{glyph, digits, Fewest}
+use Rattle.score_lines.specs.Output.{decimalBy, decimal, bits}
+use Rattle.score_lines.specs.Steps.{Put}
 
-module _ (xs : List ℕ) (at : ℕ) where
-  pub pasted-length : (ys : List ℕ) → at + length ys ≤ length xs → length (pasted xs at ys) ≡ length xs
-  unfolding pasted
-  pasted-length ys h = simp (length-append, length-take-le at xs (omega arith), length-drop) (omega arith)
+-- all of ys over xs from the place `at`, and then zs behind them
+all-of : (ys : List ℕ) → take (length ys) ys ≡ ys
+all-of ys = take-all (length ys) ys (le-refl (length ys))
 
-  -- ys and then zs behind them
-  pasted-then : (ys zs : List ℕ) → at + (length ys + length zs) ≤ length xs → pasted (pasted xs at ys) (at + length ys) zs ≡ pasted xs at (ys ++ zs)
-  unfolding pasted
-  pasted-then ys zs h =
-      let front : length (take at xs ++ ys) ≡ at + length ys = simp (length-append, length-take-le at xs (omega arith)) in
-      let split : pasted xs at ys ≡ (take at xs ++ ys) ++ drop (at + length ys) xs = sym (append-assoc (take at xs) ys (drop (at + length ys) xs)) in
-      let left : take (at + length ys) (pasted xs at ys) ≡ take at xs ++ ys = ap (take (at + length ys)) split ∙ take-at (take at xs ++ ys) _ (at + length ys) front in
-      let right : drop (at + length ys + length zs) (pasted xs at ys) ≡ drop (at + length (ys ++ zs)) xs =
-      ap (drop (at + length ys + length zs)) split
-      ∙ sym (drop-drop (length zs) (at + length ys) ((take at xs ++ ys) ++ drop (at + length ys) xs))
-      ∙ ap (drop (length zs)) (drop-at (take at xs ++ ys) (drop (at + length ys) xs) (at + length ys) front)
-      ∙ drop-drop (length zs) (at + length ys) xs
-      ∙ ap (λ (k : ℕ). drop k xs) (add-assoc at (length ys) (length zs) ∙ ap (λ (k : ℕ). at + k) (sym (length-append ys zs))) in
-      ap₂ (λ (a b : List ℕ). a ++ (zs ++ b)) left right ∙ simp append-assoc
+paste-then : (xs : List ℕ) (at : ℕ) (ys zs : List ℕ) → at + (length ys + length zs) ≤ length xs
+    → paste (paste xs at ys (length ys)) (at + length ys) zs (length zs) ≡ paste xs at (ys ++ zs) (length (ys ++ zs))
+paste-then xs at ys zs h =
+    let P = paste xs at ys (length ys) in
+    let left : take (at + length ys) P ≡ take at xs ++ ys = take-paste xs at ys (length ys) (omega arith) (le-refl (length ys)) ∙ ap (λ (l : List ℕ). take at xs ++ l) (all-of ys) in
+    let right : drop (at + length ys + length zs) P ≡ drop (at + length (ys ++ zs)) xs =
+    sym (drop-drop (length zs) (at + length ys) P)
+    ∙ ap (drop (length zs)) (drop-paste xs at ys (length ys) (omega arith) (le-refl (length ys)))
+    ∙ drop-drop (length zs) (at + length ys) xs
+    ∙ ap (λ (k : ℕ). drop k xs) (add-assoc at (length ys) (length zs) ∙ ap (λ (k : ℕ). at + k) (sym (length-append ys zs))) in
+    ap₂ (λ (a b : List ℕ). a ++ take (length zs) zs ++ b) left right
+    ∙ ap (λ (l : List ℕ). take at xs ++ ys ++ l ++ drop (at + length (ys ++ zs)) xs) (all-of zs)
+    ∙ ap (λ (l : List ℕ). l ++ drop (at + length (ys ++ zs)) xs) (append-assoc (take at xs) ys zs ∙ ap (λ (l : List ℕ). take at xs ++ l) (sym (all-of (ys ++ zs))))
 
 pub put-length : {xs ys after : List ℕ} {at end : ℕ} → Put xs at ys end after → at + length ys ≤ length xs → length after ≡ length xs
-put-length {xs} {ys} {after} {at} p h = ap length (p .bytes) ∙ pasted-length xs at ys h
+put-length {xs} {ys} {after} {at} p h = ap length (p .bytes) ∙ length-paste xs at ys (length ys) h (le-refl (length ys))
 
 pub put-then : {xs ys zs between after : List ℕ} {at middle end : ℕ} → Put xs at ys middle between → Put between middle zs end after
     → at + (length ys + length zs) ≤ length xs → Put xs at (ys ++ zs) end after
 put-then {xs} {ys} {zs} {between} {after} {at} {middle} p q h = record {
   place = q .place ∙ ap (λ (k : ℕ). k + length zs) (p .place) ∙ add-assoc at (length ys) (length zs) ∙ ap (λ (k : ℕ). at + k) (sym (length-append ys zs));
-  bytes = q .bytes ∙ ap₂ (λ (l : List ℕ) (k : ℕ). pasted l k zs) (p .bytes) (p .place) ∙ pasted-then xs at ys zs h;
+  bytes = q .bytes ∙ ap₂ (λ (l : List ℕ) (k : ℕ). paste l k zs (length zs)) (p .bytes) (p .place) ∙ paste-then xs at ys zs h;
 }
 
 -- one byte
 pub put-one : (xs : List ℕ) (at b : ℕ) → at < length xs → Put xs at (b ∷ []) (at + 1) (set xs at b)
-unfolding pasted
 put-one xs at b h = record {
   place = refl;
-  bytes = set-split xs at b h ∙ ap (λ (k : ℕ). take at xs ++ (b ∷ drop k xs)) (sym (add-one at));
+  bytes = set-split xs at b h ∙ ap (λ (k : ℕ). take at xs ++ (b ∷ drop k xs)) (sym (add-one at)) ∙ sym (append-assoc (take at xs) (b ∷ []) (drop (at + 1) xs));
 }
 
--- one digit more than a number needs adds nothing
-by-more : (k n : ℕ) → n < 10 ^ suc k → decimalBy (suc (suc k)) n ≡ decimalBy (suc k) n
+-- ---- the fewest digits that hold a number are those of `decimal`, and eight those of `bits`
+before : (j : ℕ) → suc j - 1 ≡ j
+before j = omega arith
+
+tenth : (n j : ℕ) → n < 10 ^ suc j → n / 10 < 10 ^ j
+tenth n j l = (div-lt-iff-lt-mul {k = 10} {x = n} {y = 10 ^ j} (omega arith)) .1 (rw (pow-suc 10 j) at l)
+
+two-digits : (k n : ℕ) → Fewest 10 1 n (suc (suc k)) → (10 ≤ n) × Fewest 10 1 (n / 10) (suc k)
+two-digits k n f =
+    let low : 10 ^ suc k ≤ n = subst (λ (j : ℕ). 10 ^ j ≤ n) (before (suc k)) (f .2 (omega arith)) in (
+      le-trans (pow-le-pow-right {n = 10} (omega arith) {i = 1} {j = suc k} (omega arith)) low,
+      (omega arith, tenth n (suc k) (f .1), λ q. subst⁻¹ (λ (j : ℕ). 10 ^ j ≤ n / 10) (before k) (le-div-iff-mul-le {k = 10} (omega arith) .1 (rw (pow-suc 10 k) at low))),
+    )
+
+by-fewest : (m k n : ℕ) → n < 10 ^ suc m → Fewest 10 1 n k → decimalBy (suc m) n ≡ digits 10 k n
 unfolding decimalBy
-by-more zero n h = simp (lt-ltb n 10 h)
-by-more (suc k) n h =
-    ap (λ (l : List ℕ). cond (ltb n 10) (glyph n ∷ []) (l ++ (glyph (n % 10) ∷ [])))
-    (by-more k (n / 10) ((div-lt-iff-lt-mul {k = 10} {x = n} {y = 10 ^ suc k} (omega arith)) .1 (rw (pow-suc 10 (suc k)) at h)))
+by-fewest m zero n h f = absurd (omega arith)
+by-fewest m (suc zero) n h f = let l : n < 10 = f .1 in simp (lt-ltb n 10 l, mod-eq-of-lt l)
+by-fewest zero (suc (suc k)) n h f = absurd (let l : n < 10 = h in omega (arith, two-digits k n f .0))
+by-fewest (suc m) (suc (suc k)) n h f =
+    simp (le-ltb n 10 (two-digits k n f .0)) (ap (λ (l : List ℕ). l ++ (glyph (n % 10) ∷ [])) (by-fewest m (suc k) (n / 10) (tenth n (suc m) h) (two-digits k n f .1)))
 
-pub decimal-small : (n : ℕ) → n < 10 → decimal n ≡ glyph n ∷ []
-unfolding decimal decimalBy
-decimal-small n h = simp (lt-ltb n 10 h)
-
-by-step : (k n : ℕ) → 10 ≤ n → decimalBy (suc k) n ≡ decimalBy k (n / 10) ++ (glyph (n % 10) ∷ [])
-unfolding decimalBy
-by-step k n h = simp (le-ltb n 10 h)
-
-pub decimal-more : (n : ℕ) → 10 ≤ n → n < 10000000000 → decimal n ≡ decimal (n / 10) ++ (glyph (n % 10) ∷ [])
+pub decimal-is : (n k : ℕ) → n < 10000000000 → Fewest 10 1 n k → decimal n ≡ digits 10 k n
 unfolding decimal
-decimal-more n h k = by-step 9 n h ∙ ap (λ (l : List ℕ). l ++ (glyph (n % 10) ∷ [])) (sym (by-more 8 (n / 10) (omega arith)))
+decimal-is n k h f = by-fewest 9 k n h f
+
+pub eight : (n k : ℕ) → n < 2 ^ 32 → Fewest 16 8 n k → k ≡ 8
+eight n k h f = let l : k < 9 = lt-of-not-le more in omega (arith, f .0)
+  where
+    more : 9 ≤ k → ⊥
+    more g =
+        let p : 16 ^ 8 ≤ 16 ^ (k - 1) = pow-le-pow-right {n = 16} (omega arith) {i = 8} {j = k - 1} (omega arith) in
+        omega (arith, p, f .2 (omega arith))
 
 pub cond-length : (t : Bool) (k : ℕ) (xs ys : List ℕ) → length xs ≤ k → length ys ≤ k → length (cond t xs ys) ≤ k
 cond-length true k xs ys h g = h
@@ -86,14 +99,13 @@ pub decimal-length : (n : ℕ) → length (decimal n) ≤ 10
 unfolding decimal
 decimal-length n = by-length 10 n
 
-pub hex-length : (n : ℕ) → length (hex n) ≡ 8
-unfolding hex hexBy
-hex-length n = refl
+pub bits-length : (x : Float) → length (bits x) ≡ 8
+unfolding bits
+bits-length x = refl
 
 -- A copy: nothing yet, one byte more, all.
 pub put-none : (xs : List ℕ) (at : ℕ) (bytes : List ℕ) → Put xs at (take 0 bytes) at xs
-unfolding pasted
-put-none xs at bytes = record { place = omega arith; bytes = rw add-zero (sym (take-append-drop at xs)) }
+put-none xs at bytes = record { place = omega arith; bytes = paste-zero xs at bytes }
 
 pub put-next : (xs bytes out : List ℕ) (at i to : ℕ) → Put xs at (take i bytes) to out → i < length bytes → at + length bytes ≤ length xs
     → Put xs at (take (i + 1) bytes) (to + 1) (set out to (getD bytes i 0))

@@ -9,20 +9,19 @@ use lib.Dec.{leb, ltb, eqb}
 use lib.ListN.{length, length-append}
 use lib.Ieee.{ofBits, binary32}
 use borrow.Author.Tests.{lt-ltb, le-ltb, le-leb, lt-leb, ne-eqb, ltb-true, ltb-false, eqb-true, eqb-false}
-use Rattle.descriptor.specs.Checks.{every}
 use Rattle.score_lines.specs.declared.Line.the-variants.{Fault}
-use Rattle.score_lines.specs.Output.{digitOf, isDigit, number, finiteOnly, readLine}
+use Rattle.score_lines.specs.Output.{digitOf, isDigit, allDigits, number, finiteOnly, readLine}
 use Rattle.score_lines.specs.Feeding.{lineOf, pushed}
 
 -- At most eight digits.
 pub record Good (line : List ℕ) : Type 0 where
-  pub digits : every isDigit line ≡ true
+  pub digits : allDigits line ≡ true
   pub short : length line ≤ 8
 
 -- What no further byte mends.
 pub data Faulty (line : List ℕ) : Type 0 where
   long : 8 < length line → Faulty line
-  odd : every isDigit line ≡ false → Faulty line
+  odd : allDigits line ≡ false → Faulty line
 
 pub number-snoc : (n : ℕ) (line : List ℕ) (b : ℕ) → number n (line ++ (b ∷ [])) ≡ number n line * 16 + digitOf b
 unfolding number
@@ -37,30 +36,30 @@ pub and-no : (t : Bool) → t && false ≡ false
 and-no true = refl
 and-no false = refl
 
-every-snoc : (line : List ℕ) (b : ℕ) → every isDigit line ≡ true → isDigit b ≡ true → every isDigit (line ++ (b ∷ [])) ≡ true
-unfolding every
-every-snoc [] b e h = simp h
-every-snoc (a ∷ line) b e h =
-    let t = and-true (isDigit a) (every isDigit line) e in
-    simp (t .0, every-snoc line b (t .1) h)
+digits-snoc : (line : List ℕ) (b : ℕ) → allDigits line ≡ true → isDigit b ≡ true → allDigits (line ++ (b ∷ [])) ≡ true
+unfolding allDigits
+digits-snoc [] b e h = simp h
+digits-snoc (a ∷ line) b e h =
+    let t = and-true (isDigit a) (allDigits line) e in
+    simp (t .0, digits-snoc line b (t .1) h)
 
 and-odd : (t u v : Bool) → t && u ≡ false → (u ≡ false → v ≡ false) → t && v ≡ false
 and-odd true u v e f = f e
 and-odd false u v e f = refl
 
-every-odd : (line : List ℕ) (b : ℕ) → every isDigit line ≡ false → every isDigit (line ++ (b ∷ [])) ≡ false
-unfolding every
-every-odd [] b e = absurd (let z : _≡_ {A = ℕ} 0 1 = cc in omega arith)
-every-odd (a ∷ line) b e = and-odd (isDigit a) (every isDigit line) _ e (every-odd line b)
+digits-odd : (line : List ℕ) (b : ℕ) → allDigits line ≡ false → allDigits (line ++ (b ∷ [])) ≡ false
+unfolding allDigits
+digits-odd [] b e = absurd (let z : _≡_ {A = ℕ} 0 1 = cc in omega arith)
+digits-odd (a ∷ line) b e = and-odd (isDigit a) (allDigits line) _ e (digits-odd line b)
 
-every-last : (line : List ℕ) (b : ℕ) → isDigit b ≡ false → every isDigit (line ++ (b ∷ [])) ≡ false
-unfolding every
-every-last [] b h = simp h
-every-last (a ∷ line) b h = simp (every-last line b h) (and-no (isDigit a))
+digits-last : (line : List ℕ) (b : ℕ) → isDigit b ≡ false → allDigits (line ++ (b ∷ [])) ≡ false
+unfolding allDigits
+digits-last [] b h = simp h
+digits-last (a ∷ line) b h = simp (digits-last line b h) (and-no (isDigit a))
 
 pub faulty-snoc : (line : List ℕ) (b : ℕ) → Faulty line → Faulty (line ++ (b ∷ []))
 faulty-snoc line b (long h) = long (simp length-append (omega arith))
-faulty-snoc line b (odd e) = odd (every-odd line b e)
+faulty-snoc line b (odd e) = odd (digits-odd line b e)
 
 -- The number is from 16 ^ length on and below twice that, and behind the leading 1 is what the digits write.
 shift : (k l : ℕ) → k + suc l ≡ suc k + l
@@ -72,11 +71,11 @@ number-low k n [] h = rw add-zero h
 number-low k n (b ∷ line) h =
     rw (shift k (length line)) (number-low (suc k) (n * 16 + digitOf b) line (rw (pow-suc 16 k) (omega arith)))
 
-number-high : (k n : ℕ) (line : List ℕ) → n < 16 ^ k → every isDigit line ≡ true → number n line < 16 ^ (k + length line)
-unfolding number every isDigit
+number-high : (k n : ℕ) (line : List ℕ) → n < 16 ^ k → allDigits line ≡ true → number n line < 16 ^ (k + length line)
+unfolding number allDigits isDigit
 number-high k n [] h e = rw add-zero h
 number-high k n (b ∷ line) h e =
-    let t = and-true (ltb (digitOf b) 16) (every isDigit line) e in
+    let t = and-true (ltb (digitOf b) 16) (allDigits line) e in
     let d = ltb-true (digitOf b) 16 (t .0) in
     rw (shift k (length line)) (number-high (suc k) (n * 16 + digitOf b) line (rw (pow-suc 16 k) (omega arith)) (t .1))
 
@@ -122,7 +121,7 @@ module _ (line : List ℕ) (good : Good line) where
   read m = rw (few-lines m (ltb m 65536) refl) (by-length (eqb (length line) 8) refl)
     where
       by-length : (t : Bool) → eqb (length line) 8 ≡ t
-          → cond (ltb m 65536 && (eqb (length line) 8 && every isDigit line)) (finiteOnly (ofBits binary32 (number 0 line))) Fault
+          → cond (ltb m 65536 && (eqb (length line) 8 && allDigits line)) (finiteOnly (ofBits binary32 (number 0 line))) Fault
           ≡ cond (ltb m 65536 && (leb 0x1_0000_0000 (number 1 line) && ltb (number 1 line) 0x2_0000_0000)) (finiteOnly (ofBits binary32 (number 1 line - 0x1_0000_0000))) Fault
       by-length true e =
           let f = part-full (eqb-true (length line) 8 e) in
@@ -147,10 +146,10 @@ pub data Pushed (line : List ℕ) (b : ℕ) : Type 0 where
 push : (line : List ℕ) (b : ℕ) → Good line → (t u : Bool) → ltb (length line) 8 ≡ t → isDigit b ≡ u → Pushed line b
 unfolding pushed isDigit
 push line b good true true e h =
-    more (record { digits = every-snoc line b (good .digits) h; short = simp length-append (omega (arith, ltb-true (length line) 8 e)) })
+    more (record { digits = digits-snoc line b (good .digits) h; short = simp length-append (omega (arith, ltb-true (length line) 8 e)) })
     (simp (lt-ltb (number 1 line) 0x1_0000_0000 (part-room line good (ltb-true (length line) 8 e)), h) (sym (number-snoc 1 line b)))
 push line b good true false e h =
-    spoilt (odd (every-last line b h)) (simp (lt-ltb (number 1 line) 0x1_0000_0000 (part-room line good (ltb-true (length line) 8 e)), h))
+    spoilt (odd (digits-last line b h)) (simp (lt-ltb (number 1 line) 0x1_0000_0000 (part-room line good (ltb-true (length line) 8 e)), h))
 push line b good false u e h =
     let l : length line ≡ 8 = le-antisymm (good .short) (ltb-false (length line) 8 e) in
     let f = part-full line good l in

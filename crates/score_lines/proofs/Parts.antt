@@ -3,22 +3,22 @@ use mathlib.Core.Path.{_≡_, refl, sym, ap, ap₂, _∙_}
 use mathlib.Core.Bool.{Bool, true, false}
 use mathlib.Core.List.{List, [], _∷_, _++_, append-assoc, append-nil}
 use Prim.Native.Nat.{ℕ, _+_, _*_, _/_, _≤_, _<_}
-use native.Mathlib.Nat.{zero-add}
+use native.Mathlib.Nat.{le-refl, zero-add}
 use native.Mathlib.Numerals.{add-one}
 use native.Mathlib.Omega.{arith}
 use lib.Dec.{eqb}
 use lib.ListN.{length, take, drop, getD, length-append, take-append-drop}
-use lib.Seq.{take-suc}
-use lib.Ieee.{toBits, binary32}
-use borrow.Author.Tests.{le-leb, lt-leb, eq-eqb, ne-eqb}
+use lib.Seq.{take-suc, take-all}
+use borrow.Author.Tests.{eq-eqb, ne-eqb}
 use Rattle.basicthresholder.specs.declared.Graded.{Graded}
 use Rattle.score_lines.specs.declared.Line.{Line}
 use Rattle.score_lines.specs.declared.Line.the-variants.{Score, Fault}
 use Rattle.score_lines.specs.declared.Run.{Run}
 use Rattle.score_lines.specs.declared.Fed.{Fed}
 use Rattle.score_lines.specs.Output.{row, badLine, counts}
-use Rattle.score_lines.specs.Feeding.{runOf, lineNumber, pushed, lineOf, ended, lineEnded, lineSaid, saidBy, taken, takenSaid, step, said, fed, printed, totalSaid, hasRoom, done, refused, pasted, Put, Feeds}
-use Rattle.score_lines.proofs.Bytes.{put-then, decimal-length, hex-length, cond-length}
+use Rattle.score_lines.specs.Feeding.{runOf, lineNumber, pushed, lineOf, ended, lineEnded, lineSaid, saidBy, taken, takenSaid, step, said, fed, printed, totalSaid, Prints}
+use Rattle.score_lines.specs.Steps.{Put}
+use Rattle.score_lines.proofs.Bytes.{put-then, decimal-length, bits-length, cond-length}
 
 pub fed-append : (run : Run) (xs ys : List ℕ) → fed run (xs ++ ys) ≡ fed (fed run xs) ys
 unfolding fed
@@ -56,7 +56,7 @@ over-printed run (x ∷ xs) over =
 row-length : (n : ℕ) (g : Graded) → length (row n g) ≤ 32
 unfolding row
 row-length n g =
-    simp (length-append, hex-length (toBits binary32 (g .threshold)), hex-length (toBits binary32 (g .grade))) (omega (arith, decimal-length n))
+    simp (length-append, bits-length) (omega (arith, decimal-length n))
 
 bad-length : (n : ℕ) → length (badLine n) ≤ 32
 unfolding badLine
@@ -145,27 +145,16 @@ module _ (run : Run) (xs : List ℕ) (i : ℕ) {state : Run} (e : state ≡ fed 
       ∙ ap (λ (l : List ℕ). printed run (take i xs) ++ l) (ap (λ (r : Run). printed r (drop i xs)) (sym e) ∙ over-printed state (drop i xs) o)
       ∙ append-nil (printed run (take i xs))
 
--- The contract of a call, from what it left.
-pub feeds : {room : Bool} {run next : Run} {text out after : List ℕ} {r : Fed} {to : ℕ} → room ≡ true → r ≡ done next to → Put out 0 text to after
-    → Feeds room run next text out r after
-feeds {room} {run} {next} {text} {out} {after} {r} {to} e d p = record {
-  answer = simp e (d ∙ ap (done next) (p .place ∙ zero-add (length text)));
-  bytes = simp e (p .bytes);
+-- The contract of a call, from what it left; and what it has written is within the buffer.
+fedOf : Run → ℕ → Fed
+fedOf run written = record { run = run; written = written }
+
+pub prints : {next : Run} {text out after : List ℕ} {r : Fed} → r .run ≡ next → Put out 0 text (r .written) after → Prints next text out r after
+unfolding fedOf
+prints {next} {text} {out} {after} {r} e p = record {
+  answer = ap₂ fedOf e (p .place ∙ zero-add (length text));
+  bytes = p .bytes ∙ ap₂ (λ (l : List ℕ) (k : ℕ). l ++ drop k out) (take-all (length text) text (le-refl (length text))) (zero-add (length text));
 }
 
-pub feeds-not : {room : Bool} {run next : Run} {text out : List ℕ} {r : Fed} → room ≡ false → r ≡ refused run → Feeds room run next text out r out
-feeds-not e d = record { answer = simp e d; bytes = simp e }
-
-pub room : (n m : ℕ) → n ≤ m / 32 → hasRoom n m ≡ true
-unfolding hasRoom
-room n m h = le-leb n (m / 32) h
-
-pub no-room : (n m : ℕ) → m / 32 < n → hasRoom n m ≡ false
-unfolding hasRoom
-no-room n m h = lt-leb n (m / 32) h
-
--- What a call has written is within the buffer.
-pub within : (room : Bool) {run next : Run} {text out after : List ℕ} {r : Fed} → Feeds room run next text out r after → r .written ≤ length after
-unfolding done refused pasted
-within true {run} {next} {text} {out} f = rw (f .answer, f .bytes, length-append text (drop (0 + length text) out)) (omega arith)
-within false f = rw (f .answer) (omega arith)
+pub within : {next : Run} {text out after : List ℕ} {r : Fed} → Prints next text out r after → r .written ≤ length after
+within {next} {text} {out} f = rw (f .answer, f .bytes, length-append text (drop (length text) out)) (omega arith)

@@ -6,13 +6,12 @@ use Prim.Native.Nat.{ℕ, _+_, _≤_}
 use native.Mathlib.Omega.{arith}
 use lib.Dec.{eqb}
 use borrow.Author.Tests.{ne-eqb, eqb-true, eqb-false}
-use Rattle.descriptor.specs.Checks.{every}
 use Rattle.basicthresholder.specs.declared.BasicThresholder.{BasicThresholder}
 use Rattle.score_lines.specs.declared.Line.{Line}
 use Rattle.score_lines.specs.declared.Line.the-variants.{Score, Fault}
 use Rattle.score_lines.specs.declared.Run.{Run}
-use Rattle.score_lines.specs.Output.{number, linesFrom, shown, counted, isQuiet, row, badLine, byLine, rows, header, settings, output}
-use Rattle.score_lines.specs.Feeding.{runOf, begin, pushed, lineOf, judged, ended, endedBy, saidBy, lineEnded, lineSaid, step, said, fed, printed, totalSaid, closing, joined, inParts}
+use Rattle.score_lines.specs.Output.{allDigits, number, linesFrom, shown, counted, isQuiet, row, badLine, byLine, rows, header, settings, output}
+use Rattle.score_lines.specs.Feeding.{runOf, begin, pushed, lineOf, judged, ended, endedBy, saidBy, lineEnded, lineSaid, step, said, fed, printed, totalSaid, closing, joined, inParts, Whole}
 use Rattle.score_lines.proofs.Parts.{fed-append, printed-append, over-fed, over-printed, line-step, line-said, bad-step, bad-said, digit-step, digit-said}
 use Rattle.score_lines.proofs.Digits.{Good, Faulty, Pushed, more, spoilt, push-one, faulty-snoc, read, read-faulty, part-begun, part-positive}
 
@@ -144,7 +143,7 @@ by-byte true bs line b s q r e good later rest =
 by-byte false bs line b s q r e good later rest = inner bs line b s q r good (eqb-false b 10 e) rest (push-one line b good)
 
 nothing-yet : Good []
-unfolding every
+unfolding allDigits
 nothing-yet = record { digits = refl; short = omega arith }
 
 -- A run in a line of good digits prints what is due for the lines from this one on.
@@ -165,6 +164,6 @@ in-one run (p ∷ ps) =
     ∙ ap₂ (λ (l : List ℕ) (r : Run). l ++ closing r) (sym (printed-append run p (joined ps))) (sym (fed-append run p (joined ps)))
 
 -- The whole: however the input is cut, header, parts and end together print its output.
-pub whole : (parts : List (List ℕ)) → header ++ inParts begin parts ≡ output (joined parts)
+pub whole : Whole
 unfolding output begin number
 whole parts = ap (λ (l : List ℕ). header ++ l) (in-one begin parts ∙ follows (joined parts) [] settings 0 0 nothing-yet)

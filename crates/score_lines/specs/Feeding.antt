@@ -1,19 +1,18 @@
--- The run as it is fed its input byte by byte. `proofs/Whole.antt` says that this prints `output`, however the input is cut.
-use Prim.Native.Nat.{ℕ, _+_, _-_, _*_, _/_}
+-- The run as it is fed its input byte by byte; `Whole` says that this prints `output`, however the input is cut.
+use Prim.Native.Nat.{ℕ, _+_, _-_, _*_}
+use Prim.Native.Char.{code}
 use mathlib.Core.Path.{_≡_}
 use mathlib.Core.Bool.{Bool, true, false, cond, _&&_}
 use mathlib.Core.List.{List, [], _∷_, _++_}
 use lib.Dec.{leb, ltb, eqb}
-use lib.ListN.{length, take, drop}
+use lib.ListN.{length, drop}
 use lib.Ieee.{Float, ofBits, binary32}
-use Rattle.types.specs.declared.Refusal.the-variants.{Length}
-use Rattle.types.specs.declared.Answer.the-variants.{Done, Refused}
 use Rattle.basicthresholder.specs.declared.BasicThresholder.{BasicThresholder}
 use Rattle.score_lines.specs.declared.Line.{Line}
 use Rattle.score_lines.specs.declared.Line.the-variants.{Score, Fault}
 use Rattle.score_lines.specs.declared.Run.{Run}
 use Rattle.score_lines.specs.declared.Fed.{Fed}
-use Rattle.score_lines.specs.Output.{digitOf, finiteOnly, shown, counted, isQuiet, row, badLine, counts, settings}
+use Rattle.score_lines.specs.Output.{digitOf, finiteOnly, shown, counted, isQuiet, row, badLine, counts, settings, header, output}
 
 abbrev pub runOf : BasicThresholder → ℕ → ℕ → ℕ → Bool → Run
 runOf s quiet raised part over = record { thresholder = s; quiet = quiet; raised = raised; part = part; over = over }
@@ -43,14 +42,6 @@ judged run s grade =
 unfoldable pub ended : Run → Run
 ended run = runOf (run .thresholder) (run .quiet) (run .raised) (run .part) true
 
--- ys over xs from the place `at`, and the place behind them.
-unfoldable pub pasted : List ℕ → ℕ → List ℕ → List ℕ
-pasted xs at ys = take at xs ++ (ys ++ drop (at + length ys) xs)
-
-pub record Put (xs : List ℕ) (at : ℕ) (ys : List ℕ) (end : ℕ) (after : List ℕ) : Type 0 where
-  pub place : end ≡ at + length ys
-  pub bytes : after ≡ pasted xs at ys
-
 -- The end of the line under way: the run after it and what it prints.
 unfoldable pub endedBy : Run → Line → Run
 endedBy run Fault = ended run
@@ -75,10 +66,10 @@ takenSaid run part = cond (eqb part 0) (badLine (lineNumber run)) []
 
 -- One byte of the input: the run after it, and what it prints.
 unfoldable pub step : Run → ℕ → Run
-step run b = cond (run .over) run (cond (eqb b 10) (lineEnded run) (taken run (pushed (run .part) b)))
+step run b = cond (run .over) run (cond (eqb b (code "\n")) (lineEnded run) (taken run (pushed (run .part) b)))
 
 unfoldable pub said : Run → ℕ → List ℕ
-said run b = cond (run .over) [] (cond (eqb b 10) (lineSaid run) (takenSaid run (pushed (run .part) b)))
+said run b = cond (run .over) [] (cond (eqb b (code "\n")) (lineSaid run) (takenSaid run (pushed (run .part) b)))
 
 -- A part of the input, byte by byte.
 unfoldable pub fed : Run → List ℕ → Run
@@ -112,17 +103,11 @@ unfoldable pub inParts : Run → List (List ℕ) → List ℕ
 inParts run [] = closing run
 inParts run (p ∷ ps) = printed run p ++ inParts (fed run p) ps
 
--- A buffer of m bytes takes what n bytes of input print.
-unfoldable pub hasRoom : ℕ → ℕ → Bool
-hasRoom n m = leb n (m / 32)
+-- The whole: however the input is cut, header, parts and end together print its output.
+abbrev pub Whole : Type 0
+Whole = (parts : List (List ℕ)) → header ++ inParts begin parts ≡ output (joined parts)
 
-unfoldable pub done : Run → ℕ → Fed
-done run written = record { answer = Done; run = run; written = written }
-
-unfoldable pub refused : Run → Fed
-refused run = record { answer = Refused Length; run = run; written = 0 }
-
--- A call that leaves the run `next` and prints `text` at the front of the buffer. Without room it is refused by 3, and run and buffer stay.
-pub record Feeds (room : Bool) (run next : Run) (text out : List ℕ) (r : Fed) (after : List ℕ) : Type 0 where
-  pub answer : r ≡ cond room (done next (length text)) (refused run)
-  pub bytes : after ≡ cond room (pasted out 0 text) out
+-- A call that leaves the run `next` and prints `text` at the front of the buffer. What is behind it stays.
+pub record Prints (next : Run) (text out : List ℕ) (r : Fed) (after : List ℕ) : Type 0 where
+  pub answer : r ≡ record { run = next; written = length text }
+  pub bytes : after ≡ text ++ drop (length text) out

@@ -1,12 +1,15 @@
 -- What the score watch prints for a whole input: the definition to believe. Input and output are lists of bytes.
 use Prim.Native.Nat.{ℕ, zero, suc, _+_, _-_, _*_, _/_, _%_}
-use mathlib.Core.Bool.{Bool, false, cond, _&&_}
+use Prim.Native.Char.{Char, code}
+use Prim.Native.String.{String, [] as end, _∷_ as _then_}
+use mathlib.Core.Bool.{Bool, true, false, cond, _&&_}
 use mathlib.Core.List.{List, [], _∷_, _++_}
 use lib.Dec.{leb, ltb, eqb}
 use lib.ListN.{length}
 use lib.Ieee as Ieee
 use lib.Ieee.{Float, ofBits, toBits, binary32, binary64}
-use Rattle.descriptor.specs.Checks.{isFinite, every}
+use lib.Ieee.Scale.{finite}
+use Rattle.io.specs.Digits.{glyph, digits}
 use Rattle.basicthresholder.specs.Const.{zero32}
 use Rattle.basicthresholder.specs.Grades.{graded, primaryThresholdAndGrade}
 use Rattle.basicthresholder.specs.Updates.{freshThresholder, withZFactor, primaryCounted}
@@ -15,15 +18,24 @@ use Rattle.basicthresholder.specs.declared.Graded.{Graded}
 use Rattle.score_lines.specs.declared.Line.{Line}
 use Rattle.score_lines.specs.declared.Line.the-variants.{Score, Fault}
 
+-- The bytes of a text.
+abbrev pub bytes : String → List ℕ
+bytes end = []
+bytes (c then text) = code c ∷ bytes text
+
 -- The value of a hexadecimal digit of either case; 16 for any other byte.
 unfoldable pub digitOf : ℕ → ℕ
 digitOf b =
-    cond (leb 48 b && leb b 57) (b - 48)
-    (cond (leb 65 b && leb b 70) (b - 55)
-    (cond (leb 97 b && leb b 102) (b - 87) 16))
+    cond (leb (code "0") b && leb b (code "9")) (b - code "0")
+    (cond (leb (code "A") b && leb b (code "F")) (b - (code "A" - 10))
+    (cond (leb (code "a") b && leb b (code "f")) (b - (code "a" - 10)) 16))
 
 unfoldable pub isDigit : ℕ → Bool
 isDigit b = ltb (digitOf b) 16
+
+unfoldable pub allDigits : List ℕ → Bool
+allDigits [] = true
+allDigits (b ∷ bs) = isDigit b && allDigits bs
 
 -- The number that digits write behind the number n.
 unfoldable pub number : ℕ → List ℕ → ℕ
@@ -32,18 +44,18 @@ number n (b ∷ bs) = number (n * 16 + digitOf b) bs
 
 -- A finite score; anything else is a fault.
 unfoldable pub finiteOnly : Float → Line
-finiteOnly x = cond (isFinite x) (Score x) Fault
+finiteOnly x = cond (finite x) (Score x) Fault
 
 -- What the line with the number n holds: eight digits are the bits of a score. From line 65,537 on every line is a fault.
 unfoldable pub readLine : ℕ → List ℕ → Line
 readLine n line =
-    cond (leb n 65536 && (eqb (length line) 8 && every isDigit line)) (finiteOnly (ofBits binary32 (number 0 line))) Fault
+    cond (leb n 65536 && (eqb (length line) 8 && allDigits line)) (finiteOnly (ofBits binary32 (number 0 line))) Fault
 
--- The lines of what follows the bytes `line` of a line. A line ends at a byte 10; the last one may lack that, and a line end that ends the input starts none.
+-- The lines of what follows the bytes `line` of a line. A line ends at a line end; the last one may lack that, and a line end that ends the input starts none.
 unfoldable pub linesFrom : List ℕ → List ℕ → List (List ℕ)
 linesFrom [] [] = []
 linesFrom (a ∷ line) [] = (a ∷ line) ∷ []
-linesFrom line (b ∷ bs) = cond (eqb b 10) (line ∷ linesFrom [] bs) (linesFrom (line ++ (b ∷ [])) bs)
+linesFrom line (b ∷ bs) = cond (eqb b (code "\n")) (line ∷ linesFrom [] bs) (linesFrom (line ++ (b ∷ [])) bs)
 
 -- What a row shows: threshold and opening grade before the score is counted. A zero score shows zeros.
 unfoldable pub shown : BasicThresholder → Float → Graded
@@ -56,10 +68,6 @@ counted s x = cond (Ieee.eq x zero32) s (primaryCounted s x)
 unfoldable pub isQuiet : Float → Bool
 isQuiet grade = Ieee.eq grade zero32
 
--- A digit below 16 as a byte, in lower case.
-unfoldable pub glyph : ℕ → ℕ
-glyph d = cond (ltb d 10) (48 + d) (87 + d)
-
 -- n in decimal digits, at most k of them.
 unfoldable pub decimalBy : ℕ → ℕ → List ℕ
 decimalBy zero n = []
@@ -68,30 +76,21 @@ decimalBy (suc k) n = cond (ltb n 10) (glyph n ∷ []) (decimalBy k (n / 10) ++ 
 unfoldable pub decimal : ℕ → List ℕ
 decimal n = decimalBy 10 n
 
--- The last k hexadecimal digits of n.
-unfoldable pub hexBy : ℕ → ℕ → List ℕ
-hexBy zero n = []
-hexBy (suc k) n = hexBy k (n / 16) ++ (glyph (n % 16) ∷ [])
+-- The eight hexadecimal digits of a float's bits.
+unfoldable pub bits : Float → List ℕ
+bits x = digits 16 8 (toBits binary32 x)
 
-unfoldable pub hex : ℕ → List ℕ
-hex n = hexBy 8 n
-
--- "line threshold grade"
 unfoldable pub header : List ℕ
-header = 108 ∷ 105 ∷ 110 ∷ 101 ∷ 32 ∷ 116 ∷ 104 ∷ 114 ∷ 101 ∷ 115 ∷ 104 ∷ 111 ∷ 108 ∷ 100 ∷ 32 ∷ 103 ∷ 114 ∷ 97 ∷ 100 ∷ 101 ∷ 10 ∷ []
+header = bytes "line threshold grade\n"
 
--- The number, the threshold's bits and the grade's, a space between.
 unfoldable pub row : ℕ → Graded → List ℕ
-row n g = decimal n ++ ((32 ∷ []) ++ (hex (toBits binary32 (g .threshold)) ++ ((32 ∷ []) ++ (hex (toBits binary32 (g .grade)) ++ (10 ∷ [])))))
+row n g = decimal n ++ (bytes " " ++ (bits (g .threshold) ++ (bytes " " ++ (bits (g .grade) ++ bytes "\n"))))
 
--- "bad line " and the number.
 unfoldable pub badLine : ℕ → List ℕ
-badLine n = (98 ∷ 97 ∷ 100 ∷ 32 ∷ 108 ∷ 105 ∷ 110 ∷ 101 ∷ 32 ∷ []) ++ (decimal n ++ (10 ∷ []))
+badLine n = bytes "bad line " ++ (decimal n ++ bytes "\n")
 
--- "quiet " and " raised ", each with its number.
 unfoldable pub counts : ℕ → ℕ → List ℕ
-counts quiet raised =
-    (113 ∷ 117 ∷ 105 ∷ 101 ∷ 116 ∷ 32 ∷ []) ++ (decimal quiet ++ ((32 ∷ 114 ∷ 97 ∷ 105 ∷ 115 ∷ 101 ∷ 100 ∷ 32 ∷ []) ++ (decimal raised ++ (10 ∷ []))))
+counts quiet raised = bytes "quiet " ++ (decimal quiet ++ (bytes " raised " ++ (decimal raised ++ bytes "\n")))
 
 -- By what a line holds: the one for a fault, or the one for its score.
 unfoldable pub byLine : {A : Type 0} → Line → A → (Float → A) → A

@@ -1,18 +1,21 @@
-// The score watch on bytes: lines of eight hexadecimal digits in, rows of thresholds and grades out. A run is fed its input in parts of any size and
+// The score watch on bytes: lines of eight hexadecimal digits in, rows of thresholds and grades out. A run is fed its input in parts, cut anywhere, and
 // hands back what it prints; a program above has only to read and to write.
 use basicthresholder::BasicThresholder;
 use basicthresholder::Graded;
-use types::Answer;
-use types::Refusal;
 ghost use mathlib.Core.Path.{_≡_};
 ghost use mathlib.Core.List.{List, [], _∷_};
 ghost use Prim.Native.Nat.{ℕ, _+_, _*_, _≤_, _<_};
-ghost use lib.ListN.{length};
-ghost use lib.Ieee.{toBits, binary32};
+ghost use lib.ListN.{length, take};
 ghost use Rattle.score_lines.specs.Output as Output;
 ghost use Rattle.score_lines.specs.Feeding as Feeding;
+ghost use Rattle.score_lines.specs.Steps as Steps;
 
-const LINE_END: u8 = 10;
+// A part of the input, and room for what it prints: 32 bytes for each byte of it, since a byte can end a line.
+pub const PART: usize = 4096;
+
+pub const ROOM: usize = 131072;
+
+const LINE_END: u8 = b'\n';
 
 const MOST_LINES: u64 = 65536;
 
@@ -34,17 +37,10 @@ pub struct Run {
     pub over: bool,
 }
 
-// What a call that prints answers: how many bytes it wrote at the front of the lent buffer, and the run after it.
+// What a call that prints answers: the run after it, and where in the lent buffer the written bytes end.
 pub struct Fed {
-    pub answer: Answer,
     pub run: Run,
     pub written: usize,
-}
-
-// The run after a line, and where what it printed ends.
-struct Printed {
-    run: Run,
-    at: usize,
 }
 
 // The value of a hexadecimal digit of either case; 16 for any other byte.
@@ -105,7 +101,7 @@ fn line_of(lines: u64, part: u64) -> Line
 fn finite_only(score: f32) -> Line
     ensures { λ r. ⌜ r ≡ Output.finiteOnly score ⌝ }
 {
-    if descriptor::is_finite_f32(score) {
+    if ieee::is_finite(score) {
         return Line::Score(score);
     }
     Line::Fault
@@ -166,44 +162,10 @@ fn ended(run: Run) -> Run
     out
 }
 
-// A digit below 16 as a byte, in lower case.
-fn glyph(d: u64) -> u8
-    requires { ⌜ d < 16 ⌝ }
-    ensures { λ r. ⌜ r ≡ Output.glyph d ⌝ }
-{
-    if d < 10 {
-        return 48 + d as u8;
-    }
-    87 + d as u8
-}
-
-// The eight hexadecimal digits of a pattern.
-fn hex(n: u32) -> [u8; 8]
-    ensures { λ r. ⌜ r ≡ Output.hex n ⌝ }
-{
-    let g = n as u64;
-    let f = g / 16;
-    let e = f / 16;
-    let d = e / 16;
-    let c = d / 16;
-    let b = c / 16;
-    let a = b / 16;
-    [
-        glyph(a / 16 % 16),
-        glyph(a % 16),
-        glyph(b % 16),
-        glyph(c % 16),
-        glyph(d % 16),
-        glyph(e % 16),
-        glyph(f % 16),
-        glyph(g % 16),
-    ]
-}
-
 // Each `put` writes bytes over `out` from the place `at`, and answers the place behind them.
 fn put(out: &mut [u8], at: usize, b: u8) -> usize
     requires { ⌜ at < length (now out) ⌝ }
-    ensures { λ r. ⌜ Feeding.Put (now (out .entry)) at (b ∷ []) r (now (out .exit)) ⌝ }
+    ensures { λ r. ⌜ Steps.Put (now (out .entry)) at (b ∷ []) r (now (out .exit)) ⌝ }
 {
     out[at] = b;
     at + 1
@@ -211,7 +173,7 @@ fn put(out: &mut [u8], at: usize, b: u8) -> usize
 
 fn put_all(out: &mut [u8], at: usize, bytes: &[u8]) -> usize
     requires { ⌜ at + length (now bytes) ≤ length (now out) ⌝ }
-    ensures { λ r. ⌜ Feeding.Put (now (out .entry)) at (now (bytes .entry)) r (now (out .exit)) ⌝ }
+    ensures { λ r. ⌜ Steps.Put (now (out .entry)) at (now (bytes .entry)) r (now (out .exit)) ⌝ }
 {
     let mut i = 0usize;
     let mut to = at;
@@ -224,33 +186,38 @@ fn put_all(out: &mut [u8], at: usize, bytes: &[u8]) -> usize
 }
 
 fn put_decimal(out: &mut [u8], at: usize, n: u64) -> usize
-    requires { ⌜ n < 10000000000 ⌝ ∗ ⌜ at + length (Output.decimal n) ≤ length (now out) ⌝ }
-    ensures { λ r. ⌜ Feeding.Put (now (out .entry)) at (Output.decimal n) r (now (out .exit)) ⌝ }
+    requires { ⌜ n < 10000000000 ⌝ ∗ ⌜ at + 10 ≤ length (now out) ⌝ }
+    ensures { λ r. ⌜ Steps.Put (now (out .entry)) at (Output.decimal n) r (now (out .exit)) ⌝ }
 {
-    if n < 10 {
-        return put(out, at, glyph(n));
-    }
-    let to = put_decimal(out, at, n / 10);
-    put(out, to, glyph(n % 10))
+    let mut text = [0u8; 20];
+    let k = io::decimal(n, &mut text);
+    put_all(out, at, &text[..k])
+}
+
+fn put_bits(out: &mut [u8], at: usize, x: f32) -> usize
+    requires { ⌜ at + 8 ≤ length (now out) ⌝ }
+    ensures { λ r. ⌜ Steps.Put (now (out .entry)) at (Output.bits x) r (now (out .exit)) ⌝ }
+{
+    let mut text = [0u8; 16];
+    let k = io::hex(ieee::f32_to_bits(x) as u64, 8, &mut text);
+    put_all(out, at, &text[..k])
 }
 
 fn put_row(out: &mut [u8], at: usize, number: u64, shown: Graded) -> usize
     requires { ⌜ number < 10000000000 ⌝ ∗ ⌜ at + 32 ≤ length (now out) ⌝ }
-    ensures { λ r. ⌜ Feeding.Put (now (out .entry)) at (Output.row number shown) r (now (out .exit)) ⌝ }
+    ensures { λ r. ⌜ Steps.Put (now (out .entry)) at (Output.row number shown) r (now (out .exit)) ⌝ }
 {
-    let threshold = hex(ieee::f32_to_bits(shown.threshold));
-    let grade = hex(ieee::f32_to_bits(shown.grade));
     let a = put_decimal(out, at, number);
     let b = put(out, a, b' ');
-    let c = put_all(out, b, &threshold);
+    let c = put_bits(out, b, shown.threshold);
     let d = put(out, c, b' ');
-    let e = put_all(out, d, &grade);
+    let e = put_bits(out, d, shown.grade);
     put(out, e, LINE_END)
 }
 
 fn put_bad(out: &mut [u8], at: usize, number: u64) -> usize
     requires { ⌜ number < 10000000000 ⌝ ∗ ⌜ at + 32 ≤ length (now out) ⌝ }
-    ensures { λ r. ⌜ Feeding.Put (now (out .entry)) at (Output.badLine number) r (now (out .exit)) ⌝ }
+    ensures { λ r. ⌜ Steps.Put (now (out .entry)) at (Output.badLine number) r (now (out .exit)) ⌝ }
 {
     let a = put_all(out, at, b"bad line ");
     let b = put_decimal(out, a, number);
@@ -259,7 +226,7 @@ fn put_bad(out: &mut [u8], at: usize, number: u64) -> usize
 
 fn put_counts(out: &mut [u8], at: usize, quiet: u64, raised: u64) -> usize
     requires { ⌜ quiet < 10000000000 ⌝ ∗ ⌜ raised < 10000000000 ⌝ ∗ ⌜ at + 36 ≤ length (now out) ⌝ }
-    ensures { λ r. ⌜ Feeding.Put (now (out .entry)) at (Output.counts quiet raised) r (now (out .exit)) ⌝ }
+    ensures { λ r. ⌜ Steps.Put (now (out .entry)) at (Output.counts quiet raised) r (now (out .exit)) ⌝ }
 {
     let a = put_all(out, at, b"quiet ");
     let b = put_decimal(out, a, quiet);
@@ -269,9 +236,9 @@ fn put_counts(out: &mut [u8], at: usize, quiet: u64, raised: u64) -> usize
 }
 
 // The end of the line under way: its row, or that it is bad.
-fn end_line(run: Run, out: &mut [u8], at: usize) -> Printed
+fn end_line(run: Run, out: &mut [u8], at: usize) -> Fed
     requires { ⌜ at + 32 ≤ length (now out) ⌝ }
-    ensures { λ r. ⌜ r .run ≡ Feeding.lineEnded run ⌝ ∗ ⌜ Feeding.Put (now (out .entry)) at (Feeding.lineSaid run) (r .at) (now (out .exit)) ⌝ }
+    ensures { λ r. ⌜ r .run ≡ Feeding.lineEnded run ⌝ ∗ ⌜ Steps.Put (now (out .entry)) at (Feeding.lineSaid run) (r .written) (now (out .exit)) ⌝ }
 {
     let lines = run.quiet as u64 + run.raised as u64;
     let line = line_of(lines, run.part);
@@ -280,51 +247,89 @@ fn end_line(run: Run, out: &mut [u8], at: usize) -> Printed
             let next = counted(run.thresholder, score);
             let seen = shown(run.thresholder, score);
             let end = put_row(out, at, lines + 1, seen);
-            Printed {
+            Fed {
                 run: judged(run, next, seen.grade),
-                at: end,
+                written: end,
             }
         }
         Line::Fault => {
             let end = put_bad(out, at, lines + 1);
-            Printed {
+            Fed {
                 run: ended(run),
-                at: end,
+                written: end,
             }
         }
-    }
-}
-
-fn done(run: Run, written: usize) -> Fed
-    ensures { λ r. ⌜ r ≡ Feeding.done run written ⌝ }
-{
-    Fed {
-        answer: Answer::Done,
-        run,
-        written,
-    }
-}
-
-fn refused(run: Run) -> Fed
-    ensures { λ r. ⌜ r ≡ Feeding.refused run ⌝ }
-{
-    Fed {
-        answer: Answer::Refused(Refusal::Length),
-        run,
-        written: 0,
     }
 }
 
 // The counts, unless the run is over.
 fn total(run: Run, out: &mut [u8], at: usize) -> Fed
     requires { ⌜ at + 36 ≤ length (now out) ⌝ }
-    ensures { λ r. ⌜ r ≡ Feeding.done (Feeding.totalRun run) (at + length (Feeding.totalSaid run)) ⌝ ∗ ⌜ now (out .exit) ≡ Feeding.pasted (now (out .entry)) at (Feeding.totalSaid run) ⌝ }
+    ensures { λ r. ⌜ r .run ≡ Feeding.totalRun run ⌝ ∗ ⌜ Steps.Put (now (out .entry)) at (Feeding.totalSaid run) (r .written) (now (out .exit)) ⌝ }
 {
     if run.over {
-        return done(run, at);
+        return Fed { run, written: at };
     }
     let end = put_counts(out, at, run.quiet as u64, run.raised as u64);
-    done(ended(run), end)
+    Fed {
+        run: ended(run),
+        written: end,
+    }
+}
+
+// The bytes of a part of the input, one by one.
+fn read(run: Run, input: &[u8], out: &mut [u8]) -> Fed
+    requires { ⌜ 32 * length (now input) ≤ length (now out) ⌝ }
+    ensures { λ r. ⌜ r .run ≡ Feeding.fed run (now (input .entry)) ⌝ ∗ ⌜ Steps.Put (now (out .entry)) 0 (Feeding.printed run (now (input .entry))) (r .written) (now (out .exit)) ⌝ }
+{
+    let mut state = run;
+    let mut i = 0usize;
+    let mut to = 0usize;
+    while i < input.len() {
+        if state.over {
+            return Fed {
+                run: state,
+                written: to,
+            };
+        }
+        let b = input[i];
+        if b == LINE_END {
+            let after = end_line(state, out, to);
+            state = after.run;
+            to = after.written;
+            i += 1;
+            continue;
+        }
+        let part = pushed(state.part, b);
+        if part == 0 {
+            let end = put_bad(out, to, state.quiet as u64 + state.raised as u64 + 1);
+            return Fed {
+                run: ended(state),
+                written: end,
+            };
+        }
+        state.part = part;
+        i += 1;
+    }
+    Fed {
+        run: state,
+        written: to,
+    }
+}
+
+// The end of the input: a last line without a line end is judged, then the counts.
+fn close(run: Run, out: &mut [u8]) -> Fed
+    requires { ⌜ 68 ≤ length (now out) ⌝ }
+    ensures { λ r. ⌜ r .run ≡ Feeding.closed run ⌝ ∗ ⌜ Steps.Put (now (out .entry)) 0 (Feeding.closing run) (r .written) (now (out .exit)) ⌝ }
+{
+    if run.over {
+        return Fed { run, written: 0 };
+    }
+    if run.part == 1 {
+        return total(run, out, 0);
+    }
+    let last = end_line(run, out, 0);
+    total(last.run, out, last.written)
 }
 
 // A run that has read nothing.
@@ -348,52 +353,26 @@ pub fn header() -> [u8; 21]
     *b"line threshold grade\n"
 }
 
-// Reads a part of the input. `out` needs 32 bytes for each byte of it, since a byte can end a line.
-pub fn feed(run: Run, input: &[u8], out: &mut [u8]) -> Fed
-    ensures { λ r. ⌜ Feeding.Feeds (Feeding.hasRoom (length (now (input .entry))) (length (now (out .entry)))) run (Feeding.fed run (now (input .entry))) (Feeding.printed run (now (input .entry))) (now (out .entry)) r (now (out .exit)) ⌝ }
+// Reads the first n bytes of a part of the input, or all where n is more.
+pub fn feed(run: Run, input: &[u8; PART], n: usize, out: &mut [u8; ROOM]) -> Fed
+    ensures { λ r. ⌜ Feeding.Prints (Feeding.fed run (take n (now (input .entry)))) (Feeding.printed run (take n (now (input .entry)))) (now (out .entry)) r (now (out .exit)) ⌝ }
 {
-    if out.len() / 32 < input.len() {
-        return refused(run);
+    let bytes: &[u8] = input;
+    if n < PART {
+        return read(run, &bytes[..n], out);
     }
-    let mut state = run;
-    let mut i = 0usize;
-    let mut to = 0usize;
-    while i < input.len() {
-        if state.over {
-            return done(state, to);
-        }
-        let b = input[i];
-        if b == LINE_END {
-            let after = end_line(state, out, to);
-            state = after.run;
-            to = after.at;
-            i += 1;
-            continue;
-        }
-        let part = pushed(state.part, b);
-        if part == 0 {
-            let end = put_bad(out, to, state.quiet as u64 + state.raised as u64 + 1);
-            return done(ended(state), end);
-        }
-        state.part = part;
-        i += 1;
-    }
-    done(state, to)
+    read(run, bytes, out)
 }
 
-// The end of the input: a last line without a line end is judged, then the counts. `out` needs 128 bytes.
-pub fn finish(run: Run, out: &mut [u8]) -> Fed
-    ensures { λ r. ⌜ Feeding.Feeds (Feeding.hasRoom 4 (length (now (out .entry)))) run (Feeding.closed run) (Feeding.closing run) (now (out .entry)) r (now (out .exit)) ⌝ }
+// The end of the input.
+pub fn finish(run: Run, out: &mut [u8; ROOM]) -> Fed
+    ensures { λ r. ⌜ Feeding.Prints (Feeding.closed run) (Feeding.closing run) (now (out .entry)) r (now (out .exit)) ⌝ }
 {
-    if out.len() / 32 < 4 {
-        return refused(run);
-    }
-    if run.over {
-        return done(run, 0);
-    }
-    if run.part == 1 {
-        return total(run, out, 0);
-    }
-    let last = end_line(run, out, 0);
-    total(last.run, out, last.at)
+    close(run, out)
 }
+
+// However the input is cut, the header and what `feed` and `finish` print are together the output of the whole input. Nothing calls it: the check asks
+// for its proof.
+fn whole_run()
+    ensures { λ _. ⌜ Feeding.Whole ⌝ }
+{}

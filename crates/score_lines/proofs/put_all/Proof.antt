@@ -4,7 +4,7 @@ use lib.ListN.{length, take}
 use denote.Ref.{now}
 use borrow.Author.Needs.{needs}
 use Rattle.score_lines.proofs.Bytes.{put-none, put-next, put-last}
-use Rattle.score_lines.specs.Feeding.{Put}
+use Rattle.score_lines.specs.Steps.{Put}
 use Rattle.score_lines.proofs.put_all.Statement.{statement}
 use Rattle.score_lines.proofs.put_all.Tie as tie
 

@@ -1,10 +1,11 @@
 use native.Mathlib.Omega.{arith}
 use lib.ListN.{length-append}
-use borrow.Author.Needs.{needs}
 use Rattle.score_lines.proofs.Bytes.{put-then, decimal-length}
 use Rattle.score_lines.specs.Output.{counts}
+use borrow.Author.Needs.{needs}
 use Rattle.score_lines.proofs.put_counts.Statement.{statement}
 use Rattle.score_lines.proofs.put_counts.Tie as tie
+use Rattle.score_lines.proofs.put_counts.Reads as reads
 
 slice-aggregate-put-all : tie.Need-slice-aggregate-put-all
 slice-aggregate-put-all c = search needs
@@ -13,19 +14,19 @@ put-all-requires : tie.Need-put-all-requires
 put-all-requires c κs = search needs
 
 put-decimal-requires : tie.Need-put-decimal-requires
-put-decimal-requires c κs = (c .before .before .before .before .before .before .before .pre .0, omega (arith, c .before .before .before .put-all .ensures .place, c .before .before .before .put-all .kept .0, decimal-length (c .before .before .before .before .before .before .before .args .quiet)))
+put-decimal-requires c κs = search needs
 
 slice-aggregate-put-all-2 : tie.Need-slice-aggregate-put-all-2
 slice-aggregate-put-all-2 c = search needs
 
 put-all-requires-2 : tie.Need-put-all-requires-2
-put-all-requires-2 c κs = omega (arith, c .before .before .before .before .before .before .before .before .put-all .ensures .place, c .before .before .before .before .before .before .before .before .put-all .kept .0, c .before .before .before .before .put-decimal .ensures .place, c .before .before .before .before .put-decimal .kept .0, decimal-length (c .before .before .before .before .before .before .before .before .before .before .before .before .args .quiet))
+put-all-requires-2 c κs = omega (arith, decimal-length (c .before .before .before .before .before .before .before .before .before .before .before .before .args .quiet))
 
 put-decimal-requires-2 : tie.Need-put-decimal-requires-2
-put-decimal-requires-2 c κs = (c .before .before .before .before .before .before .before .before .before .before .before .before .before .before .before .before .pre .1 .0, omega (arith, c .before .before .before .before .before .before .before .before .before .before .before .before .put-all .ensures .place, c .before .before .before .before .before .before .before .before .before .before .before .before .put-all .kept .0, c .before .before .before .before .before .before .before .before .put-decimal .ensures .place, c .before .before .before .before .before .before .before .before .put-decimal .kept .0, c .before .before .before .put-all2 .ensures .place, c .before .before .before .put-all2 .kept .0, decimal-length (c .before .before .before .before .before .before .before .before .before .before .before .before .before .before .before .before .args .quiet), decimal-length (c .before .before .before .before .before .before .before .before .before .before .before .before .before .before .before .before .args .raised)))
+put-decimal-requires-2 c κs = (c .before .before .before .before .before .before .before .before .before .before .before .before .before .before .before .before .pre .1 .0, omega (arith, decimal-length (c .before .before .before .before .before .before .before .before .before .before .before .before .before .before .before .before .args .quiet), c .before .before .before .before .before .before .before .before .before .before .before .before .put-all .ensures .place, c .before .before .before .before .before .before .before .before .before .before .before .before .put-all .kept .0, c .before .before .before .before .before .before .before .before .put-decimal .ensures .place, c .before .before .before .before .before .before .before .before .put-decimal .kept .0, c .before .before .before .before .before .before .before .before .before .before .before .before .before .before .before .before .pre .1 .1))
 
 put-requires : tie.Need-put-requires
-put-requires c κs = omega (arith, c .before .before .before .before .before .before .before .before .before .before .before .before .before .before .before .before .put-all .ensures .place, c .before .before .before .before .before .before .before .before .before .before .before .before .before .before .before .before .put-all .kept .0, c .before .before .before .before .before .before .before .before .before .before .before .before .put-decimal .ensures .place, c .before .before .before .before .before .before .before .before .before .before .before .before .put-decimal .kept .0, c .before .before .before .before .before .before .before .put-all2 .ensures .place, c .before .before .before .before .before .before .before .put-all2 .kept .0, c .before .before .before .put-decimal2 .ensures .place, c .before .before .before .put-decimal2 .kept .0, decimal-length (c .before .before .before .before .before .before .before .before .before .before .before .before .before .before .before .before .before .before .before .before .args .quiet), decimal-length (c .before .before .before .before .before .before .before .before .before .before .before .before .before .before .before .before .before .before .before .before .args .raised))
+put-requires c κs = omega (arith, decimal-length (c .before .before .before .before .before .before .before .before .before .before .before .before .before .before .before .before .before .before .before .before .args .quiet), decimal-length (c .before .before .before .before .before .before .before .before .before .before .before .before .before .before .before .before .before .before .before .before .args .raised), c .before .before .before .before .before .before .before .before .before .before .before .before .before .before .before .before .put-all .ensures .place, c .before .before .before .before .before .before .before .before .before .before .before .before .before .before .before .before .put-all .kept .0, c .before .before .before .before .before .before .before .before .before .before .before .before .put-decimal .ensures .place, c .before .before .before .before .before .before .before .before .before .before .before .before .put-decimal .kept .0, c .before .before .before .before .before .before .before .before .before .before .before .before .before .before .before .before .before .before .before .before .pre .1 .1)
 
 same-length : tie.Need-same-length
 same-length c = search needs
@@ -35,6 +36,7 @@ unfolding counts
 returns c =
     let q = decimal-length (c .before .before .before .before .before .before .before .before .before .before .before .before .before .before .before .before .before .before .before .before .before .before .before .args .quiet) in
     let r = decimal-length (c .before .before .before .before .before .before .before .before .before .before .before .before .before .before .before .before .before .before .before .before .before .before .before .args .raised) in
+    let room = c .before .before .before .before .before .before .before .before .before .before .before .before .before .before .before .before .before .before .before .before .before .before .before .pre .1 .1 in
     put-then (c .before .before .before .before .before .before .before .before .before .before .before .before .before .before .before .before .before .before .before .put-all .ensures)
     (put-then (c .before .before .before .before .before .before .before .before .before .before .before .before .before .before .before .put-decimal .ensures)
     (put-then (c .before .before .before .before .before .before .before .before .before .before .put-all2 .ensures)
