@@ -1,9 +1,10 @@
 use mathlib.Core.Path.{sym}
 use lib.Seq.{length-take-le}
-use borrow.Author.Needs.{needs}
 use Rattle.score_lines.proofs.Parts.{within}
+use borrow.Author.Needs.{needs}
 use Rattle.score_watch.proofs.read_some.Statement.{statement}
 use Rattle.score_watch.proofs.read_some.Tie as tie
+use Rattle.score_watch.proofs.read_some.Reads as reads
 
 buffer-requires : tie.Need-buffer-requires
 buffer-requires c κs = search needs
@@ -13,6 +14,12 @@ slice-aggregate-read c = search needs
 
 read-requires : tie.Need-read-requires
 read-requires c κs = search needs
+
+slice-aggregate-write-all : tie.Need-slice-aggregate-write-all
+slice-aggregate-write-all c = search needs
+
+write-all-requires : tie.Need-write-all-requires
+write-all-requires c κs = search needs
 
 returns : tie.Need-returns
 returns c = search needs
@@ -26,29 +33,26 @@ slice-aggregate-count c = search needs
 count-requires : tie.Need-count-requires
 count-requires c κs = search needs
 
-array-share-prefix-input : tie.Need-array-share-prefix-input
-array-share-prefix-input c = search needs
-
-slice-aggregate-feed : tie.Need-slice-aggregate-feed
-slice-aggregate-feed c = search needs
-
 feed-requires : tie.Need-feed-requires
 feed-requires c κs = search needs
 
-slice-reshare-prefix-write-all : tie.Need-slice-reshare-prefix-write-all
-slice-reshare-prefix-write-all c = within _ (c .before .before .before .feed .ensures)
+array-share-prefix-out : tie.Need-array-share-prefix-out
+array-share-prefix-out c = within (c .before .feed .ensures)
 
-slice-aggregate-write-all : tie.Need-slice-aggregate-write-all
-slice-aggregate-write-all c = sym (length-take-le _ _ (within _ (c .before .before .before .before .feed .ensures)))
+slice-aggregate-print : tie.Need-slice-aggregate-print
+slice-aggregate-print c = sym (length-take-le _ _ (within (c .before .before .feed .ensures)))
 
-write-all-requires : tie.Need-write-all-requires
-write-all-requires c κs = search needs
-
-same-length : tie.Need-same-length
-same-length c = search needs
+print-requires : tie.Need-print-requires
+print-requires c κs = search needs
 
 returns-3 : tie.Need-returns-3
 returns-3 c = search needs
+
+returns-4 : tie.Need-returns-4
+returns-4 c = search needs
+
+returns-5 : tie.Need-returns-5
+returns-5 c = search needs
 
 pub read-some-spec : {M : Type 1} → statement M
 read-some-spec =
@@ -57,15 +61,16 @@ read-some-spec =
     buffer-requires
     slice-aggregate-read
     read-requires
+    slice-aggregate-write-all
+    write-all-requires
     returns
     returns-2
     slice-aggregate-count
     count-requires
-    array-share-prefix-input
-    slice-aggregate-feed
     feed-requires
-    slice-reshare-prefix-write-all
-    slice-aggregate-write-all
-    write-all-requires
-    same-length
-    returns-3)
+    array-share-prefix-out
+    slice-aggregate-print
+    print-requires
+    returns-3
+    returns-4
+    returns-5)

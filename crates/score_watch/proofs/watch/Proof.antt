@@ -1,14 +1,13 @@
-use mathlib.Core.Path.{_≡_}
-use lib.ListN.{length}
 use borrow.Author.Needs.{needs}
 use Rattle.score_watch.proofs.watch.Statement.{statement}
 use Rattle.score_watch.proofs.watch.Tie as tie
+use Rattle.score_watch.proofs.watch.Reads as reads
 
 abbrev Inv-loop : tie.InvT-loop
-Inv-loop out₀ run₀ turns₀ out run turns = length out ≡ length out₀
+Inv-loop run₀ turns₀ run turns = Unit {0}
 
 abbrev μ-loop : tie.MeasureT-loop
-μ-loop out₀ run₀ turns₀ out run turns = turns
+μ-loop run₀ turns₀ run turns = turns
 
 begin-requires : tie.Need-begin-requires Inv-loop μ-loop
 begin-requires c κs = search needs
@@ -19,17 +18,20 @@ loop-holds c = search needs
 read-some-requires : tie.Need-read-some-requires Inv-loop μ-loop
 read-some-requires c κs = search needs
 
-same-length : tie.Need-same-length Inv-loop μ-loop
-same-length c = search needs
+enum-known-turn : tie.Need-enum-known-turn Inv-loop μ-loop
+enum-known-turn c = search needs
+
+enum-known-turn-2 : tie.Need-enum-known-turn-2 Inv-loop μ-loop
+enum-known-turn-2 c = search needs
+
+finish-requires : tie.Need-finish-requires Inv-loop μ-loop
+finish-requires c κs = search needs
 
 returns : tie.Need-returns Inv-loop μ-loop
 returns c = search needs
 
-close-requires : tie.Need-close-requires Inv-loop μ-loop
-close-requires c κs = search needs
-
-same-length-2 : tie.Need-same-length-2 Inv-loop μ-loop
-same-length-2 c = search needs
+enum-told : tie.Need-enum-told Inv-loop μ-loop
+enum-told c = search needs
 
 returns-2 : tie.Need-returns-2 Inv-loop μ-loop
 returns-2 c = search needs
@@ -43,9 +45,6 @@ loop-less c = search needs
 loop-again : tie.Need-loop-again Inv-loop μ-loop
 loop-again c = search needs
 
-same-length-3 : tie.Need-same-length-3 Inv-loop μ-loop
-same-length-3 c = search needs
-
 returns-3 : tie.Need-returns-3 Inv-loop μ-loop
 returns-3 c = search needs
 
@@ -58,13 +57,13 @@ watch-spec =
     begin-requires
     loop-holds
     read-some-requires
-    same-length
+    enum-known-turn
+    enum-known-turn-2
+    finish-requires
     returns
-    close-requires
-    same-length-2
+    enum-told
     returns-2
     sub-turns
     loop-less
     loop-again
-    same-length-3
     returns-3)

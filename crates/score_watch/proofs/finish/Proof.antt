@@ -1,0 +1,27 @@
+use mathlib.Core.Path.{sym}
+use lib.Seq.{length-take-le}
+use Rattle.score_lines.proofs.Parts.{within}
+use borrow.Author.Needs.{needs}
+use Rattle.score_watch.proofs.finish.Statement.{statement}
+use Rattle.score_watch.proofs.finish.Tie as tie
+use Rattle.score_watch.proofs.finish.Reads as reads
+
+finish-requires : tie.Need-finish-requires
+finish-requires c κs = search needs
+
+array-share-prefix-out : tie.Need-array-share-prefix-out
+array-share-prefix-out c = within (c .finish .ensures)
+
+slice-aggregate-print : tie.Need-slice-aggregate-print
+slice-aggregate-print c = sym (length-take-le _ _ (within (c .before .finish .ensures)))
+
+print-requires : tie.Need-print-requires
+print-requires c κs = search needs
+
+returns : tie.Need-returns
+returns c = search needs
+
+pub finish-spec : {M : Type 1} → statement M
+finish-spec =
+    tie.close
+    (tie.spec finish-requires array-share-prefix-out slice-aggregate-print print-requires returns)
