@@ -71,6 +71,7 @@ fn run(name: &str, seed: u64) -> u64 {
         vector_sample::write(&mut Random::new(seed)).expect("vector calls written");
         buffers::sample::write(&mut Random::new(seed)).expect("calls on buffers written");
         parts::exits::write().expect("readings written");
+        bench::score_watch::write(&mut Random::new(seed)).expect("scores written");
         return 0;
     }
     let part = PARTS.iter().find(|p| p.name == name).expect("a known part");

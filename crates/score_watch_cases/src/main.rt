@@ -2,13 +2,13 @@
 // output. Every case is run once for each place at which its input can be cut in two. Then the run's limit of 65,536 lines is tried.
 use libc::STDIN_FILENO;
 use libc::STDOUT_FILENO;
+use score_lines::PART;
+use score_lines::ROOM;
 use score_lines::Run;
-ghost use Prim.Native.Nat.{_≤_};
-ghost use lib.ListN.{length};
-ghost use mathlib.Core.Path.{_≡_};
 
-// How far the expected output was met.
-struct Met {
+// A run, and how far it has printed what is expected.
+struct Going {
+    run: Run,
     at: usize,
     ok: bool,
 }
@@ -18,76 +18,77 @@ struct Tally {
     differ: u64,
 }
 
-fn output() -> [u8; 131072]
-    ensures { λ r. ⌜ 131072 ≡ length r ⌝ }
-{
-    [0; 131072]
-}
-
 // The first n bytes, or all where there are fewer.
-fn front(bytes: &[u8], n: usize) -> &[u8] {
-    if n <= bytes.len() {
-        return &bytes[..n];
+fn front(text: &[u8], n: usize) -> &[u8] {
+    if n <= text.len() {
+        return &text[..n];
     }
-    bytes
+    text
 }
 
 // The bytes from n on, or none.
-fn behind(bytes: &[u8], n: usize) -> &[u8] {
-    if n <= bytes.len() {
-        return &bytes[n..];
+fn behind(text: &[u8], n: usize) -> &[u8] {
+    if n <= text.len() {
+        return &text[n..];
     }
-    &bytes[..0]
+    &text[..0]
 }
 
-// Whether a starts with b.
-fn starts(a: &[u8], b: &[u8]) -> bool {
-    if a.len() < b.len() {
-        return false;
+// What the run has printed, held against what is expected from there on.
+fn held(run: Run, before: Going, expected: &[u8], printed: &[u8]) -> Going {
+    let due = front(behind(expected, before.at), printed.len());
+    Going {
+        run,
+        at: std::num::wrapping_add_usize(before.at, printed.len()),
+        ok: before.ok & check::same(due, printed),
     }
-    let mut i = 0usize;
-    while i < b.len() {
-        if a[i] != b[i] {
-            return false;
-        }
-        i += 1;
-    }
-    true
 }
 
-// What was printed, held against what is expected from there on.
-fn held(before: Met, expected: &[u8], printed: &[u8]) -> Met {
-    if starts(behind(expected, before.at), printed) {
-        return Met {
-            at: std::num::wrapping_add_usize(before.at, printed.len()),
-            ok: before.ok,
-        };
+fn begun(expected: &[u8]) -> Going {
+    let start = Going {
+        run: score_lines::begin(),
+        at: 0,
+        ok: true,
+    };
+    held(
+        score_lines::begin(),
+        start,
+        expected,
+        &score_lines::header(),
+    )
+}
+
+// Feeds a text that is no longer than a part of the input.
+fn fed(before: Going, text: &[u8], expected: &[u8]) -> Going {
+    let mut input = io::buffer();
+    if text.len() <= PART {
+        bytes::copy(text, &mut input);
     }
-    Met {
-        at: before.at,
-        ok: false,
-    }
+    let mut out = [0u8; ROOM];
+    let fed = score_lines::feed(before.run, &input, text.len(), &mut out);
+    let written = fed.written;
+    held(fed.run, before, expected, &out[..written])
+}
+
+// Whether the run ends with the rest of what is expected.
+fn ends(before: Going, expected: &[u8]) -> bool {
+    let mut out = [0u8; ROOM];
+    let fed = score_lines::finish(before.run, &mut out);
+    let written = fed.written;
+    let after = held(fed.run, before, expected, &out[..written]);
+    after.ok & (after.at == expected.len())
 }
 
 // Whether the input, cut at that place, prints what is expected.
-fn prints(input: &[u8], cut: usize, expected: &[u8], out: &mut [u8]) -> bool {
-    let a = held(Met { at: 0, ok: true }, expected, &score_lines::header());
-    let first = score_lines::feed(score_lines::begin(), front(input, cut), out);
-    let b = held(a, expected, front(out, first.written));
-    let second = score_lines::feed(first.run, behind(input, cut), out);
-    let c = held(b, expected, front(out, second.written));
-    let last = score_lines::finish(second.run, out);
-    let d = held(c, expected, front(out, last.written));
-    if d.ok {
-        return d.at == expected.len();
-    }
-    false
+fn prints(input: &[u8], cut: usize, expected: &[u8]) -> bool {
+    let first = fed(begun(expected), front(input, cut), expected);
+    ends(fed(first, behind(input, cut), expected), expected)
 }
 
-fn prints_at_every_cut(input: &[u8], expected: &[u8], out: &mut [u8]) -> bool {
+fn prints_at_every_cut(input: &[u8], expected: &[u8]) -> bool {
     let mut cut = 0usize;
     while cut <= input.len() {
-        if !prints(input, cut, expected, out) {
+        if !prints(input, cut, expected) {
             return false;
         }
         cut += 1;
@@ -111,8 +112,7 @@ fn agrees(input: &[u8], expected: &[u8]) -> bool {
     let mut wanted = io::large_buffer();
     let m = io::read_full(to, &mut wanted);
     libc::close(to);
-    let mut out = output();
-    prints_at_every_cut(&given[..n], &wanted[..m], &mut out)
+    prints_at_every_cut(&given[..n], &wanted[..m])
 }
 
 // One more case, named where it differs.
@@ -131,21 +131,6 @@ fn noted(tally: Tally, name: &[u8], ok: bool) -> Tally {
     }
 }
 
-// Where the line that begins at `from` ends.
-fn line_end(text: &[u8], from: usize) -> usize
-    requires { ⌜ from ≤ length (now text) ⌝ }
-    ensures { λ r. ⌜ from ≤ r ⌝ ∗ ⌜ r ≤ length (now (text .entry)) ⌝ }
-{
-    let mut at = from;
-    while at < text.len() {
-        if text[at] == b'\n' {
-            return at;
-        }
-        at += 1;
-    }
-    at
-}
-
 fn stored(names: &[u8]) -> Tally {
     let mut tally = Tally {
         cases: 0,
@@ -153,12 +138,12 @@ fn stored(names: &[u8]) -> Tally {
     };
     let mut at = 0usize;
     while at < names.len() {
-        let end = line_end(names, at);
+        let end = bytes::scan::find(names, at, names.len(), b'\n');
         if end == names.len() {
             return noted(tally, b"the list of cases", false);
         }
         let next = end + 1;
-        let last = line_end(names, next);
+        let last = bytes::scan::find(names, next, names.len(), b'\n');
         let input = &names[at..end];
         let ok = agrees(input, &names[next..last]);
         tally = noted(tally, input, ok);
@@ -177,32 +162,30 @@ fn ones(buffer: &mut [u8]) {
     }
 }
 
-// A run that has read 65,536 lines: 144 times 455, and 16.
-fn full(out: &mut [u8]) -> Run {
+// A run that has read 65,536 lines: 144 times 455, and 16. Its rows are not looked at.
+fn full() -> Run {
     let mut lines = io::buffer();
     ones(&mut lines);
+    let mut out = [0u8; ROOM];
     let mut run = score_lines::begin();
     let mut i = 0usize;
     while i < 144 {
-        let fed = score_lines::feed(run, front(&lines, 4095), out);
+        let fed = score_lines::feed(run, &lines, 4095, &mut out);
         run = fed.run;
         i += 1;
     }
-    let fed = score_lines::feed(run, front(&lines, 144), out);
+    let fed = score_lines::feed(run, &lines, 144, &mut out);
     fed.run
 }
 
 // What 65,536 lines and then these bytes print behind the rows.
 fn ends_with(more: &[u8], expected: &[u8]) -> bool {
-    let mut out = output();
-    let fed = score_lines::feed(full(&mut out), more, &mut out);
-    let a = held(Met { at: 0, ok: true }, expected, front(&out, fed.written));
-    let last = score_lines::finish(fed.run, &mut out);
-    let b = held(a, expected, front(&out, last.written));
-    if b.ok {
-        return b.at == expected.len();
-    }
-    false
+    let start = Going {
+        run: full(),
+        at: 0,
+        ok: true,
+    };
+    ends(fed(start, more, expected), expected)
 }
 
 fn limit(tally: Tally) -> Tally {

@@ -1,5 +1,6 @@
 //! The score watch against a plain Rust program that prints the same: two processes on the same
-//! 65,536 lines from a file, each timed from its start to its end.
+//! 65,536 lines from a file, each timed from its start to its end. What the plain one prints for
+//! 1,000 lines, more than the score watch reads at once, is kept as its stdin and stdout.
 
 use std::error::Error;
 use std::fs::{self, File};
@@ -18,13 +19,17 @@ pub const PLAIN: &str = "score-watch";
 const LINES: usize = 65_536;
 const ROUNDS: usize = 40;
 
+/// The lines of the sample, and its files, from the repository's folder.
+const SAMPLE: usize = 1_000;
+const PATH: &str = "crates/score_watch/stdin";
+const SAYS: &str = "crates/score_watch/stdout";
+
 /// Document 01's score watch as a Rust programmer would write it, for lines that are sound.
-pub fn plain() -> Result<(), Box<dyn Error>> {
-    let mut out = BufWriter::new(io::stdout().lock());
+fn watch(input: impl BufRead, out: &mut impl Write) -> Result<(), Box<dyn Error>> {
     let mut watch = BasicThresholder::new(0.0).map_err(|_| "no thresholder")?;
     let mut counts = [0, 0];
     writeln!(out, "line threshold grade")?;
-    for (k, line) in io::stdin().lock().lines().enumerate() {
+    for (k, line) in input.lines().enumerate() {
         let score = f32::from_bits(u32::from_str_radix(&line?, 16)?);
         let (threshold, grade) = match score {
             0.0 => (0.0, 0.0),
@@ -38,6 +43,35 @@ pub fn plain() -> Result<(), Box<dyn Error>> {
         writeln!(out, "{} {:08x} {:08x}", k + 1, bits.0, bits.1)?;
     }
     writeln!(out, "quiet {} raised {}", counts[0], counts[1])?;
+    Ok(())
+}
+
+pub fn plain() -> Result<(), Box<dyn Error>> {
+    watch(io::stdin().lock(), &mut BufWriter::new(io::stdout().lock()))
+}
+
+/// Most scores are calm, one in 50 is zero and one in 50 far over the others; one line in three has
+/// its digits in upper case, and the last lacks its line end.
+fn sound_line(k: usize, random: &mut Random) -> String {
+    let score = match k % 50 {
+        20 => 0.0,
+        40 => (10.0 + 40.0 * random.fraction()) as f32,
+        _ => (1.0 + 4.0 * random.fraction()) as f32,
+    };
+    match k % 3 {
+        2 => format!("{:08X}", score.to_bits()),
+        _ => format!("{:08x}", score.to_bits()),
+    }
+}
+
+pub fn write(random: &mut Random) -> Result<(), Box<dyn Error>> {
+    let lines: Vec<String> = (0..SAMPLE).map(|k| sound_line(k, random)).collect();
+    let input = lines.join("\n");
+    let mut says = Vec::new();
+    watch(input.as_bytes(), &mut says)?;
+    println!("{SAMPLE} scores, {} bytes", input.len());
+    fs::write(PATH, input)?;
+    fs::write(SAYS, says)?;
     Ok(())
 }
 

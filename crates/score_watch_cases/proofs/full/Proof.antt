@@ -1,15 +1,14 @@
-use Prim.Native.Nat.{_-_}
-use mathlib.Core.Path.{_≡_}
-use lib.ListN.{length}
+use Prim.Native.Nat.{_-_, _≤_}
 use borrow.Author.Needs.{needs}
 use Rattle.score_watch_cases.proofs.full.Statement.{statement}
 use Rattle.score_watch_cases.proofs.full.Tie as tie
+use Rattle.score_watch_cases.proofs.full.Reads as reads
 
 abbrev Inv-loop : tie.InvT-loop
-Inv-loop out₀ lines run₀ i₀ out run i = length out ≡ length out₀
+Inv-loop lines out₀ run₀ i₀ out run i = i ≤ 144
 
 abbrev μ-loop : tie.MeasureT-loop
-μ-loop out₀ lines run₀ i₀ out run i = 144 - i
+μ-loop lines out₀ run₀ i₀ out run i = 144 - i
 
 buffer-requires : tie.Need-buffer-requires Inv-loop μ-loop
 buffer-requires c κs = search needs
@@ -26,12 +25,6 @@ begin-requires c κs = search needs
 loop-holds : tie.Need-loop-holds Inv-loop μ-loop
 loop-holds c = search needs
 
-slice-aggregate-front : tie.Need-slice-aggregate-front Inv-loop μ-loop
-slice-aggregate-front c = search needs
-
-front-requires : tie.Need-front-requires Inv-loop μ-loop
-front-requires c κs = search needs
-
 feed-requires : tie.Need-feed-requires Inv-loop μ-loop
 feed-requires c κs = search needs
 
@@ -44,17 +37,8 @@ loop-less c = search needs
 loop-again : tie.Need-loop-again Inv-loop μ-loop
 loop-again c = search needs
 
-slice-aggregate-front-2 : tie.Need-slice-aggregate-front-2 Inv-loop μ-loop
-slice-aggregate-front-2 c = search needs
-
-front-requires-2 : tie.Need-front-requires-2 Inv-loop μ-loop
-front-requires-2 c κs = search needs
-
 feed-requires-2 : tie.Need-feed-requires-2 Inv-loop μ-loop
 feed-requires-2 c κs = search needs
-
-same-length : tie.Need-same-length Inv-loop μ-loop
-same-length c = search needs
 
 returns : tie.Need-returns Inv-loop μ-loop
 returns c = search needs
@@ -70,14 +54,9 @@ full-spec =
     ones-requires
     begin-requires
     loop-holds
-    slice-aggregate-front
-    front-requires
     feed-requires
     add-i
     loop-less
     loop-again
-    slice-aggregate-front-2
-    front-requires-2
     feed-requires-2
-    same-length
     returns)

@@ -1,24 +1,21 @@
 use Prim.Native.Nat.{_-_, _+_}
-use mathlib.Core.Path.{_≡_}
 use lib.ListN.{length}
 use borrow.Author.Needs.{needs}
 use Rattle.score_watch_cases.proofs.prints_at_every_cut.Statement.{statement}
 use Rattle.score_watch_cases.proofs.prints_at_every_cut.Tie as tie
+use Rattle.score_watch_cases.proofs.prints_at_every_cut.Reads as reads
 
 abbrev Inv-loop : tie.InvT-loop
-Inv-loop input expected out₀ cut₀ out cut = length out ≡ length out₀
+Inv-loop input expected cut₀ cut = Unit {0}
 
 abbrev μ-loop : tie.MeasureT-loop
-μ-loop input expected out₀ cut₀ out cut = length input + 1 - cut
+μ-loop input expected cut₀ cut = length input + 1 - cut
 
 loop-holds : tie.Need-loop-holds Inv-loop μ-loop
 loop-holds c = search needs
 
 prints-requires : tie.Need-prints-requires Inv-loop μ-loop
 prints-requires c κs = search needs
-
-same-length : tie.Need-same-length Inv-loop μ-loop
-same-length c = search needs
 
 returns : tie.Need-returns Inv-loop μ-loop
 returns c = search needs
@@ -32,9 +29,6 @@ loop-less c = search needs
 loop-again : tie.Need-loop-again Inv-loop μ-loop
 loop-again c = search needs
 
-same-length-2 : tie.Need-same-length-2 Inv-loop μ-loop
-same-length-2 c = search needs
-
 returns-2 : tie.Need-returns-2 Inv-loop μ-loop
 returns-2 c = search needs
 
@@ -46,10 +40,8 @@ prints-at-every-cut-spec =
     μ-loop
     loop-holds
     prints-requires
-    same-length
     returns
     add-cut
     loop-less
     loop-again
-    same-length-2
     returns-2)

@@ -3,6 +3,7 @@ use lib.ListN.{length}
 use borrow.Author.Needs.{needs}
 use Rattle.score_watch_cases.proofs.stored.Statement.{statement}
 use Rattle.score_watch_cases.proofs.stored.Tie as tie
+use Rattle.score_watch_cases.proofs.stored.Reads as reads
 
 abbrev Inv-loop : tie.InvT-loop
 Inv-loop names tally₀ at₀ t9 tally at = Unit {0}
@@ -13,8 +14,8 @@ abbrev μ-loop : tie.MeasureT-loop
 loop-holds : tie.Need-loop-holds Inv-loop μ-loop
 loop-holds c = search needs
 
-line-end-requires : tie.Need-line-end-requires Inv-loop μ-loop
-line-end-requires c κs = search needs
+find-requires : tie.Need-find-requires Inv-loop μ-loop
+find-requires c κs = search needs
 
 slice-aggregate-noted : tie.Need-slice-aggregate-noted Inv-loop μ-loop
 slice-aggregate-noted c = search needs
@@ -28,8 +29,8 @@ returns c = search needs
 add-next : tie.Need-add-next Inv-loop μ-loop
 add-next c = search needs
 
-line-end-requires-2 : tie.Need-line-end-requires-2 Inv-loop μ-loop
-line-end-requires-2 c κs = search needs
+find-requires-2 : tie.Need-find-requires-2 Inv-loop μ-loop
+find-requires-2 c κs = search needs
 
 sub-input : tie.Need-sub-input Inv-loop μ-loop
 sub-input c = search needs
@@ -74,12 +75,12 @@ stored-spec =
     Inv-loop
     μ-loop
     loop-holds
-    line-end-requires
+    find-requires
     slice-aggregate-noted
     noted-requires
     returns
     add-next
-    line-end-requires-2
+    find-requires-2
     sub-input
     part-input-start
     part-input-end
