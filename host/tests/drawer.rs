@@ -7,13 +7,22 @@ mod readings;
 use asked::{Call, Scripted};
 use readings::{fresh, raised};
 use withdrawal_watch::{
-    CorrectionMode, Drawer, NotJudged, Reading, Refusal, ScoringStrategy, Verdict, Watch,
-    Withdrawal,
+    Attribution, CorrectionMode, Drawer, NotJudged, Reading, Refusal, ScoringStrategy,
+    TransformMethod, Verdict, Watch, Withdrawal,
 };
 
 const STRATEGIES: [ScoringStrategy; 2] = [
     ScoringStrategy::ExpectedInverseHeight,
     ScoringStrategy::Distance,
+];
+
+const METHODS: [TransformMethod; 6] = [
+    TransformMethod::None,
+    TransformMethod::Weighted,
+    TransformMethod::Difference,
+    TransformMethod::SubtractMa,
+    TransformMethod::Normalize,
+    TransformMethod::NormalizeDifference,
 ];
 
 /// The withdrawal of the reading that a fresh watch raises.
@@ -420,4 +429,103 @@ fn a_watch_of_a_drawers_state() {
     let drawer = after_anomaly(true);
     let watch = Watch::of_state_bytes(drawer.state_bytes()).unwrap();
     assert_eq!(watch.state_bytes(), drawer.state_bytes());
+}
+
+/// A small generator.
+struct Random(u64);
+
+impl Random {
+    fn below(&mut self, n: u64) -> u64 {
+        self.0 = self
+            .0
+            .wrapping_mul(6364136223846793005)
+            .wrapping_add(1442695040888963407);
+        (self.0 >> 33) % n
+    }
+
+    fn number(&mut self) -> f64 {
+        match self.below(40) {
+            0 => f64::NAN,
+            1 => f64::INFINITY,
+            2 => -1e300,
+            3 => 3e38,
+            4 => 0.0,
+            _ => self.below(400) as f64 / 100.0,
+        }
+    }
+
+    /// Mostly as many numbers as wanted.
+    fn numbers(&mut self, wanted: usize) -> Vec<f64> {
+        let n = match self.below(60) {
+            0 => 0,
+            1 => wanted + 1,
+            2 => self.below(3000) as usize,
+            _ => wanted,
+        };
+        (0..n).map(|_| self.number()).collect()
+    }
+
+    fn singles(&mut self, wanted: usize) -> Vec<f32> {
+        self.numbers(wanted).iter().map(|x| *x as f32).collect()
+    }
+}
+
+/// Whatever a caller or a forest says: an answer, and nothing changed where it is no verdict.
+#[test]
+fn no_input_panics() {
+    let mut random = Random(7);
+    let (mut judged, mut refused) = (0, 0);
+    for n in 0..1_000 {
+        let base = 1 + random.below(16) as usize;
+        let mut drawer = Drawer::new(0.01, n % 2 == 0, base).unwrap();
+        let mut seen = 0;
+        let shingle = 1 + random.below(8) as usize;
+        for _ in 0..20 {
+            seen += random.below(4) as usize;
+            let (shingle, base) = match random.below(50) {
+                0 => (random.below(70) as usize, base),
+                1 => (shingle, random.below(20) as usize),
+                2 => (usize::MAX, usize::MAX),
+                _ => (shingle, base),
+            };
+            let d = shingle.min(64) * base.min(16);
+            let halves = |random: &mut Random| Attribution {
+                high: random.numbers(d),
+                low: random.numbers(d),
+            };
+            let forest = Scripted {
+                scores: vec![random.number(), random.number()],
+                attributions: vec![halves(&mut random), halves(&mut random)],
+                neighbours: random.singles(3 * d),
+                median: random.singles(d),
+                densities: 1 + random.below(2) as usize,
+                fails: (random.below(30) == 0).then_some(2),
+                ..Scripted::default()
+            };
+            let (point, row) = (random.singles(d), random.singles(base.min(16)));
+            let w = Withdrawal {
+                shingle_size: shingle,
+                base_dimension: base,
+                scoring_strategy: STRATEGIES[random.below(2) as usize],
+                transform_method: METHODS[random.below(6) as usize],
+                time_augmented: random.below(2) == 0,
+                values_seen: seen,
+                rcf_point: &point,
+                scale: &row,
+                shift: &row,
+                difference_deviations: &row,
+            };
+            let before = drawer.to_bytes();
+            match drawer.judge(&w, &forest) {
+                Ok(_) => judged += 1,
+                Err(why) => {
+                    refused += 1;
+                    assert!(!why.to_string().is_empty());
+                    assert_eq!(drawer.to_bytes(), before);
+                }
+            }
+            assert!(Drawer::of_bytes(&drawer.to_bytes()).is_ok());
+        }
+    }
+    assert!(judged > 1_000 && refused > 1_000, "{judged}, {refused}");
 }

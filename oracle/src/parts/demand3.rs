@@ -25,8 +25,11 @@ const FACTORS: [f32; 6] = [3.0, 2.5, 16.0, 0.5, 1e-45, 7.3];
 const HUGE: f32 = 1_073_741_824.0;
 const TINY: f32 = 1.0 / HUGE;
 
+/// The score at a place of a list.
+type Pattern = fn(&mut Random, u64) -> f32;
+
 /// How the scores of a list run.
-const PATTERNS: [(&str, fn(&mut Random, u64) -> f32); 9] = [
+const PATTERNS: [(&str, Pattern); 9] = [
     ("around 1", |r, _| (1.0 + 0.1 * r.fraction()) as f32),
     ("of all sizes", |r, _| sized(r)),
     ("0.1 always", |_, _| 0.1),
@@ -154,8 +157,9 @@ impl List {
         if self.ledger.counted >= 10 {
             let near = self.ledger.is_near(threshold);
             tally.compare(&near, &true, || case("threshold within M/2048"));
+            let opened = opening > 0.0;
             let wrong = (grade != 0.0 && self.ledger.far_under(score))
-                || (!(opening > 0.0) && self.ledger.far_over(score));
+                || (!opened && self.ledger.far_over(score));
             tally.compare(&wrong, &false, || case("grade on the right side"));
             seen.compared += 1;
             seen.raised += (grade > 0.0) as u64;

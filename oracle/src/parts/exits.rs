@@ -202,7 +202,7 @@ impl Text<'_> {
     /// The reading as the program takes it.
     fn record(&self) -> Vec<u8> {
         let reading = self.reading();
-        let mut out = self.0[..TITLE].as_bytes().to_vec();
+        let mut out = self.0.as_bytes()[..TITLE].to_vec();
         out.extend(self.state_bytes());
         out.extend(reading_bytes(&reading));
         out.extend(last_bytes(&reading));

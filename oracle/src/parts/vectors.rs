@@ -206,6 +206,9 @@ fn change(tally: &mut Tally, random: &mut Random, v: &DiVector) {
     });
 }
 
+/// A call that writes its answer: of a vector, a base or an index, and a gap.
+type Question = fn(&DiVector, usize, usize, &mut [u8]) -> u8;
+
 /// Answers of another length than 8, or high and low of two lengths: refused by 3, before 8.
 fn lengths(tally: &mut Tally, random: &mut Random) {
     let (n, m) = (length(random), length(random));
@@ -219,7 +222,7 @@ fn lengths(tally: &mut Tally, random: &mut Random) {
     };
     let case = || format!("lengths {n}, {m}, {room}");
     let (base, gap) = (base(random, n), gap(random, n));
-    let calls: [fn(&DiVector, usize, usize, &mut [u8]) -> u8; 4] = [
+    let calls: [Question; 4] = [
         |v, _, _, out| vectors::total(&v.high, &v.low, out),
         |v, b, _, out| vectors::high_low_sum(&v.high, &v.low, b, out),
         |v, b, g, out| vectors::max_gap_contribution(&v.high, &v.low, b, g, out),

@@ -46,7 +46,10 @@ impl PredictorCorrector {
 impl PredictorCorrector {
     /// Run length and counts from 0 to 16,777,215, as document 01 has it.
     pub fn counts_ok(&self) -> bool {
-        let lists = self.deviations_actual.iter().chain(&self.deviations_expected);
+        let lists = self
+            .deviations_actual
+            .iter()
+            .chain(&self.deviations_expected);
         let counts = self.basic_thresholder.counts().into_iter();
         self.run_length <= 16_777_215
             && counts
