@@ -19,13 +19,13 @@ use Rattle.predictorcorrector.specs.State.{freshState, refusedNew, zFactorSet, 
 use Rattle.predictorcorrector.specs.declared.PredictorCorrector.{PredictorCorrector}
 use Rattle.predictorcorrector.specs.declared.Changed.{Changed}
 use Rattle.detection.specs.declared.Outcome.{Outcome}
-use Rattle.demand3.specs.Calls.{Judging, Call, new, set-z-factor, set-horizon, detect-and-modify, Kept, JudgedInTurn, SetInTurn, InTurn, Made, zAfter, zOf, answerAt, isRefusal, toldOf, shownBy, shownOf}
+use Rattle.demand3.specs.Calls.{Judging, Call, new, set-z-factor, set-horizon, detect-and-modify, Contract, JudgedInTurn, SetInTurn, InTurn, Made, zAfter, zOf, answerAt, isRefusal, toldOf, shownBy, shownOf}
 use Rattle.demand3.specs.Statement.{Returned, Demand3OfCalls}
 use Rattle.demand3.proofs.Keeps.{Lending, watch, returned-at, watch-keeps}
 use Rattle.demand3.proofs.Calmness.{calm-met}
 
-pub returned : (s : PredictorCorrector) (c : Judging) → Kept s c → Returned s c (c .judgment .outcome)
-returned s c k = subst (Returned s c) (sym (k .contract .says)) (returned-at s c)
+pub returned : (s : PredictorCorrector) (c : Judging) → Contract s c → Returned s c (c .judgment .outcome)
+returned s c k = subst (Returned s c) (sym (k .says)) (returned-at s c)
 
 -- ---- judgments in turn, as the watch judges
 lendings : (cs : List Call) (s : PredictorCorrector) → JudgedInTurn s cs → List Lending

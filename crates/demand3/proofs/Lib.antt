@@ -1,5 +1,5 @@
 mod TimesOne
-mod Grades
+pub mod Grades
 pub mod Opens
 mod Keeps
 mod Calmness

@@ -52,10 +52,13 @@ pub data Call : Type 0 where
   detect-and-modify : Judging → Call
 
 -- ---- calls in turn
--- A judgment of a DISTANCE reading that began with the state s and kept the contract.
+-- The contract of `detect_and_modify`, for a call that began with the state s; and one that was on a DISTANCE reading.
+abbrev pub Contract : PredictorCorrector → Judging → Type 0
+Contract s c = Judged s (c .reading) (c .last) (c .lent) (c .judgment) (c .expected) (c .high) (c .low) (c .expected′) (c .high′) (c .low′)
+
 pub record Kept (s : PredictorCorrector) (c : Judging) : Type 0 where
+  pub contract : Contract s c
   pub distance : c .reading .«scoring_strategy» ≡ DISTANCE
-  pub contract : Judged s (c .reading) (c .last) (c .lent) (c .judgment) (c .expected) (c .high) (c .low) (c .expected′) (c .high′) (c .low′)
 
 -- "Each reading takes the state that the one before it returned; nothing else writes the state in between."
 abbrev pub JudgedInTurn : PredictorCorrector → List Call → Type 0

@@ -14,7 +14,7 @@ use Rattle.detection.specs.declared.Verdict.{Verdict}
 use Rattle.detection.specs.declared.Verdict.the-variants.{Quiet, Corrected, Raised, Skipped}
 use Rattle.detection.specs.declared.Outcome.{Outcome}
 use Rattle.detection.specs.declared.Outcome.the-variants.{Accepted, Refused}
-use Rattle.demand3.specs.Calls.{Judging, Call, new, Kept, InTurn, zOf, answerAt, isRefusal, toldOf, shownOf, thresholdOf, gradeOf, opened}
+use Rattle.demand3.specs.Calls.{Judging, Call, new, Contract, InTurn, zOf, answerAt, isRefusal, toldOf, shownOf, thresholdOf, gradeOf, opened}
 use Rattle.demand3.specs.Calm.{nought, made, eleven}
 
 -- ---- what a call returned, beside its opening threshold and grade
@@ -51,7 +51,8 @@ Returned s c (Refused why) = isRefusal (answerAt s c) ≡ true
 
 -- ---- the statement
 pub record Demand3OfCalls : Type 0 where
-  pub returned : (s : PredictorCorrector) (c : Judging) → Kept s c → Returned s c (c .judgment .outcome)
+  -- Of each judgment, whatever its strategy.
+  pub returned : (s : PredictorCorrector) (c : Judging) → Contract s c → Returned s c (c .judgment .outcome)
   -- "A single statement about the list of readings": a list of calls that begins with `new`.
   pub demand-3 : (d : Float) (auto : Bool) (base : ℕ) (r : Changed) (cs : List Call)
       → InTurn (new d auto base r ∷ cs) → InBounds (zOf cs) (toldOf (r .state) cs)

@@ -1,0 +1,315 @@
+-- A judgment over C is the judgment by value of the decoded state: its answer, the state's bytes and the verdict's. Assumes nothing.
+use mathlib.Core.Path.{_≡_, refl, sym, ap, _∙_, subst}
+use mathlib.Core.Bool.{Bool, true, false, not, cond, _&&_, true≢false}
+use mathlib.Core.List.{List, [], _∷_}
+use Prim.Native.Nat.{ℕ, _<_, _≤_}
+use native.Mathlib.Omega.{arith}
+use lib.Dec.{T, leb, eqb}
+use lib.IntN.{ℤ}
+use lib.Signed.{mag}
+use lib.ListN.{length, getD}
+use lib.Ieee.{Float, binary32, fits, eq}
+use lib.Ieee.Bits.{ofBits-fits, is-false}
+use borrow.Author.Tests.{eq-eqb, eqb-true, eqb-false}
+use Rattle.types.specs.Refusals.{number}
+use Rattle.types.specs.declared.Refusal.{Refusal}
+use Rattle.types.specs.declared.Refusal.the-variants.{Discount, Range, Length, NotFinite, ValuesSeen, Count, Horizon, Blocks}
+use Rattle.types.specs.declared.Answer.{Answer}
+use Rattle.types.specs.declared.Answer.the-variants as Answers
+use Rattle.basicthresholder.specs.Const.{zero32}
+use Rattle.divector.specs.DiVector.{normalized}
+use Rattle.descriptor.specs.Checks.{answerOf, sizesOk, rangeOk, lengthsOk, finiteOk, seenOk}
+use Rattle.descriptor.specs.Lent.{Lent}
+use Rattle.descriptor.specs.declared.Reading.{Reading}
+use Rattle.descriptor.specs.declared.LastDescriptor.{LastDescriptor}
+use Rattle.descriptor.proofs.Bounds.{both, sizes}
+use Rattle.predictorcorrector.specs.State.{stateCountsOk}
+use Rattle.predictorcorrector.specs.declared.PredictorCorrector.{PredictorCorrector}
+use Rattle.detection.specs.Judging.{verdict, after, expected, relativeIndex}
+use Rattle.detection.specs.Judged.{Judged, outcome, outcomeOf, outcomeNumber, stateAfter, indexAfter, written}
+use Rattle.detection.specs.declared.Verdict.{Verdict}
+use Rattle.detection.specs.declared.Verdict.the-variants.{Quiet, Corrected, Raised, Skipped}
+use Rattle.detection.specs.declared.Outcome.{Outcome}
+use Rattle.detection.specs.declared.Outcome.the-variants.{Accepted, Refused}
+use Rattle.detection.specs.declared.Judgment.{Judgment}
+use Rattle.layout.specs.Numbers.{le4, f32At}
+use Rattle.layout.specs.Chain.{decodeState, encodeStateOver, readState}
+use Rattle.layout.specs.Readings.{readReading, readLast, decodeReading}
+use Rattle.verdict_bytes.specs.Bytes.{told, changesState, stored, stateLeft, verdictLeft}
+use Rattle.c_judging.specs.Judging.{codesOk, slicesOk, sizesFit, outcomeOver, stateOver, indexOver, Answered}
+use Rattle.stored_state.specs.Fits.{StateFits}
+use Rattle.stored_state.proofs.Back.{state-back, state-length}
+use Rattle.stored_state.proofs.Decoded.{decoded-fits, counted-numbers}
+use Rattle.demand3.specs.Calls.{opened}
+use Rattle.demand3_over_c.specs.Calls.{Judging, Contract, scoreOf}
+use Rattle.demand3_over_c.specs.Statement.{Reads, Opens, Says, Simulated}
+use Rattle.demand3_over_c.proofs.Held.{after-fits}
+use Rattle.demand3_over_c.proofs.Index.{index-small}
+use Rattle.demand3_over_c.proofs.Verdicts.{told-reads, verdict-fits, verdict-opens}
+
+-- ---- slices of their lengths are decoded
+pub state-is : (xs : List ℕ) → length xs ≡ 1310 → readState xs ≡ decodeState xs
+unfolding readState
+state-is xs h = rw (eq-eqb (length xs) 1310 h)
+
+pub reading-is : (xs : List ℕ) → length xs ≡ 23 → readReading xs ≡ decodeReading xs
+unfolding readReading
+reading-is xs h = rw (eq-eqb (length xs) 23 h)
+
+pub score-is : (xs : List ℕ) → length xs ≡ 23 → readReading xs .score ≡ f32At xs 15
+unfolding decodeReading
+score-is xs h = ap (λ (r : Reading). r .score) (reading-is xs h)
+
+float-fits : (xs : List ℕ) (p : ℕ) → T (fits binary32 (f32At xs p))
+unfolding f32At
+float-fits xs p = ofBits-fits binary32 (le4 xs p)
+
+pub score-fits : (xs : List ℕ) → T (fits binary32 (readReading xs .score))
+unfolding readReading decodeReading
+score-fits xs = go (eqb (length xs) 23)
+  where
+    go : (c : Bool) → T (fits binary32 (cond c (decodeReading xs) (decodeReading []) .score))
+    go true = float-fits xs 15
+    go false = float-fits [] 15
+
+-- ---- an answer of 0
+number-above : (why : Refusal) → number why ≡ 0 → ⊥
+number-above Discount e = absurd (omega arith)
+number-above Range e = absurd (omega arith)
+number-above Length e = absurd (omega arith)
+number-above NotFinite e = absurd (omega arith)
+number-above ValuesSeen e = absurd (omega arith)
+number-above Count e = absurd (omega arith)
+number-above Horizon e = absurd (omega arith)
+number-above Blocks e = absurd (omega arith)
+
+abbrev refusing : Answer → Bool
+refusing Answers.Done = false
+refusing (Answers.Refused why) = true
+
+done-of : (s : PredictorCorrector) (r : Reading) (l : LastDescriptor) (b : Lent) (a : Answer) → outcomeNumber (outcomeOf s r l b a) ≡ 0 → a ≡ Answers.Done
+unfolding outcomeOf
+done-of s r l b Answers.Done e = refl
+done-of s r l b (Answers.Refused why) e = absurd (number-above why e)
+
+passed : (a c d e f : Bool)
+    → cond a (cond c (cond d (cond e (cond f Answers.Done (Answers.Refused Count)) (Answers.Refused ValuesSeen)) (Answers.Refused NotFinite)) (Answers.Refused Length)) (Answers.Refused Range) ≡ Answers.Done
+    → (a ≡ true) × ((c ≡ true) × (f ≡ true))
+passed true true true true true q = (refl, (refl, refl))
+passed true true true true false q = absurd (true≢false (ap refusing q))
+passed true true true false f q = absurd (true≢false (ap refusing q))
+passed true true false e f q = absurd (true≢false (ap refusing q))
+passed true false d e f q = absurd (true≢false (ap refusing q))
+passed false c d e f q = absurd (true≢false (ap refusing q))
+
+-- ---- an accepted call
+module _ (xs : List ℕ) (c : Judging) where
+  abbrev pub stateOf : PredictorCorrector
+  stateOf = readState xs
+
+  abbrev pub readingOf : Reading
+  readingOf = readReading (c .reading)
+
+  abbrev pub lastOf : LastDescriptor
+  lastOf = readLast (c .last)
+
+  abbrev pub over : Outcome
+  over = outcomeOver xs (c .reading) (c .last) (c .lent) (length (c .expected)) (length (c .high)) (length (c .low)) (length (c .verdict))
+
+  abbrev pub byValue : Outcome
+  byValue = outcome stateOf readingOf lastOf (c .lent) (length (c .expected)) (length (c .high)) (length (c .low))
+
+  abbrev pub answerBy : Answer
+  answerBy = answerOf readingOf lastOf (c .lent) (stateOf .«base_dimension») (length (c .expected)) (length (c .high)) (length (c .low)) (stateCountsOk stateOf)
+
+  abbrev pub slices : Bool
+  slices = slicesOk (length xs) (length (c .reading)) (length (c .last)) (length (c .verdict))
+
+  abbrev pub codes : Bool
+  codes = codesOk xs (c .reading) (c .last)
+
+  -- Codes and lengths in order: the judge is asked.
+  pub through : codes ≡ true → slices ≡ true → over ≡ byValue
+  unfolding outcomeOver
+  through p q = rw (p, q)
+
+  asked : outcomeNumber over ≡ 0 → (codes ≡ true) × (slices ≡ true)
+  unfolding outcomeOver
+  asked e = go codes slices (sizesFit xs (c .reading)) e
+    where
+      go : (p q f : Bool) → outcomeNumber (cond p (cond q byValue (cond f (Refused Length) (Refused Range))) (Refused Range)) ≡ 0 → (p ≡ true) × (q ≡ true)
+      go true true f n = (refl, refl)
+      go true false true n = absurd (number-above Length n)
+      go true false false n = absurd (number-above Range n)
+      go false q f n = absurd (number-above Range n)
+
+  long : slices ≡ true → (length xs ≡ 1310) × (length (c .reading) ≡ 23)
+  unfolding slicesOk
+  long q =
+      let a = both (eqb (length xs) 1310) _ q in
+      let b = both (eqb (length (c .reading)) 23) _ (a .1) in
+      (eqb-true (length xs) 1310 (a .0), eqb-true (length (c .reading)) 23 (b .0))
+
+  done-at : outcomeNumber byValue ≡ 0 → answerBy ≡ Answers.Done
+  unfolding outcome
+  done-at e = done-of stateOf readingOf lastOf (c .lent) answerBy e
+
+  accepted-at : answerBy ≡ Answers.Done → byValue ≡ Accepted (verdict readingOf lastOf (c .lent) stateOf)
+  unfolding outcome outcomeOf
+  accepted-at e = rw e
+
+  entry : answerBy ≡ Answers.Done → (rangeOk (readingOf .«shingle_size») (readingOf .«base_dimension») (stateOf .«base_dimension») ≡ true) × ((lengthsOk readingOf lastOf (c .lent) (length (c .expected)) (length (c .high)) (length (c .low)) ≡ true) × (stateCountsOk stateOf ≡ true))
+  unfolding answerOf
+  entry e =
+      passed (rangeOk (readingOf .«shingle_size») (readingOf .«base_dimension») (stateOf .«base_dimension»))
+      (lengthsOk readingOf lastOf (c .lent) (length (c .expected)) (length (c .high)) (length (c .low)))
+      (finiteOk readingOf lastOf (c .lent))
+      (seenOk (readingOf .«values_seen») (lastOf .«has_anomaly») (lastOf .anomaly .«values_seen»))
+      (stateCountsOk stateOf) e
+
+  base-of : rangeOk (readingOf .«shingle_size») (readingOf .«base_dimension») (stateOf .«base_dimension») ≡ true → stateOf .«base_dimension» ≤ 16
+  unfolding rangeOk
+  base-of e =
+      let p = both (sizesOk (readingOf .«shingle_size») (readingOf .«base_dimension»)) (eqb (readingOf .«base_dimension») (stateOf .«base_dimension»)) e in
+      let q = sizes (readingOf .«shingle_size») (readingOf .«base_dimension») (p .0) .base-most in
+      let r : readingOf .«base_dimension» ≡ stateOf .«base_dimension» = eqb-true (readingOf .«base_dimension») (stateOf .«base_dimension») (p .1) in
+      subst (λ (n : ℕ). n ≤ 16) r q
+
+  -- What an accepted call's bytes are.
+  pub record Taken : Type 0 where
+    pub codes-ok : codes ≡ true
+    pub slices-ok : slices ≡ true
+    pub size : length xs ≡ 1310
+    pub reading-size : length (c .reading) ≡ 23
+    pub done : answerBy ≡ Answers.Done
+    pub says : over ≡ Accepted (verdict readingOf lastOf (c .lent) stateOf)
+    pub says-by : byValue ≡ Accepted (verdict readingOf lastOf (c .lent) stateOf)
+    pub fits : StateFits stateOf
+    pub index : mag (relativeIndex readingOf lastOf (c .lent) (verdict readingOf lastOf (c .lent) stateOf)) < 0x8000_0000
+
+  pub taken-by : codes ≡ true → slices ≡ true → answerBy ≡ Answers.Done → Taken
+  taken-by p q d =
+      let l = long q in
+      let f = entry d in
+      let e = state-is xs (l .0) in
+      let ok : stateCountsOk (decodeState xs) ≡ true = ap stateCountsOk (sym e) ∙ f .1 .1 in
+      let most : decodeState xs .«base_dimension» ≤ 16 = subst (λ (s : PredictorCorrector). s .«base_dimension» ≤ 16) e (base-of (f .0)) in
+      record {
+        codes-ok = p;
+        slices-ok = q;
+        size = l .0;
+        reading-size = l .1;
+        done = d;
+        says = through p q ∙ accepted-at d;
+        says-by = accepted-at d;
+        fits = subst StateFits (sym e) (decoded-fits xs (counted-numbers (decodeState xs) ok most));
+        index = index-small readingOf lastOf (c .lent) (stateOf .«base_dimension») (length (c .expected)) (length (c .high)) (length (c .low)) (f .0) (f .1 .0) (verdict readingOf lastOf (c .lent) stateOf);
+      }
+
+  pub taken : outcomeNumber over ≡ 0 → Taken
+  taken e =
+      let p = asked e in
+      taken-by (p .0) (p .1) (done-at (ap outcomeNumber (sym (through (p .0) (p .1))) ∙ e))
+
+  -- ---- the state that is left decodes to the state by value
+  module _ (k : Taken) where
+    abbrev pub said : Verdict
+    said = verdict readingOf lastOf (c .lent) stateOf
+
+    abbrev later : Verdict → PredictorCorrector
+    later v = after readingOf lastOf (c .lent) stateOf v
+
+    written-back : (v : Verdict) → (length (encodeStateOver xs (later v)) ≡ 1310) × (decodeState (encodeStateOver xs (later v)) ≡ later v)
+    written-back v =
+        (state-length xs (later v) (k .size), state-back xs (later v) (k .size) (after-fits readingOf lastOf (c .lent) (score-fits (c .reading)) stateOf v (k .fits)))
+
+    put-back : (v : Verdict) → (length (stored v xs (later v)) ≡ 1310) × (decodeState (stored v xs (later v)) ≡ later v)
+    unfolding stored changesState after
+    put-back (Quiet t) = written-back (Quiet t)
+    put-back (Corrected t m) = written-back (Corrected t m)
+    put-back (Raised t g) = written-back (Raised t g)
+    put-back Skipped = (k .size, sym (state-is xs (k .size)))
+
+    read-back : (v : Verdict) → readState (stored v xs (later v)) ≡ later v
+    read-back v = (let p = put-back v in state-is (stored v xs (later v)) (p .0) ∙ p .1)
+
+    accepted-state : readState (stateLeft over xs (stateOver xs (c .reading) (c .last) (c .lent) over)) ≡ stateAfter stateOf readingOf lastOf (c .lent) byValue
+    unfolding stateLeft stateOver stateAfter
+    accepted-state =
+        ap (λ (o : Outcome). readState (stateLeft o xs (stateOver xs (c .reading) (c .last) (c .lent) o))) (k .says)
+        ∙ read-back said ∙ ap (stateAfter stateOf readingOf lastOf (c .lent)) (sym (k .says-by))
+
+    accepted-verdict : (n : ℤ) → n ≡ indexOver xs (c .reading) (c .last) (c .lent) over
+        → Reads said n (verdictLeft over (c .verdict) (indexOver xs (c .reading) (c .last) (c .lent) over))
+    unfolding verdictLeft indexOver indexAfter
+    accepted-verdict n e =
+        let i : n ≡ relativeIndex readingOf lastOf (c .lent) said = e ∙ ap (indexOver xs (c .reading) (c .last) (c .lent)) (k .says) in
+        subst (Reads said n)
+        (ap (told said) e ∙ ap (λ (o : Outcome). verdictLeft o (c .verdict) (indexOver xs (c .reading) (c .last) (c .lent) over)) (sym (k .says)))
+        (told-reads said n (verdict-fits stateOf readingOf lastOf (c .lent) (k .fits .thresholder) (score-fits (c .reading))) (subst (λ (m : ℤ). mag m < 0x8000_0000) (sym i) (k .index)))
+
+  -- ---- a refused call
+  refused-by : (why : Refusal) → over ≡ Refused why → Contract xs c → (c .state′ ≡ xs) × (c .verdict′ ≡ c .verdict)
+  unfolding stateLeft verdictLeft
+  refused-by why e q = (
+    q .bytes ∙ ap (λ (o : Outcome). stateLeft o xs (stateOver xs (c .reading) (c .last) (c .lent) over)) e,
+    q .verdict ∙ ap (λ (o : Outcome). verdictLeft o (c .verdict) (indexOver xs (c .reading) (c .last) (c .lent) over)) e,
+  )
+
+  -- An answer other than 0 leaves the bytes as they came.
+  pub refused-keeps : Contract xs c → (c .answer ≡ 0 → ⊥) → (c .state′ ≡ xs) × (c .verdict′ ≡ c .verdict)
+  refused-keeps q n = go over refl
+    where
+      go : (o : Outcome) → over ≡ o → (c .state′ ≡ xs) × (c .verdict′ ≡ c .verdict)
+      go (Accepted v) e = absurd (n (q .answer ∙ ap outcomeNumber e))
+      go (Refused why) e = refused-by why e q
+
+  -- ---- the simulation: where the codes and the slices are in order, the call answers and leaves what the judgment by value says of the decoded state
+  module _ (q : Contract xs c) (p : codes ≡ true) (f : slices ≡ true) (j : Judgment) (e h w : List Float)
+      (d : Judged stateOf readingOf lastOf (c .lent) j (c .expected) (c .high) (c .low) e h w) where
+    same : over ≡ byValue
+    same = through p f
+
+    says-refused : (why : Refusal) → answerBy ≡ Answers.Refused why → byValue ≡ Refused why
+    unfolding outcome outcomeOf
+    says-refused why g = rw g
+
+    state-by : (a : Answer) → answerBy ≡ a → readState (c .state′) ≡ j .state
+    unfolding stateAfter
+    state-by Answers.Done g = ap readState (q .bytes) ∙ accepted-state (taken-by p f g) ∙ sym (d .state)
+    state-by (Answers.Refused why) g =
+        ap readState (refused-by why (same ∙ says-refused why g) q .0) ∙ sym (d .state ∙ ap (stateAfter stateOf readingOf lastOf (c .lent)) (says-refused why g))
+
+    verdict-by : (a : Answer) → answerBy ≡ a → Says (j .outcome) (j .«relative_index») (c .verdict) (c .verdict′)
+    unfolding indexOver
+    verdict-by Answers.Done g =
+        let k = taken-by p f g in
+        let index : j .«relative_index» ≡ indexOver xs (c .reading) (c .last) (c .lent) over = d .index ∙ ap (indexAfter stateOf readingOf lastOf (c .lent)) (sym same) in
+        subst (λ (o : Outcome). Says o (j .«relative_index») (c .verdict) (c .verdict′)) (sym (d .says ∙ k .says-by))
+        (subst (Reads (said k) (j .«relative_index»)) (sym (q .verdict)) (accepted-verdict k (j .«relative_index») index))
+    verdict-by (Answers.Refused why) g =
+        subst (λ (o : Outcome). Says o (j .«relative_index») (c .verdict) (c .verdict′)) (sym (d .says ∙ says-refused why g))
+        (refused-by why (same ∙ says-refused why g) q .1)
+
+    pub simulated : Simulated c j e h w
+    simulated = record {
+      answer = q .answer ∙ ap outcomeNumber (same ∙ sym (d .says));
+      state = state-by answerBy refl;
+      verdict = verdict-by answerBy refl;
+      point = q .point ∙ ap (λ (o : Outcome). written o (c .expected) (expected readingOf lastOf (c .lent))) same ∙ sym (d .point);
+      highs = q .highs ∙ ap (λ (o : Outcome). written o (c .high) (normalized (readingOf .score) (c .lent .high) (c .lent .low) (c .lent .high))) same ∙ sym (d .highs);
+      lows = q .lows ∙ ap (λ (o : Outcome). written o (c .low) (normalized (readingOf .score) (c .lent .high) (c .lent .low) (c .lent .low))) same ∙ sym (d .lows);
+    }
+
+  -- ---- what an accepted call's verdict says of the opening
+  pub accepted-reads : Contract xs c → (k : Taken) → Reads (said k) (indexOver xs (c .reading) (c .last) (c .lent) over) (c .verdict′)
+  accepted-reads q k = subst (Reads (said k) _) (sym (q .verdict)) (accepted-verdict k _ refl)
+
+  pub accepted-left : Contract xs c → Taken → readState (c .state′) ≡ stateAfter stateOf readingOf lastOf (c .lent) byValue
+  accepted-left q k = ap readState (q .bytes) ∙ accepted-state k
+
+  pub opens-over-c : Contract xs c → c .answer ≡ 0 → T (not (eq (scoreOf c) zero32)) → Opens (opened stateOf readingOf) (c .verdict′)
+  opens-over-c q z n =
+      let k = taken (sym (q .answer) ∙ z) in
+      verdict-opens stateOf readingOf lastOf (c .lent) _ (c .verdict′) (accepted-reads q k)
+      (ap (λ (x : Float). eq x zero32) (score-is (c .reading) (k .reading-size)) ∙ is-false (eq (scoreOf c) zero32) n)
