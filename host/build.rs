@@ -1,7 +1,7 @@
-//! Builds the library's archives where they are missing or older than their sources, and
-//! tells the linker where they are.
+//! Builds those of the library's archives that are missing or older than a crate they are made of,
+//! and tells the linker where they are.
 
-use std::fs::OpenOptions;
+use std::fs::{self, OpenOptions};
 use std::io::{self, Write};
 use std::path::{Path, PathBuf};
 use std::process::{Command, ExitCode};
@@ -16,6 +16,37 @@ fn changed(path: &Path) -> io::Result<SystemTime> {
     if about.is_dir() {
         for entry in path.read_dir()? {
             newest = newest.max(changed(&entry?.path())?);
+        }
+    }
+    Ok(newest)
+}
+
+/// A crate and all that it is built on, by the lines of crates.txt.
+fn parts(list: &str, name: &str) -> Vec<String> {
+    let mut all = vec![name.to_string()];
+    let mut k = 0;
+    while k < all.len() {
+        let line = format!("{}:", all[k]);
+        let needs = list.lines().find_map(|text| text.strip_prefix(&line));
+        for need in needs.unwrap_or_default().split_whitespace() {
+            if !all.iter().any(|have| have == need) {
+                all.push(need.to_string());
+            }
+        }
+        k += 1;
+    }
+    all
+}
+
+/// When the newest source of an archive was last changed. The kit's own crates have none here.
+fn sources(root: &Path, list: &str, name: &str) -> io::Result<SystemTime> {
+    let mut newest = SystemTime::UNIX_EPOCH;
+    for part in parts(list, name) {
+        for kind in ["src", "specs", "proofs"] {
+            let folder = root.join("crates").join(&part).join(kind);
+            if folder.exists() {
+                newest = newest.max(changed(&folder)?);
+            }
         }
     }
     Ok(newest)
@@ -49,22 +80,17 @@ fn build(root: &Path, name: &str) -> Result<(), String> {
     }
 }
 
-/// Sees to it that the archive is there and as new as the sources. `place` is its place among all.
-fn provide(
-    root: &Path,
-    folder: &Path,
-    (place, name): (usize, &str),
-    sources: SystemTime,
-) -> Result<(), String> {
-    let archive = folder.join(format!("lib{name}.a"));
+/// Builds an archive that is missing or older than its sources. `place` is its place among all.
+fn provide(root: &Path, list: &str, place: usize, name: &str) -> Result<(), String> {
+    let archive = root.join(format!("target/staticlib/lib{name}.a"));
     println!("cargo:rerun-if-changed={}", archive.display());
-    let fresh = |archive: &Path| changed(archive).is_ok_and(|made| made >= sources);
-    if fresh(&archive) {
+    let newest = sources(root, list, name).map_err(|why| format!("sources of {name}: {why}"))?;
+    if changed(&archive).is_ok_and(|made| made >= newest) {
         return Ok(());
     }
-    let of = ARCHIVES.len();
     tell(&format!(
-        "     Proving lib{name}.a, {place} of {of}: half a minute, minutes where nothing below it is proved"
+        "     Proving lib{name}.a, {place} of {}: half a minute, minutes if crates below it are not proved",
+        ARCHIVES.len()
     ));
     build(root, name)?;
     if archive.exists() {
@@ -79,13 +105,15 @@ fn provide(
 fn run() -> Result<(), String> {
     let here = std::env::var("CARGO_MANIFEST_DIR").map_err(|why| why.to_string())?;
     let root = PathBuf::from(here).join("..");
-    let crates = root.join("crates");
-    let folder = root.join("target/staticlib");
-    println!("cargo:rerun-if-changed={}", crates.display());
-    let sources = changed(&crates).map_err(|why| format!("{}: {why}", crates.display()))?;
-    for (k, name) in ARCHIVES.into_iter().enumerate() {
-        provide(&root, &folder, (k + 1, name), sources)?;
+    let listed = root.join("crates.txt");
+    for changing in ["crates", "crates.txt"] {
+        println!("cargo:rerun-if-changed={}", root.join(changing).display());
     }
+    let list = fs::read_to_string(&listed).map_err(|why| format!("{}: {why}", listed.display()))?;
+    for (k, name) in ARCHIVES.into_iter().enumerate() {
+        provide(&root, &list, k + 1, name)?;
+    }
+    let folder = root.join("target/staticlib");
     println!("cargo:rustc-link-search=native={}", folder.display());
     Ok(())
 }

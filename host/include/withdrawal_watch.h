@@ -7,7 +7,7 @@
  *
  * A slice is a pointer and, behind it, a length in elements (not in bytes).
  *  - The pointer is valid for that many elements for the whole call, to read, and to write where it
- *    is not const. It is aligned for its type. Memory that is only written need not be initialised.
+ *    is not const. It is aligned for its type.
  *  - A slice that is written overlaps no other slice of the call.
  *  - An empty slice may be NULL with length 0.
  *  - No other thread writes to a slice during the call, or reads one that the call writes. Calls on
@@ -84,6 +84,13 @@
  * it has to be asked, is said at the trait Forest in host/src/forest.rs. After an accepted reading the
  * next one's last descriptor has its strategy, score and threshold (0 if skipped; one that is not finite
  * must not be lent, or every later reading is refused by 4), and a raised one is the last anomaly.
+ *
+ * Between the forest's calls: krcf_apply_basic_corrector writes the corrected point;
+ * krcf_likely_missing_indices writes seven numbers, the block that stands out, how many positions the
+ * conditional field is to be asked for (none: it is not asked) and five places for them;
+ * krcf_expected_point writes the expected point, its position being the block times the base
+ * dimension. gap is how much later the reading is than the last anomaly, or its values seen where
+ * there is none.
  *
  * Single numbers that a call writes: krcf_threshold and krcf_primary_grade an f32 (4 bytes);
  * krcf_*threshold_and_grade* two f32, threshold and grade (8); krcf_deviation_mean,

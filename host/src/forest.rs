@@ -3,7 +3,7 @@
 use crate::verdict::Attribution;
 
 /// The forest's calls that a judgment makes, under krcf's names (`AugmentedRCF` in rcf.rs) and with
-/// its arguments, so that each can be passed on to a krcf forest in a line.
+/// its arguments.
 ///
 /// A [`Drawer`](crate::Drawer) makes exactly the calls that the Rust's `detect_and_modify` makes, in
 /// its order, with its arguments, and no other:
@@ -19,23 +19,62 @@ use crate::verdict::Attribution;
 ///
 /// Which of them a reading costs depends on where it ends:
 ///
-/// | A reading that ends as | costs | of these |
-/// |---|---|---|
-/// | skipped, quiet | 1 | |
-/// | corrected: anomaly in shingle, by the corrected score | 1, 2 | |
-/// | corrected: noise | 1, 2 | 2 if an anomaly is at most a shingle back |
-/// | corrected: conditional forecast | 1 to 4 | 2 as above |
-/// | corrected: anomaly in shingle, forecast or data drift; raised | 1 to 6 | 2 as above; 4 with auto adjust; 5 if a coordinate stands out; 6 within a shingle of the last anomaly, or of the start |
+/// | A reading that ends as | costs |
+/// |---|---|
+/// | skipped, quiet | 1 |
+/// | corrected: anomaly in shingle, by the corrected score | 1, 2 |
+/// | corrected: noise | 1, 2 |
+/// | corrected: conditional forecast | 1, 2, 3, 4 |
+/// | corrected: anomaly in shingle, forecast or data drift; raised | 1, 2, 3, 4, 5, 6 |
+///
+/// - 2 only if the last anomaly is at most a shingle back;
+/// - 4 only with auto adjust;
+/// - 5 only if there are positions to ask for, fewer than half of all;
+/// - 6 only if the last anomaly, or where there is none the start, is less than a shingle back. The
+///   Rust asks also where there is no anomaly, and nothing reads the answer then.
 ///
 /// "Fills" names the field of a [`Reading`](crate::Reading). The library looks at every field that
 /// is lent (refusals 3 and 4), so a field that was not asked for is lent as zeros of its length, the
-/// neighbours as none: no judgment that ends before the call reads it. Call 6 is made as the Rust
-/// makes it also where there is no anomaly yet, and is then not read.
+/// neighbours as none: no judgment that ends before the call reads it.
 ///
 /// The corrected point, the expected point and the positions of call 5 come from the library's
 /// proved calls (`krcf_apply_basic_corrector`, `krcf_expected_point`, `krcf_likely_missing_indices`),
 /// and so does the step from the forest's f64 to the f32 that is judged (`krcf_total`,
 /// `krcf_narrow`).
+///
+/// A forest of krcf's own is passed on in a line a call:
+///
+/// ```ignore
+/// struct Krcf<'a>(&'a RCFLarge<u64, u64>);
+///
+/// fn attribution(v: DiVector) -> Attribution {
+///     Attribution { high: v.high, low: v.low }
+/// }
+///
+/// impl Forest for Krcf<'_> {
+///     type Error = RCFError;
+///
+///     fn score(&self, point: &[f32]) -> Result<f64, RCFError> {
+///         self.0.score(point)
+///     }
+///     fn attribution(&self, point: &[f32]) -> Result<Attribution, RCFError> {
+///         self.0.attribution(point).map(attribution)
+///     }
+///     fn density_interpolant(&self, point: &[f32]) -> Result<Attribution, RCFError> {
+///         self.0.density_interpolant(point).map(|measure| attribution(measure.distance))
+///     }
+///     fn near_neighbor_list(&self, point: &[f32], percentile: usize) -> Result<Vec<f32>, RCFError> {
+///         let list = self.0.near_neighbor_list(point, percentile)?;
+///         Ok(list.into_iter().flat_map(|neighbour| neighbour.1).collect())
+///     }
+///     fn conditional_field(
+///         &self, positions: &[usize], point: &[f32], centrality: f64, project: bool, max_number: usize,
+///     ) -> Result<Vec<f32>, RCFError> {
+///         let field = self.0.conditional_field(positions, point, centrality, project, max_number);
+///         field.map(|summary| summary.median)
+///     }
+/// }
+/// ```
 ///
 /// [`ExpectedInverseHeight`]: crate::ScoringStrategy::ExpectedInverseHeight
 /// [`Distance`]: crate::ScoringStrategy::Distance
