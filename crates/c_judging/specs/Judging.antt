@@ -64,7 +64,7 @@ module _ (state reading last : List ℕ) (b : Lent) where
   stateOver o = stateAfter (readState state) (readReading reading) (readLast last) b o
 
   unfoldable pub indexOver : Outcome → ℤ
-  indexOver o = indexAfter (readState state) (readReading reading) (readLast last) b o
+  indexOver o = indexAfter (readReading reading) (readLast last) b o
 
   -- The contract: the answer n, and what stands in the slices afterwards.
   pub record Answered (n : ℕ) (e h w : List Float) (v state′ : List ℕ) (e′ h′ w′ : List Float) (v′ : List ℕ) : Type 0 where

@@ -1,2 +1,2 @@
-mod Rows
+mod Conditions
 pub mod Last

@@ -4,7 +4,7 @@ use mathlib.Core.Bool.{Bool, true, cond, _&&_, _||_, not}
 use mathlib.Core.List.{List}
 use lib.Dec.{ltb}
 use lib.IntN.{pos}
-use lib.ListN.{length, drop, getD}
+use lib.ListN.{getD}
 use lib.Ieee as Ieee
 use lib.Ieee.{Float, binary32, binary64, nan}
 use Rattle.ieee.specs.Round.{narrow}
@@ -19,7 +19,6 @@ use Rattle.descriptor.specs.declared.LastDescriptor.{LastDescriptor}
 use Rattle.predictorcorrector.specs.State.{candidateCounted}
 use Rattle.predictorcorrector.specs.declared.PredictorCorrector.{PredictorCorrector}
 use Rattle.candidate.specs.Const.{one32, two32, ten32, tenth32, fifth32, noiseFactor}
-use Rattle.candidate.specs.declared.Counted.{Counted}
 
 -- strategy == last strategy
 unfoldable pub sameStrategy : ScoringStrategy → ScoringStrategy → Bool
@@ -78,15 +77,3 @@ nearNext base actual expected newest newestExpected noise =
 unfoldable pub driftAt : Bool → Bool → ℕ → ℕ → Deviation → Deviation → List Float → List Float → List Float → Bool
 driftAt candidate auto run base actual expected newest newestExpected noise =
     candidate && (auto && (ltb 2 run && nearNext base actual expected newest newestExpected noise))
-
--- The candidate branch by the newest rows.
-unfoldable pub countedRows : PredictorCorrector → Reading → LastDescriptor → ℕ → Float → List Float → List Float → List Float → Counted
-countedRows s r l shingle threshold newest newestExpected noise =
-    let candidate = isCandidate r l (s .«run_length») shingle threshold in
-    let counted = candidateWith candidate s newest newestExpected in
-    record { drift = isDrift candidate s counted (r .«base_dimension») newest newestExpected noise; state = counted }
-
--- The same for a point and its expected point.
-unfoldable pub countedRun : PredictorCorrector → Reading → LastDescriptor → ℕ → Float → List Float → List Float → List Float → Counted
-countedRun s r l shingle threshold point expected noise =
-    countedRows s r l shingle threshold (drop (length point - r .«base_dimension») point) (drop (length point - r .«base_dimension») expected) noise

@@ -11,7 +11,7 @@ ghost use mathlib.Core.Path.{_≡_};
 ghost use mathlib.Core.Bool.{_&&_};
 ghost use lib.Ieee.{nan};
 ghost use Prim.Native.Nat.{_-_};
-ghost use lib.ListN.{getD, drop};
+ghost use lib.ListN.{getD};
 ghost use Rattle.deviation.specs.Statistics.{counted};
 ghost use Rattle.candidate.specs.Candidate as Candidate;
 
@@ -42,7 +42,8 @@ fn still_high(score: f32, threshold: f32, last_score: f32, last_threshold: f32, 
     last_score - last_threshold > score - maxf32(threshold, last_threshold) * (1.0 + share)
 }
 
-fn is_candidate(
+// Whether a reading is one of a run.
+pub fn is_candidate(
     r: Reading,
     l: LastDescriptor,
     run_length: u32,
@@ -89,38 +90,8 @@ fn value_at(xs: &[f32], i: usize) -> f32
     0.0 / 0.0
 }
 
-// The drift test of the last coordinate, which alone decides, where it is due.
-fn is_drift(
-    due: bool,
-    base: usize,
-    actual: [Deviation; 16],
-    expected: [Deviation; 16],
-    newest: &[f32],
-    newest_expected: &[f32],
-    noise: &[f32],
-) -> bool
-    ensures { λ r. ⌜ r ≡ (due && Candidate.driftWithin base actual expected (now (newest .entry)) (now («newest_expected» .entry)) (now (noise .entry))) ⌝ }
-{
-    if due {
-        if base == 0 {
-            return true;
-        }
-        let y = base - 1;
-        let value = value_at(newest, y);
-        let value_expected = value_at(newest_expected, y);
-        let value_noise = value_at(noise, y);
-        if y < 16 {
-            return near_means(actual[y], expected[y], value, value_expected, value_noise);
-        }
-        // Past the end: a new statistic.
-        let none = Deviation::create(0.0, 0.0, 0.0, 0.0, 0);
-        return near_means(none, none, value, value_expected, value_noise);
-    }
-    false
-}
-
-// base - 1, or 0.
-fn last_place(base: usize) -> usize
+// The last place of `base`; 0 of none.
+pub fn last_place(base: usize) -> usize
     ensures { λ r. ⌜ r ≡ base - 1 ⌝ }
 {
     if 1 <= base {
@@ -136,7 +107,7 @@ fn last_counted(entry: Deviation, value: f32) -> Deviation
     entry.counted(std::num::f32_to_f64_with_nan(value))
 }
 
-// The same test by the last entries of the two lists alone, as they came, where it is due.
+// The drift test of the last coordinate, which alone decides, where it is due: by the last entries of the two lists, as they came.
 fn is_drift_at(
     due: bool,
     base: usize,
@@ -191,98 +162,20 @@ pub fn is_data_drift(
     )
 }
 
-fn candidate_with(
-    candidate: bool,
+// The state with the newest rows counted, of a candidate.
+pub fn count_rows(
     s: PredictorCorrector,
+    r: Reading,
+    l: LastDescriptor,
+    shingle_size: u32,
+    threshold: f32,
     newest: &[f32],
     newest_expected: &[f32],
 ) -> PredictorCorrector
-    ensures { λ t. ⌜ t ≡ Candidate.candidateWith candidate s (now (newest .entry)) (now («newest_expected» .entry)) ⌝ }
+    ensures { λ t. ⌜ t ≡ Candidate.candidateWith (Candidate.isCandidate r l (s .«run_length») «shingle_size» threshold) s (now (newest .entry)) (now («newest_expected» .entry)) ⌝ }
 {
-    if candidate {
+    if is_candidate(r, l, s.run_length, shingle_size, threshold) {
         return s.candidate_counted(newest, newest_expected);
     }
     s
-}
-
-// The state with a candidate's newest rows counted, and whether that makes the reading data drift.
-pub struct Counted {
-    pub drift: bool,
-    pub state: PredictorCorrector,
-}
-
-// The candidate branch by the newest rows.
-fn count_rows(
-    s: PredictorCorrector,
-    r: Reading,
-    l: LastDescriptor,
-    shingle_size: u32,
-    threshold: f32,
-    newest: &[f32],
-    newest_expected: &[f32],
-    noise: &[f32],
-) -> Counted
-    ensures { λ c. ⌜ c ≡ Candidate.countedRows s r l «shingle_size» threshold (now (newest .entry)) (now («newest_expected» .entry)) (now (noise .entry)) ⌝ }
-{
-    let candidate = is_candidate(r, l, s.run_length, shingle_size, threshold);
-    let state = candidate_with(candidate, s, newest, newest_expected);
-    let actual = state.deviations_actual;
-    let expected = state.deviations_expected;
-    let drift = is_drift(
-        candidate & s.auto_adjust & (2 < s.run_length),
-        r.base_dimension,
-        actual,
-        expected,
-        newest,
-        newest_expected,
-        noise,
-    );
-    Counted { drift, state }
-}
-
-// d - base, or 0.
-fn newest_start(d: usize, base: usize) -> usize
-    ensures { λ r. ⌜ r ≡ d - base ⌝ }
-{
-    if base <= d {
-        return d - base;
-    }
-    0
-}
-
-// What stands from a place on; nothing past the end.
-fn part_from(xs: &[f32], at: usize) -> &[f32]
-    ensures { λ r. ⌜ now r ≡ drop at (now (xs .entry)) ⌝ }
-{
-    if at <= xs.len() {
-        return &xs[at..];
-    }
-    let end = xs.len();
-    &xs[end..]
-}
-
-// The candidate branch for a point and its expected point.
-pub fn count_run(
-    s: PredictorCorrector,
-    r: Reading,
-    l: LastDescriptor,
-    shingle_size: u32,
-    threshold: f32,
-    point: &[f32],
-    expected: &[f32],
-    noise: &[f32],
-) -> Counted
-    ensures { λ c. ⌜ c ≡ Candidate.countedRun s r l «shingle_size» threshold (now (point .entry)) (now (expected .entry)) (now (noise .entry)) ⌝ }
-{
-    let at = newest_start(point.len(), r.base_dimension);
-    count_rows(
-        s,
-        r,
-        l,
-        shingle_size,
-        threshold,
-        part_from(point, at),
-        part_from(expected, at),
-        noise,
-    )
 }

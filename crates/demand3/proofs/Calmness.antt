@@ -47,7 +47,7 @@ all-accepted : accepted (toldOf (made .state) eleven) ≡ 11
 unfolding answerOf rangeOk sizesOk lengthsOk dimension pointsOk rowsOk neighboursOk lastPointsOk finiteOk numbersFinite lastFinite isFinite every seenOk isLater
     stateCountsOk countsOk countable listCountable firstCountable State.new freshState freshList
     lt le eq ne ofBits round add sub mul div ofInt
-    outcome outcomeOf stateAfter Exits.verdict Exits.opening Exits.after Exits.entered runEnded scoreCounted
+    outcome outcomeOf stateAfter Exits.verdict Exits.decided Exits.opening Exits.after Exits.entered Exits.updateScore runEnded scoreCounted
     primaryCounted countedOver countedGap counted next oneMore Statistics.factor Statistics.mean Statistics.deviation Statistics.isEmpty Statistics.positiveRoot narrow
     primaryThresholdAndGrade threshold thresholdBy primaryGrade gradeOver isDeviationReady countsReady minf32
 all-accepted = refl

@@ -10,8 +10,6 @@ use Rattle.types.specs.declared.Answer.{Answer}
 use Rattle.types.specs.declared.Answer.the-variants as Answers
 use Rattle.types.specs.declared.ScoringStrategy.{ScoringStrategy}
 use Rattle.types.specs.declared.ScoringStrategy.the-variants.{DISTANCE}
-use Rattle.types.specs.declared.CorrectionMode.{CorrectionMode}
-use Rattle.types.specs.declared.CorrectionMode.the-variants as Modes
 use Rattle.basicthresholder.specs.Const.{zero32}
 use Rattle.basicthresholder.specs.Grades.{primaryThresholdAndGrade}
 use Rattle.basicthresholder.specs.Updates.{primaryCounted}
@@ -25,7 +23,7 @@ use Rattle.descriptor.specs.declared.Reading.{Reading}
 use Rattle.descriptor.specs.declared.LastDescriptor.{LastDescriptor}
 use Rattle.predictorcorrector.specs.State.{runEnded, autoAdjusted, candidateCounted, runGrown, scoreCounted}
 use Rattle.predictorcorrector.specs.declared.PredictorCorrector.{PredictorCorrector}
-use Rattle.detection.specs.Judging.{opening, entered, candidateWith, candidateState, verdict, runAfterMode, after}
+use Rattle.detection.specs.Judging.{opening, updateScore, entered, candidateWith, candidateState, isDriftMode, verdict, after}
 use Rattle.detection.specs.Judged.{outcome, outcomeOf, stateAfter}
 use Rattle.detection.specs.declared.Verdict.{Verdict}
 use Rattle.detection.specs.declared.Verdict.the-variants.{Quiet, Corrected, Raised, Skipped}
@@ -100,35 +98,25 @@ module _ (s : PredictorCorrector) (r : Reading) (l : LastDescriptor) (b : Lent) 
   unfolding candidateState
   candidate-keeps threshold = with-keeps _ s _ _
 
-  mode-keeps : (threshold : Float) (m : CorrectionMode) → runAfterMode r l b s threshold m .«basic_thresholder» ≡ s .«basic_thresholder»
-  unfolding runAfterMode
-  mode-keeps threshold Modes.NONE = adjusted-keeps s (b .point)
-  mode-keeps threshold Modes.NOISE = adjusted-keeps s (b .point)
-  mode-keeps threshold Modes.«MULTI_MODE» = adjusted-keeps s (b .point)
-  mode-keeps threshold Modes.«ANOMALY_IN_SHINGLE» = adjusted-keeps s (b .point)
-  mode-keeps threshold Modes.«CONDITIONAL_FORECAST» = adjusted-keeps s (b .point)
-  mode-keeps threshold Modes.FORECAST = adjusted-keeps s (b .point)
-  mode-keeps threshold Modes.«DATA_DRIFT» = candidate-keeps threshold
-
   entered-counts : (u : PredictorCorrector) (corrected : Float) → isHeight (r .«scoring_strategy») ≡ false → u .«basic_thresholder» ≡ s .«basic_thresholder»
       → entered u r l corrected .«basic_thresholder» ≡ primaryCounted (s .«basic_thresholder») (r .score)
-  unfolding entered scoreCounted
+  unfolding entered updateScore scoreCounted
   entered-counts u corrected d e = rw d (ap (λ (t : BasicThresholder). primaryCounted t (r .score)) e)
 
   after-counts : (v : Verdict) → isHeight (r .«scoring_strategy») ≡ false → isSkipped v ≡ false → after r l b s v .«basic_thresholder» ≡ primaryCounted (s .«basic_thresholder») (r .score)
   unfolding after
   after-counts (Quiet t) d k = entered-counts (runEnded s) _ d (ended-keeps s)
-  after-counts (Corrected t m) d k = entered-counts (runAfterMode r l b s t m) _ d (mode-keeps t m)
+  after-counts (Corrected t m) d k = entered-counts (cond (isDriftMode m) (candidateState r l b s t) (autoAdjusted s (b .point))) _ d (same-either (isDriftMode m) (s .«basic_thresholder») _ _ (candidate-keeps t) (adjusted-keeps s (b .point)))
   after-counts (Raised t g) d k = entered-counts (runGrown (candidateState r l b s t)) _ d (grown-keeps (candidateState r l b s t) ∙ candidate-keeps t)
   after-counts Skipped d k = absurd (true≢false k)
 
   -- ---- an accepted reading, a refused one
-  accepted-outcome : (a : Answer) → T (not (isRefusal a)) → outcomeOf s r l b a ≡ Accepted (verdict r l b s)
+  accepted-outcome : (a : Answer) → T (not (isRefusal a)) → outcomeOf (verdict r l b s) a ≡ Accepted (verdict r l b s)
   unfolding outcomeOf
   accepted-outcome Answers.Done k = refl
   accepted-outcome (Answers.Refused why) k = absurd k
 
-  refused-state : (a : Answer) → T (isRefusal a) → stateAfter s r l b (outcomeOf s r l b a) ≡ s
+  refused-state : (a : Answer) → T (isRefusal a) → stateAfter s r l b (outcomeOf (verdict r l b s) a) ≡ s
   unfolding outcomeOf stateAfter
   refused-state Answers.Done k = absurd k
   refused-state (Answers.Refused why) k = refl
@@ -164,7 +152,7 @@ module _ (s : PredictorCorrector) (c : Judging) where
   unfolding outcome outcomeOf
   returned-at = go (answerAt s c) refl
     where
-      go : (a : Answer) → answerAt s c ≡ a → Returned s c (outcomeOf s (c .reading) (c .last) (c .lent) a)
+      go : (a : Answer) → answerAt s c ≡ a → Returned s c (outcomeOf said a)
       go Answers.Done e = (ap isRefusal e, λ (z : T (not (eq (c .reading .score) zero32))). verdict-shows s (c .reading) (c .last) (c .lent) (false-of _ z))
       go (Answers.Refused why) e = ap isRefusal e
 

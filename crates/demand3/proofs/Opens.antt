@@ -10,7 +10,7 @@ use Rattle.descriptor.specs.Lent.{Lent}
 use Rattle.descriptor.specs.declared.Reading.{Reading}
 use Rattle.descriptor.specs.declared.LastDescriptor.{LastDescriptor}
 use Rattle.predictorcorrector.specs.declared.PredictorCorrector.{PredictorCorrector}
-use Rattle.detection.specs.Judging.{opening, gap, recent, noisePass, explained, triggered, withinBox, isDataDrift, lateVerdict, gradedVerdict, verdict}
+use Rattle.detection.specs.Judging.{opening, gap, recent, noisePass, explained, triggered, withinBox, isDataDrift, lateVerdict, gradedVerdict, decided, verdict}
 use Rattle.detection.specs.declared.Verdict.{Verdict}
 use Rattle.detection.specs.declared.Verdict.the-variants.{Quiet, Corrected, Raised, Skipped}
 use Rattle.types.specs.declared.CorrectionMode.{CorrectionMode}
@@ -32,28 +32,28 @@ raised : (o : Graded) (g : Float) → eq (o .grade) zero32 ≡ false → g ≡ o
 raised o g e k = record { threshold = refl; quiet = sym e; skipped = refl; raised = λ (h : Unit). k }
 
 module _ (s : PredictorCorrector) (r : Reading) (l : LastDescriptor) (b : Lent) where
-  late : (o : Graded) (g : Float) → eq (o .grade) zero32 ≡ false → g ≡ o .grade → Shows o (lateVerdict r l b s (o .threshold) g)
+  late : (auto drift : Bool) (o : Graded) (g : Float) → eq (o .grade) zero32 ≡ false → g ≡ o .grade → Shows o (lateVerdict r l b auto drift (o .threshold) g)
   unfolding lateVerdict
-  late o g e k =
-      either (s .«auto_adjust» && explained r l b) _ _ (λ c. corrected o _ e)
+  late auto drift o g e k =
+      either (auto && explained r l b) _ _ (λ c. corrected o _ e)
       (λ c. either (ltb (gap r l b) (r .«shingle_size») && not (triggered r l b (o .threshold))) _ _ (λ c. corrected o _ e)
       (λ c. either (withinBox r l b) _ _ (λ c. corrected o _ e)
-      (λ c. either (isDataDrift r l b s (o .threshold)) _ _ (λ c. corrected o _ e) (λ c. raised o g e k))))
+      (λ c. either drift _ _ (λ c. corrected o _ e) (λ c. raised o g e k))))
 
-  past-opening : eq (opened s r .grade) zero32 ≡ false → Shows (opened s r) (gradedVerdict r l b s (opened s r .threshold) (opened s r .grade))
+  past-opening : eq (opened s r .grade) zero32 ≡ false → Shows (opened s r) (gradedVerdict r l b (s .«basic_thresholder») (s .«auto_adjust») (isDataDrift r l b s (opened s r .threshold)) (opened s r .threshold) (opened s r .grade))
   unfolding gradedVerdict
   past-opening e =
       let o = opened s r in
       either (recent r l b && eq (opening (s .«basic_thresholder») r (r .«corrected_score») .grade) zero32) _ _ (λ c. corrected o _ e)
       (λ c. either (eq (Ieee.mul binary32 (o .grade) (noisePass r l b)) zero32) _ _ (λ c. corrected o _ e)
-      (λ c. late o _ e (passed r l b (o .grade) (opening-grade (s .«basic_thresholder») r (r .score)) c)))
+      (λ c. late _ _ o _ e (passed r l b (o .grade) (opening-grade (s .«basic_thresholder») r (r .score)) c)))
 
   pub verdict-shows : eq (r .score) zero32 ≡ false → Shows (opened s r) (verdict r l b s)
-  unfolding verdict
+  unfolding verdict decided
   verdict-shows e = rw e (either (eq (opened s r .grade) zero32) _ _ (quiet (opened s r)) past-opening)
 
   pub zero-skips : eq (r .score) zero32 ≡ true → verdict r l b s ≡ Skipped
-  unfolding verdict
+  unfolding verdict decided
   zero-skips e = rw e refl
 
 -- A quiet verdict ends with grade 0.

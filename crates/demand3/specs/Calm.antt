@@ -64,7 +64,7 @@ judging s = record {
   lent = buffers;
   judgment = record {
     outcome = said s;
-    «relative_index» = indexAfter s reading last buffers (said s);
+    «relative_index» = indexAfter reading last buffers (said s);
     state = stateAfter s reading last buffers (said s);
   };
   expected = ones;

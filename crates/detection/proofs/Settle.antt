@@ -3,13 +3,12 @@ use mathlib.Core.Path.{_≡_, refl, sym, ap, _∙_, subst}
 use mathlib.Core.Bool.{Bool, true, false, cond, not, _&&_}
 use lib.Dec.{ltb}
 use native.Mathlib.Omega.{arith}
-use lib.IntN.{pos, _+ℤ_, _-ℤ_}
+use lib.IntN.{ℤ, pos, _+ℤ_, _-ℤ_}
 use mathlib.Core.List.{List}
 use Prim.Native.Nat.{ℕ}
 use lib.ListN.{length}
 use lib.Ieee as Ieee
 use lib.Ieee.{Float, binary32}
-use Rattle.types.specs.declared.Refusal.{Refusal}
 use Rattle.types.specs.declared.Answer.{Answer}
 use Rattle.types.specs.declared.Answer.the-variants as Answers
 use Rattle.types.specs.declared.CorrectionMode.{CorrectionMode}
@@ -25,23 +24,21 @@ use Rattle.descriptor.specs.Lent.{Lent}
 use Rattle.descriptor.specs.declared.Reading.{Reading}
 use Rattle.descriptor.specs.declared.LastDescriptor.{LastDescriptor}
 use Rattle.uncertainty_box.specs.Box.{withinUnertaintyBox}
-use Rattle.predictorcorrector.specs.State.{autoAdjusted, runGrown, stateCountsOk}
-use Rattle.predictorcorrector.specs.declared.PredictorCorrector.{PredictorCorrector}
 use Rattle.scoring.specs.Scores.{Written}
-use Rattle.candidate.specs.Candidate.{countedRows, countedRun}
-use Rattle.candidate.specs.declared.Counted.{Counted}
+use Rattle.candidate.specs.Candidate.{isCandidate, driftAt}
 use Rattle.detection.specs.Const.{zero32}
-use Rattle.detection.specs.Judging.{gap, recent, opening, noisePass, block, start, box, explained, triggered, withinBox, expected, newestOf, candidateState, isDataDrift, lateVerdict, gradedVerdict, verdict, runAfterMode, correctedScore, entered, after, relativeIndex, kept}
-use Rattle.detection.specs.Judged.{Judged, outcome, outcomeOf, stateAfter, indexAfter, written}
-use Rattle.detection.specs.Steps.{branch, late, Branching, Writing, Left, gradedWay, acceptedWay, wayOf, way, quiet, corrected, drifted, raised, lateOutcome, expectedOutcome}
+use Rattle.detection.specs.Judging.{gap, recent, opening, noisePass, block, start, box, explained, triggered, withinBox, expected, newestOf, isDriftMode, lateVerdict, gradedVerdict, decided, relativeIndex, kept}
+use Rattle.detection.specs.Judged.{outcomeOf, indexAfter, written}
+use Rattle.detection.specs.Decided.{noRow, newestExpected, rowAfter, driftOf, decision, Decided}
+use Rattle.detection.specs.Steps.{branch, late, Branching, Writing, gradedWay, acceptedWay, wayOf, way, lateOutcome, expectedOutcome, withoutRow}
 use Rattle.detection.specs.declared.Way.{Way}
 use Rattle.detection.specs.declared.Way.the-variants as Ways
 use Rattle.detection.specs.declared.Verdict.{Verdict}
 use Rattle.detection.specs.declared.Verdict.the-variants.{Quiet, Corrected, Raised, Skipped}
 use Rattle.detection.specs.declared.Outcome.{Outcome}
 use Rattle.detection.specs.declared.Outcome.the-variants.{Accepted, Refused}
-use Rattle.detection.specs.declared.Judgment.{Judgment}
-use Rattle.detection.proofs.Candidates.{NotDrift, mode-adjusts, not-drift}
+use Rattle.detection.specs.declared.Standing.{Standing}
+use Rattle.detection.specs.declared.Decision.{Decision}
 use Rattle.detection.proofs.Entry.{for-late, writing}
 
 pub expected-at : (r : Reading) (l : LastDescriptor) (b : Lent) (n : ℕ) → n ≡ start r l b → expectedPoint (b .high) (b .low) n (r .«base_dimension») (b .point) (b .median) ≡ expected r l b
@@ -49,145 +46,133 @@ unfolding expected
 expected-at r l b n e = ap (λ (m : ℕ). expectedPoint (b .high) (b .low) m (r .«base_dimension») (b .point) (b .median)) e
 
 -- ---- the outcome that a way leads to
-module _ (s : PredictorCorrector) (r : Reading) (l : LastDescriptor) (b : Lent) where
-  pub ended : Way → Outcome
+module _ (k : Standing) (r : Reading) (l : LastDescriptor) (b : Lent) where
+  unfoldable pub ended : Way → Outcome
   ended (Ways.Refused why) = Refused why
   ended Ways.Skipped = Accepted Skipped
   ended (Ways.Quiet t) = Accepted (Quiet t)
   ended (Ways.Corrected t m) = Accepted (Corrected t m)
-  ended (Ways.Past t g) = lateOutcome s r l b t g
+  ended (Ways.Past t g) = lateOutcome k r l b t g
 
   picks : (p q : Bool) (x y z : Way) (u v w : Verdict) → ended x ≡ Accepted u → ended y ≡ Accepted v → ended z ≡ Accepted w → ended (cond p x (cond q y z)) ≡ Accepted (cond p u (cond q v w))
-  picks true q x y z u v w h k m = h
-  picks false true x y z u v w h k m = k
-  picks false false x y z u v w h k m = m
+  picks true q x y z u v w h i m = h
+  picks false true x y z u v w h i m = i
+  picks false false x y z u v w h i m = m
 
-  graded-ended : (g : Graded) → ended (gradedWay r l b (s .«basic_thresholder») g) ≡ Accepted (gradedVerdict r l b s (g .threshold) (g .grade))
+  graded-ended : (g : Graded) → ended (gradedWay r l b (k .«basic_thresholder») g)
+      ≡ Accepted (gradedVerdict r l b (k .«basic_thresholder») (k .«auto_adjust») (driftOf r l b k (g .threshold)) (g .threshold) (g .grade))
   unfolding gradedWay gradedVerdict ended lateOutcome
   graded-ended g =
-      picks (recent r l b && Ieee.eq (opening (s .«basic_thresholder») r (r .«corrected_score») .grade) zero32) (Ieee.eq (Ieee.mul binary32 (g .grade) (noisePass r l b)) zero32) _ _ _ _ _ _ refl refl refl
+      picks (recent r l b && Ieee.eq (opening (k .«basic_thresholder») r (r .«corrected_score») .grade) zero32) (Ieee.eq (Ieee.mul binary32 (g .grade) (noisePass r l b)) zero32) _ _ _ _ _ _ refl refl refl
 
-  ended-by : (a : Answer) → ended (wayOf r l b (s .«basic_thresholder») a) ≡ outcomeOf s r l b a
-  unfolding wayOf acceptedWay outcomeOf verdict ended
+  ended-by : (a : Answer) → ended (wayOf r l b (k .«basic_thresholder») a)
+      ≡ outcomeOf (decided r l b (k .«basic_thresholder») (k .«auto_adjust») (driftOf r l b k (opening (k .«basic_thresholder») r (r .score) .threshold))) a
+  unfolding wayOf acceptedWay outcomeOf decided ended
   ended-by Answers.Done =
-      let g = opening (s .«basic_thresholder») r (r .score) in
+      let g = opening (k .«basic_thresholder») r (r .score) in
       picks (Ieee.eq (r .score) zero32) (Ieee.eq (g .grade) zero32) _ _ _ _ _ _ refl refl (graded-ended g)
   ended-by (Answers.Refused why) = refl
 
   -- ---- from what a way left to the contract
-  module _ (j : Judgment) (e h w e′ h′ w′ : List Float) where
-    pub left-judged : (y z : Way) → y ≡ way r l b (s .«basic_thresholder») (s .«base_dimension») (length e) (length h) (length w) (stateCountsOk s) → y ≡ z
-        → Left s r l b (ended z) j e h w e′ h′ w′ → Judged s r l b j e h w e′ h′ w′
-    unfolding way outcome
-    left-judged y z is at p =
-        let q : ended z ≡ outcome s r l b (length e) (length h) (length w) = ap ended (sym at ∙ is) ∙ ended-by (answerOf r l b (s .«base_dimension») (length e) (length h) (length w) (stateCountsOk s)) in
-        let k = subst (λ (o : Outcome). Left s r l b o j e h w e′ h′ w′) q p in
-        record { says = k .says; state = k .state; index = k .index; point = k .point; highs = k .highs; lows = k .lows }
+  pub way-decided : (j : Decision) (e h w e′ h′ w′ : List Float) (y z : Way)
+      → y ≡ way r l b (k .«basic_thresholder») (k .«base_dimension») (length e) (length h) (length w) (k .«counts_ok») → y ≡ z
+      → Decided r l b (ended z) j e h w e′ h′ w′ → Decided r l b (decision r l b k (length e) (length h) (length w)) j e h w e′ h′ w′
+  unfolding way decision
+  way-decided j e h w e′ h′ w′ y z is at p =
+      let q : ended z ≡ decision r l b k (length e) (length h) (length w) = ap ended (sym at ∙ is) ∙ ended-by (answerOf r l b (k .«base_dimension») (length e) (length h) (length w) (k .«counts_ok»)) in
+      subst (λ (o : Outcome). Decided r l b o j e h w e′ h′ w′) q p
+
+  -- ---- an outcome short of the candidate branch
+  abbrev Calm : Outcome → Type 0
+  Calm (Accepted (Quiet t)) = Unit
+  Calm (Accepted (Corrected t m)) = isDriftMode m ≡ false
+  Calm (Accepted (Raised t g)) = ⊥
+  Calm (Accepted Skipped) = Unit
+  Calm (Refused why) = Unit
 
   module _ (e h w : List Float) where
-    pub refused-left : (why : Refusal) → Left s r l b (ended (Ways.Refused why)) (record { outcome = Refused why; «relative_index» = pos 0; state = s }) e h w e h w
-    unfolding ended stateAfter indexAfter written
-    refused-left why = record { says = refl; state = refl; index = refl; point = refl; highs = refl; lows = refl }
-
-    pub skipped-left : Left s r l b (ended Ways.Skipped) (record { outcome = Accepted Skipped; «relative_index» = pos 0; state = s }) e h w e h w
-    unfolding ended stateAfter after indexAfter relativeIndex written kept
-    skipped-left = record { says = refl; state = refl; index = refl; point = refl; highs = refl; lows = refl }
-
-    pub quiet-left : (t : Float) (j : Judgment) → j ≡ quiet s r l t → Left s r l b (ended (Ways.Quiet t)) j e h w e h w
-    unfolding ended quiet stateAfter after indexAfter relativeIndex written kept
-    quiet-left t j q = record { says = ap (λ (x : Judgment). x .outcome) q; state = ap (λ (x : Judgment). x .state) q; index = ap (λ (x : Judgment). x .«relative_index») q; point = refl; highs = refl; lows = refl }
-
-    pub corrected-left : (t : Float) (m : CorrectionMode) (j : Judgment) → NotDrift m → j ≡ corrected s r l t m (b .point) → Left s r l b (Accepted (Corrected t m)) j e h w e h w
-    unfolding corrected stateAfter after indexAfter relativeIndex written kept
-    corrected-left t m j n q = record {
-      says = ap (λ (x : Judgment). x .outcome) q;
-      state = ap (λ (x : Judgment). x .state) q ∙ ap (λ (x : PredictorCorrector). entered x r l (correctedScore r l)) (mode-adjusts r l b s t m n);
-      index = ap (λ (x : Judgment). x .«relative_index») q;
+    pub calm-left : (o : Outcome) (j : Decision) → Calm o → j ≡ withoutRow o → Decided r l b o j e h w e h w
+    unfolding withoutRow indexAfter relativeIndex rowAfter written kept
+    calm-left (Accepted (Quiet t)) j c q = record { says = ap (λ (x : Decision). x .outcome) q; index = ap (λ (x : Decision). x .«relative_index») q; row = ap (λ (x : Decision). x .«newest_expected») q; point = refl; highs = refl; lows = refl }
+    calm-left (Accepted (Corrected t m)) j c q = record {
+      says = ap (λ (x : Decision). x .outcome) q;
+      index = ap (λ (x : Decision). x .«relative_index») q;
+      row = ap (λ (x : Decision). x .«newest_expected») q ∙ ap (λ (d : Bool). cond d (newestExpected r l b) noRow) (sym c);
       point = refl;
       highs = refl;
       lows = refl;
     }
+    calm-left (Accepted (Raised t g)) j c q = absurd c
+    calm-left (Accepted Skipped) j c q = record { says = ap (λ (x : Decision). x .outcome) q; index = ap (λ (x : Decision). x .«relative_index») q; row = ap (λ (x : Decision). x .«newest_expected») q; point = refl; highs = refl; lows = refl }
+    calm-left (Refused why) j c q = record { says = ap (λ (x : Decision). x .outcome) q; index = ap (λ (x : Decision). x .«relative_index») q; row = ap (λ (x : Decision). x .«newest_expected») q; point = refl; highs = refl; lows = refl }
 
-    -- Where the way up to the noise pass corrects.
-    pub corrected-ended : (t : Float) (m : CorrectionMode) (j : Judgment) (y : Way) → y ≡ way r l b (s .«basic_thresholder») (s .«base_dimension») (length e) (length h) (length w) (stateCountsOk s) → y ≡ Ways.Corrected t m
-        → j ≡ corrected s r l t m (b .point) → Left s r l b (ended (Ways.Corrected t m)) j e h w e h w
-    unfolding ended
-    corrected-ended t m j y is at q = corrected-left t m j (not-drift r l b (s .«basic_thresholder») (s .«base_dimension») (length e) (length h) (length w) (stateCountsOk s) y t m is at) q
+    -- ---- the candidate branch
+    pub drift-left : (t : Float) (row : List Float) → row ≡ newestExpected r l b
+        → Decided r l b (Accepted (Corrected t Modes.«DATA_DRIFT»)) (record { outcome = Accepted (Corrected t Modes.«DATA_DRIFT»); «relative_index» = pos 0; «newest_expected» = row }) e h w e h w
+    unfolding indexAfter relativeIndex rowAfter written kept
+    drift-left t row q = record { says = refl; index = refl; row = q; point = refl; highs = refl; lows = refl }
 
-    pub drifted-left : (t : Float) (c : PredictorCorrector) (j : Judgment) → c ≡ candidateState r l b s t → j ≡ drifted c r l t → Left s r l b (Accepted (Corrected t Modes.«DATA_DRIFT»)) j e h w e h w
-    unfolding drifted stateAfter after runAfterMode indexAfter relativeIndex written kept
-    drifted-left t c j is q = record {
-      says = ap (λ (x : Judgment). x .outcome) q;
-      state = ap (λ (x : Judgment). x .state) q ∙ ap (λ (x : PredictorCorrector). entered x r l (correctedScore r l)) is;
-      index = ap (λ (x : Judgment). x .«relative_index») q;
-      point = refl;
-      highs = refl;
-      lows = refl;
-    }
-
-    pub raised-left : (t g : Float) (c : PredictorCorrector) (k : ℕ) (j : Judgment) → c ≡ candidateState r l b s t → k ≡ block r l b → j ≡ raised c r l k t g
+    pub raised-left : (t g : Float) (i : ℤ) (row : List Float) (n : ℕ) → row ≡ newestExpected r l b → n ≡ block r l b → i ≡ (pos n -ℤ pos (r .«shingle_size») +ℤ pos 1)
         → (e′ h′ w′ : List Float) → (e′ ≡ expected r l b) × (h′ ≡ normalized (r .score) (b .high) (b .low) (b .high)) × (w′ ≡ normalized (r .score) (b .high) (b .low) (b .low))
-        → Left s r l b (Accepted (Raised t g)) j e h w e′ h′ w′
-    unfolding raised stateAfter after indexAfter relativeIndex written kept
-    raised-left t g c k j is at q e′ h′ w′ p =
-        let full = q ∙ (λ i. raised (is i) r l (at i) t g) in
-        record { says = ap (λ (x : Judgment). x .outcome) full; state = ap (λ (x : Judgment). x .state) full; index = ap (λ (x : Judgment). x .«relative_index») full; point = p .0; highs = p .1; lows = p .2 }
+        → Decided r l b (Accepted (Raised t g)) (record { outcome = Accepted (Raised t g); «relative_index» = i; «newest_expected» = row }) e h w e′ h′ w′
+    unfolding indexAfter relativeIndex rowAfter written kept
+    raised-left t g i row n q at is e′ h′ w′ p =
+        record { says = refl; index = is ∙ ap (λ (m : ℕ). pos m -ℤ pos (r .«shingle_size») +ℤ pos 1) at; row = q; point = p .0; highs = p .1; lows = p .2 }
+
+  -- Data drift by the newest rows.
+  pub drift-is : (t : Float) (d : Bool) (n x : List Float) → n ≡ newestOf r l b (b .point) → x ≡ newestOf r l b (expected r l b)
+      → d ≡ driftAt (isCandidate r l (k .«run_length») (r .«shingle_size») t) (k .«auto_adjust») (k .«run_length») (r .«base_dimension») (k .«last_actual») (k .«last_expected») n x (b .«difference_deviations»)
+      → d ≡ driftOf r l b k t
+  unfolding driftOf
+  drift-is t d n x p q h = h ∙ (λ i. driftAt (isCandidate r l (k .«run_length») (r .«shingle_size») t) (k .«auto_adjust») (k .«run_length») (r .«base_dimension») (k .«last_actual») (k .«last_expected») (p i) (q i) (b .«difference_deviations»))
 
   -- ---- from the expected point on
-  module _ (u : List Float) (t g : Float) (j : Judgment) (e h w e′ h′ w′ : List Float) where
-    pub at-forecast : withinUnertaintyBox u (start r l b) (b .scale) (b .point) (expected r l b) ≡ true → Left s r l b (Accepted (Corrected t Modes.FORECAST)) j e h w e′ h′ w′
-        → Left s r l b (expectedOutcome s r l b u t g) j e h w e′ h′ w′
+  module _ (u : List Float) (t g : Float) (j : Decision) (e h w e′ h′ w′ : List Float) where
+    pub at-forecast : withinUnertaintyBox u (start r l b) (b .scale) (b .point) (expected r l b) ≡ true → Decided r l b (Accepted (Corrected t Modes.FORECAST)) j e h w e′ h′ w′
+        → Decided r l b (expectedOutcome k r l b u t g) j e h w e′ h′ w′
     unfolding expectedOutcome
     at-forecast y p = rw y p
 
-    pub at-drift : withinUnertaintyBox u (start r l b) (b .scale) (b .point) (expected r l b) ≡ false → isDataDrift r l b s t ≡ true → Left s r l b (Accepted (Corrected t Modes.«DATA_DRIFT»)) j e h w e′ h′ w′
-        → Left s r l b (expectedOutcome s r l b u t g) j e h w e′ h′ w′
+    pub at-drift : withinUnertaintyBox u (start r l b) (b .scale) (b .point) (expected r l b) ≡ false → driftOf r l b k t ≡ true → Decided r l b (Accepted (Corrected t Modes.«DATA_DRIFT»)) j e h w e′ h′ w′
+        → Decided r l b (expectedOutcome k r l b u t g) j e h w e′ h′ w′
     unfolding expectedOutcome
     at-drift y z p = rw (y, z) p
 
-    pub at-raised : withinUnertaintyBox u (start r l b) (b .scale) (b .point) (expected r l b) ≡ false → isDataDrift r l b s t ≡ false → Left s r l b (Accepted (Raised t g)) j e h w e′ h′ w′
-        → Left s r l b (expectedOutcome s r l b u t g) j e h w e′ h′ w′
+    pub at-raised : withinUnertaintyBox u (start r l b) (b .scale) (b .point) (expected r l b) ≡ false → driftOf r l b k t ≡ false → Decided r l b (Accepted (Raised t g)) j e h w e′ h′ w′
+        → Decided r l b (expectedOutcome k r l b u t g) j e h w e′ h′ w′
     unfolding expectedOutcome
     at-raised y z p = rw (y, z) p
 
   -- ---- past the noise pass
-  module _ (t g : Float) (j : Judgment) (e h w e′ h′ w′ : List Float) where
-    pub at-explained : (s .«auto_adjust» && explained r l b) ≡ true → Left s r l b (Accepted (Corrected t Modes.«CONDITIONAL_FORECAST»)) j e h w e′ h′ w′ → Left s r l b (lateOutcome s r l b t g) j e h w e′ h′ w′
+  module _ (t g : Float) (j : Decision) (e h w e′ h′ w′ : List Float) where
+    pub at-explained : (k .«auto_adjust» && explained r l b) ≡ true → Decided r l b (Accepted (Corrected t Modes.«CONDITIONAL_FORECAST»)) j e h w e′ h′ w′ → Decided r l b (lateOutcome k r l b t g) j e h w e′ h′ w′
     unfolding lateOutcome lateVerdict
     at-explained y p = rw y p
 
-    pub at-shingle : (s .«auto_adjust» && explained r l b) ≡ false → (ltb (gap r l b) (r .«shingle_size») && not (triggered r l b t)) ≡ true
-        → Left s r l b (Accepted (Corrected t Modes.«ANOMALY_IN_SHINGLE»)) j e h w e′ h′ w′ → Left s r l b (lateOutcome s r l b t g) j e h w e′ h′ w′
+    pub at-shingle : (k .«auto_adjust» && explained r l b) ≡ false → (ltb (gap r l b) (r .«shingle_size») && not (triggered r l b t)) ≡ true
+        → Decided r l b (Accepted (Corrected t Modes.«ANOMALY_IN_SHINGLE»)) j e h w e′ h′ w′ → Decided r l b (lateOutcome k r l b t g) j e h w e′ h′ w′
     unfolding lateOutcome lateVerdict
     at-shingle y z p = rw (y, z) p
 
-    pub at-expected : (s .«auto_adjust» && explained r l b) ≡ false → (ltb (gap r l b) (r .«shingle_size») && not (triggered r l b t)) ≡ false
-        → (u : List Float) → u ≡ box r l b → Left s r l b (expectedOutcome s r l b u t g) j e h w e′ h′ w′ → Left s r l b (lateOutcome s r l b t g) j e h w e′ h′ w′
+    pub at-expected : (k .«auto_adjust» && explained r l b) ≡ false → (ltb (gap r l b) (r .«shingle_size») && not (triggered r l b t)) ≡ false
+        → (u : List Float) → u ≡ box r l b → Decided r l b (expectedOutcome k r l b u t g) j e h w e′ h′ w′ → Decided r l b (lateOutcome k r l b t g) j e h w e′ h′ w′
     unfolding lateOutcome lateVerdict expectedOutcome withinBox
-    at-expected y z u is p = rw (y, z) (subst (λ (v : List Float). Left s r l b (expectedOutcome s r l b v t g) j e h w e′ h′ w′) is p)
+    at-expected y z u is p = rw (y, z) (subst (λ (v : List Float). Decided r l b (expectedOutcome k r l b v t g) j e h w e′ h′ w′) is p)
 
   -- ---- what the exits past the noise pass ask
-  past-done : (t g : Float) (a : Answer) → wayOf r l b (s .«basic_thresholder») a ≡ Ways.Past t g → a ≡ Answers.Done
+  past-done : (t g : Float) (a : Answer) → wayOf r l b (k .«basic_thresholder») a ≡ Ways.Past t g → a ≡ Answers.Done
   unfolding wayOf
   past-done t g Answers.Done h = refl
   past-done t g (Answers.Refused why) h = absurd (let z : _≡_ {A = ℕ} 0 1 = cc in omega arith)
 
-  pub past-fits : (e h w : ℕ) (y : Way) (t g : Float) → y ≡ way r l b (s .«basic_thresholder») (s .«base_dimension») e h w (stateCountsOk s) → y ≡ Ways.Past t g
+  pub past-fits : (e h w : ℕ) (y : Way) (t g : Float) → y ≡ way r l b (k .«basic_thresholder») (k .«base_dimension») e h w (k .«counts_ok») → y ≡ Ways.Past t g
       → Branching r l (late (b .point) (b .scale) (b .shift) (b .«difference_deviations») (b .high) (b .low) (b .median) (b .«ideal_high») (b .«ideal_low») (b .neighbours))
       × Writing (late (b .point) (b .scale) (b .shift) (b .«difference_deviations») (b .high) (b .low) (b .median) (b .«ideal_high») (b .«ideal_low») (b .neighbours)) e h w
   unfolding way
   past-fits e h w y t g is at =
-      let d = past-done t g (answerOf r l b (s .«base_dimension») e h w (stateCountsOk s)) (sym is ∙ at) in
-      let f = writing r l b (s .«base_dimension») e h w (stateCountsOk s) d in
-      (for-late r l b (s .«base_dimension») e h w (stateCountsOk s) d, record { expected-long = f .expected-long; low-long = f .low-long; out-high-long = f .out-high-long; out-low-long = f .out-low-long })
-
-  -- ---- the candidate branch, for its expected point
-  pub run-is : (x : List Float) (threshold : Float) (c : Counted) → x ≡ expected r l b → c ≡ countedRun s r l (r .«shingle_size») threshold (b .point) x (b .«difference_deviations»)
-      → (c .drift ≡ isDataDrift r l b s threshold) × (c .state ≡ candidateState r l b s threshold)
-  unfolding countedRun countedRows isDataDrift candidateState newestOf
-  run-is x threshold c e q =
-      let p = q ∙ ap (λ (y : List Float). countedRun s r l (r .«shingle_size») threshold (b .point) y (b .«difference_deviations»)) e in
-      (ap (λ (y : Counted). y .drift) p, ap (λ (y : Counted). y .state) p)
+      let d = past-done t g (answerOf r l b (k .«base_dimension») e h w (k .«counts_ok»)) (sym is ∙ at) in
+      let f = writing r l b (k .«base_dimension») e h w (k .«counts_ok») d in
+      (for-late r l b (k .«base_dimension») e h w (k .«counts_ok») d, record { expected-long = f .expected-long; low-long = f .low-long; out-high-long = f .out-high-long; out-low-long = f .out-low-long })
 
   -- What is written past the last test: the lengths fit.
   pub buffers-are : (n : ℕ) → n ≡ start r l b → (e h w e′ h′ w′ : List Float)
@@ -209,58 +194,48 @@ branch-fits r l b f = record { shingle-most = f .shingle-most; base-most = f .ba
 pub branch-writes : (b : Lent) (e h w : ℕ) → Writing b e h w → Writing (branch (b .point) (b .scale) (b .«difference_deviations») (b .high) (b .low) (b .median)) e h w
 branch-writes b e h w f = record { expected-long = f .expected-long; low-long = f .low-long; out-high-long = f .out-high-long; out-low-long = f .out-low-long }
 
-record Alike (s : PredictorCorrector) (r : Reading) (l : LastDescriptor) (b b′ : Lent) : Type 0 where
-  points : b .point ≡ b′ .point
-  candidates : (t : Float) → candidateState r l b s t ≡ candidateState r l b′ s t
+-- What a stage's words hold of the buffers.
+record Alike (r : Reading) (l : LastDescriptor) (b b′ : Lent) : Type 0 where
   blocks : block r l b ≡ block r l b′
   expecteds : expected r l b ≡ expected r l b′
+  rows : newestExpected r l b ≡ newestExpected r l b′
   highs : b .high ≡ b′ .high
   lows : b .low ≡ b′ .low
 
-module _ (s : PredictorCorrector) (r : Reading) (l : LastDescriptor) (b b′ : Lent) (a : Alike s r l b b′) where
-  mode-moves : (t : Float) (m : CorrectionMode) → runAfterMode r l b s t m ≡ runAfterMode r l b′ s t m
-  unfolding runAfterMode
-  mode-moves t Modes.NONE = ap (autoAdjusted s) (a .points)
-  mode-moves t Modes.NOISE = ap (autoAdjusted s) (a .points)
-  mode-moves t Modes.«MULTI_MODE» = ap (autoAdjusted s) (a .points)
-  mode-moves t Modes.«ANOMALY_IN_SHINGLE» = ap (autoAdjusted s) (a .points)
-  mode-moves t Modes.«CONDITIONAL_FORECAST» = ap (autoAdjusted s) (a .points)
-  mode-moves t Modes.FORECAST = ap (autoAdjusted s) (a .points)
-  mode-moves t Modes.«DATA_DRIFT» = a .candidates t
-
-  state-moves : (o : Outcome) → stateAfter s r l b o ≡ stateAfter s r l b′ o
-  unfolding stateAfter after
-  state-moves (Refused why) = refl
-  state-moves (Accepted (Quiet t)) = refl
-  state-moves (Accepted (Corrected t m)) = ap (λ (x : PredictorCorrector). entered x r l (correctedScore r l)) (mode-moves t m)
-  state-moves (Accepted (Raised t g)) = ap (λ (x : PredictorCorrector). entered (runGrown x) r l (correctedScore r l)) (a .candidates t)
-  state-moves (Accepted Skipped) = refl
-
-  index-moves : (o : Outcome) → indexAfter s r l b o ≡ indexAfter s r l b′ o
+module _ (r : Reading) (l : LastDescriptor) (b b′ : Lent) (a : Alike r l b b′) where
+  index-moves : (o : Outcome) → indexAfter r l b o ≡ indexAfter r l b′ o
   unfolding indexAfter relativeIndex
   index-moves (Refused why) = refl
   index-moves (Accepted (Quiet t)) = refl
   index-moves (Accepted (Corrected t m)) = refl
-  index-moves (Accepted (Raised t g)) = ap (λ (k : ℕ). pos k -ℤ pos (r .«shingle_size») +ℤ pos 1) (a .blocks)
+  index-moves (Accepted (Raised t g)) = ap (λ (n : ℕ). pos n -ℤ pos (r .«shingle_size») +ℤ pos 1) (a .blocks)
   index-moves (Accepted Skipped) = refl
 
-  left-moves : (o o′ : Outcome) → o ≡ o′ → (j : Judgment) (e h w e′ h′ w′ : List Float) → Left s r l b o j e h w e′ h′ w′ → Left s r l b′ o′ j e h w e′ h′ w′
-  left-moves o o′ q j e h w e′ h′ w′ p = subst (λ (x : Outcome). Left s r l b′ x j e h w e′ h′ w′) q (record {
+  row-moves : (o : Outcome) → rowAfter r l b o ≡ rowAfter r l b′ o
+  unfolding rowAfter
+  row-moves (Refused why) = refl
+  row-moves (Accepted (Quiet t)) = refl
+  row-moves (Accepted (Corrected t m)) = ap (λ (x : List Float). cond (isDriftMode m) x noRow) (a .rows)
+  row-moves (Accepted (Raised t g)) = a .rows
+  row-moves (Accepted Skipped) = refl
+
+  left-moves : (o o′ : Outcome) → o ≡ o′ → (j : Decision) (e h w e′ h′ w′ : List Float) → Decided r l b o j e h w e′ h′ w′ → Decided r l b′ o′ j e h w e′ h′ w′
+  left-moves o o′ q j e h w e′ h′ w′ p = subst (λ (x : Outcome). Decided r l b′ x j e h w e′ h′ w′) q (record {
     says = p .says;
-    state = p .state ∙ state-moves o;
     index = p .index ∙ index-moves o;
+    row = p .row ∙ row-moves o;
     point = p .point ∙ ap (written o e) (a .expecteds);
     highs = p .highs ∙ (λ i. written o h (normalized (r .score) (a .highs i) (a .lows i) (a .highs i)));
     lows = p .lows ∙ (λ i. written o w (normalized (r .score) (a .highs i) (a .lows i) (a .lows i)));
   })
 
-module _ (s : PredictorCorrector) (r : Reading) (l : LastDescriptor) (b : Lent) (t g : Float) (j : Judgment) (e h w e′ h′ w′ : List Float) where
-  pub late-lent : Left s r l (late (b .point) (b .scale) (b .shift) (b .«difference_deviations») (b .high) (b .low) (b .median) (b .«ideal_high») (b .«ideal_low») (b .neighbours)) (lateOutcome s r l (late (b .point) (b .scale) (b .shift) (b .«difference_deviations») (b .high) (b .low) (b .median) (b .«ideal_high») (b .«ideal_low») (b .neighbours)) t g) j e h w e′ h′ w′
-      → Left s r l b (ended s r l b (Ways.Past t g)) j e h w e′ h′ w′
-  unfolding ended lateOutcome lateVerdict explained box start block gap triggered withinBox expected isDataDrift candidateState newestOf
-  late-lent p = left-moves s r l _ b (record { points = refl; candidates = λ x. refl; blocks = refl; expecteds = refl; highs = refl; lows = refl }) _ _ refl j e h w e′ h′ w′ p
+module _ (k : Standing) (r : Reading) (l : LastDescriptor) (b : Lent) (t g : Float) (j : Decision) (e h w e′ h′ w′ : List Float) where
+  pub late-lent : Decided r l (late (b .point) (b .scale) (b .shift) (b .«difference_deviations») (b .high) (b .low) (b .median) (b .«ideal_high») (b .«ideal_low») (b .neighbours)) (lateOutcome k r l (late (b .point) (b .scale) (b .shift) (b .«difference_deviations») (b .high) (b .low) (b .median) (b .«ideal_high») (b .«ideal_low») (b .neighbours)) t g) j e h w e′ h′ w′
+      → Decided r l b (ended k r l b (Ways.Past t g)) j e h w e′ h′ w′
+  unfolding ended lateOutcome lateVerdict explained box start block gap triggered withinBox expected driftOf newestExpected newestOf
+  late-lent p = left-moves r l _ b (record { blocks = refl; expecteds = refl; rows = refl; highs = refl; lows = refl }) _ _ refl j e h w e′ h′ w′ p
 
-  pub branch-lent : (u : List Float) → Left s r l (branch (b .point) (b .scale) (b .«difference_deviations») (b .high) (b .low) (b .median)) (expectedOutcome s r l (branch (b .point) (b .scale) (b .«difference_deviations») (b .high) (b .low) (b .median)) u t g) j e h w e′ h′ w′
-      → Left s r l b (expectedOutcome s r l b u t g) j e h w e′ h′ w′
-  unfolding expectedOutcome start block gap expected isDataDrift candidateState newestOf
-  branch-lent u p = left-moves s r l _ b (record { points = refl; candidates = λ x. refl; blocks = refl; expecteds = refl; highs = refl; lows = refl }) _ _ refl j e h w e′ h′ w′ p
+  pub branch-lent : (u : List Float) → Decided r l (branch (b .point) (b .scale) (b .«difference_deviations») (b .high) (b .low) (b .median)) (expectedOutcome k r l (branch (b .point) (b .scale) (b .«difference_deviations») (b .high) (b .low) (b .median)) u t g) j e h w e′ h′ w′
+      → Decided r l b (expectedOutcome k r l b u t g) j e h w e′ h′ w′
+  unfolding expectedOutcome start block gap expected driftOf newestExpected newestOf
+  branch-lent u p = left-moves r l _ b (record { blocks = refl; expecteds = refl; rows = refl; highs = refl; lows = refl }) _ _ refl j e h w e′ h′ w′ p

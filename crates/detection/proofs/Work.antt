@@ -1,18 +1,20 @@
 -- Parts of local work arrays that a call wrote, and what the leaves' contracts give where the lengths fit. Assumes nothing.
 use mathlib.Core.Path.{_≡_, refl, sym, ap, _∙_}
 use mathlib.Core.Bool.{Bool, true, false, cond, not, _||_}
-use mathlib.Core.List.{List, _∷_, _++_}
-use Prim.Native.Nat.{ℕ, zero, suc, _≤_}
+use mathlib.Core.List.{List, [], _∷_, _++_}
+use Prim.Native.Nat.{ℕ, zero, suc, _+_, _-_, _≤_, _<_}
 use native.Mathlib.Nat.{le-of-suc-le-suc, not-suc-le-zero}
+use native.Mathlib.Omega.{arith}
 use lib.Dec.{ltb}
 use lib.IntN.{ℤ}
-use lib.ListN.{length, take, drop, replicate}
-use lib.Seq.{take-at}
+use lib.ListN.{length, take, drop, getD, set, replicate, length-drop}
+use lib.Seq.{take-at, take-all, paste}
 use borrow.Author.Tests.{leb-false, lt-ltb}
 use lib.Ieee.{Float}
 use Rattle.corrector.specs.Corrector.{correctorFits, applyBasicCorrector, expectedFits}
 use Rattle.corrector.specs.Steps.{Correcting, Expecting}
 use Rattle.corrector.proofs.Kept.{corrects, expects}
+use Rattle.corrector.proofs.Laws.{paste-more}
 use Rattle.detection.specs.Judging.{isRecent}
 
 -- The front that a call wrote, of a work array.
@@ -49,3 +51,19 @@ not-recent point gap shingle base false e a i u t k = pick (ltb shingle gap) _
     pick true z = refl
     pick false z = refl
 not-recent point gap shingle base true e a i u t k = rw (lt-ltb shingle gap (leb-false gap shingle k))
+
+-- A part with a start, to its end.
+pub tail-is : {A : Type 0} (xs : List A) (n : ℕ) → take (length xs - n) (drop n xs) ≡ drop n xs
+tail-is xs n = take-all (length xs - n) (drop n xs) (simp length-drop (omega arith))
+
+-- An element that is there does not depend on the default.
+pub getD-any : {A : Type 0} (xs : List A) (i : ℕ) (a c : A) → i < length xs → getD xs i a ≡ getD xs i c
+getD-any [] i a c h = absurd (not-suc-le-zero h)
+getD-any (x ∷ xs) zero a c h = refl
+getD-any (x ∷ xs) (suc i) a c h = getD-any xs i a c (le-of-suc-le-suc h)
+
+-- A turn of the loop that copies a row.
+pub row-more : {A : Type 0} (out d s : List A) (from k : ℕ) (z : A) → k < length d → from + k < length s → out ≡ paste d 0 (drop from s) k → set out k (getD s (from + k) z) ≡ paste d 0 (drop from s) (k + 1)
+row-more out d s from k z h i e =
+    let first : 0 + k ≡ k = omega arith in
+    ap (λ (n : ℕ). set out n (getD s (from + k) z)) (sym first) ∙ paste-more out d 0 s from k z (omega arith) i e

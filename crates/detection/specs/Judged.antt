@@ -27,23 +27,24 @@ abbrev pub outcomeNumber : Outcome → ℕ
 outcomeNumber (Accepted v) = 0
 outcomeNumber (Refused why) = number why
 
-module _ (s : PredictorCorrector) (r : Reading) (l : LastDescriptor) (b : Lent) where
-  -- The smallest refusal that applies, or the verdict. The three numbers are the lengths of the buffers that may be written.
-  unfoldable pub outcomeOf : Answer → Outcome
-  outcomeOf Answers.Done = Accepted (verdict r l b s)
-  outcomeOf (Answers.Refused why) = Refused why
+-- The smallest refusal that applies, or the verdict.
+unfoldable pub outcomeOf : Verdict → Answer → Outcome
+outcomeOf v Answers.Done = Accepted v
+outcomeOf v (Answers.Refused why) = Refused why
 
+module _ (s : PredictorCorrector) (r : Reading) (l : LastDescriptor) (b : Lent) where
+  -- The three numbers are the lengths of the buffers that may be written.
   unfoldable pub outcome : ℕ → ℕ → ℕ → Outcome
-  outcome e h w = outcomeOf (answerOf r l b (s .«base_dimension») e h w (stateCountsOk s))
+  outcome e h w = outcomeOf (verdict r l b s) (answerOf r l b (s .«base_dimension») e h w (stateCountsOk s))
 
   -- A refusal leaves state and buffers as they came.
   unfoldable pub stateAfter : Outcome → PredictorCorrector
   stateAfter (Accepted v) = after r l b s v
   stateAfter (Refused why) = s
 
-  unfoldable pub indexAfter : Outcome → ℤ
-  indexAfter (Accepted v) = relativeIndex r l b v
-  indexAfter (Refused why) = pos 0
+unfoldable pub indexAfter : Reading → LastDescriptor → Lent → Outcome → ℤ
+indexAfter r l b (Accepted v) = relativeIndex r l b v
+indexAfter r l b (Refused why) = pos 0
 
 -- What stands in a buffer afterwards.
 unfoldable pub written : Outcome → List Float → List Float → List Float
@@ -54,7 +55,7 @@ written (Refused why) old new = old
 pub record Judged (s : PredictorCorrector) (r : Reading) (l : LastDescriptor) (b : Lent) (j : Judgment) (e h w e′ h′ w′ : List Float) : Type 0 where
   pub says : j .outcome ≡ outcome s r l b (length e) (length h) (length w)
   pub state : j .state ≡ stateAfter s r l b (outcome s r l b (length e) (length h) (length w))
-  pub index : j .«relative_index» ≡ indexAfter s r l b (outcome s r l b (length e) (length h) (length w))
+  pub index : j .«relative_index» ≡ indexAfter r l b (outcome s r l b (length e) (length h) (length w))
   pub point : e′ ≡ written (outcome s r l b (length e) (length h) (length w)) e (expected r l b)
   pub highs : h′ ≡ written (outcome s r l b (length e) (length h) (length w)) h (normalized (r .score) (b .high) (b .low) (b .high))
   pub lows : w′ ≡ written (outcome s r l b (length e) (length h) (length w)) w (normalized (r .score) (b .high) (b .low) (b .low))

@@ -1,7 +1,7 @@
 -- `detect_and_modify` exit by exit: what the watch says of an accepted reading, and the state and buffers that it leaves.
 -- Its leaves are in `crates/scoring` and `crates/candidate`, and pass through here.
 use Prim.Native.Nat.{ℕ, _-_, _*_}
-use mathlib.Core.Bool.{Bool, cond, _&&_, not}
+use mathlib.Core.Bool.{Bool, true, false, cond, _&&_, not}
 use mathlib.Core.List.{List}
 use lib.Dec.{ltb}
 use lib.IntN.{ℤ, pos, _+ℤ_, _-ℤ_}
@@ -10,8 +10,8 @@ use lib.Ieee as Ieee
 use lib.Ieee.{Float, binary32}
 use Rattle.types.specs.Codes.{isDifferenced}
 use Rattle.types.specs.declared.CorrectionMode.{CorrectionMode}
-use Rattle.types.specs.declared.CorrectionMode.the-variants as Modes
-use Rattle.types.specs.declared.CorrectionMode.the-variants.{NOISE, «ANOMALY_IN_SHINGLE», «CONDITIONAL_FORECAST», FORECAST, «DATA_DRIFT»}
+use Rattle.types.specs.declared.CorrectionMode.the-variants.{NONE, NOISE, «MULTI_MODE», «ANOMALY_IN_SHINGLE», «CONDITIONAL_FORECAST», FORECAST, «DATA_DRIFT»}
+use Rattle.basicthresholder.specs.declared.BasicThresholder.{BasicThresholder}
 use Rattle.divector.specs.DiVector.{maxGapContribution}
 use Rattle.uncertainty_box.specs.Box.{uncertaintyBox, withinUnertaintyBox, explainedByConditionalField}
 use Rattle.uncertainty_box.specs.Pass.{centeredTransformPass}
@@ -21,11 +21,21 @@ use Rattle.descriptor.specs.declared.Reading.{Reading}
 use Rattle.descriptor.specs.declared.LastDescriptor.{LastDescriptor}
 use Rattle.predictorcorrector.specs.State.{runEnded, autoAdjusted, runGrown}
 use Rattle.predictorcorrector.specs.declared.PredictorCorrector.{PredictorCorrector}
-unfoldable pub use Rattle.scoring.specs.Scores.{gapOf, isRecent, opening, correctedScore, entered, blockOf}
+unfoldable pub use Rattle.scoring.specs.Scores.{gapOf, isRecent, opening, correctedScore, updateScore, entered, blockOf}
 unfoldable pub use Rattle.candidate.specs.Candidate.{isCandidate, candidateWith, isDrift}
 use Rattle.detection.specs.Const.{zero32}
 use Rattle.detection.specs.declared.Verdict.{Verdict}
 use Rattle.detection.specs.declared.Verdict.the-variants.{Quiet, Corrected, Raised, Skipped}
+
+-- The mode of the candidate branch, which counts the newest rows; the others count the oldest.
+abbrev pub isDriftMode : CorrectionMode → Bool
+isDriftMode NONE = false
+isDriftMode NOISE = false
+isDriftMode «MULTI_MODE» = false
+isDriftMode «ANOMALY_IN_SHINGLE» = false
+isDriftMode «CONDITIONAL_FORECAST» = false
+isDriftMode FORECAST = false
+isDriftMode «DATA_DRIFT» = true
 
 module _ (r : Reading) (l : LastDescriptor) (b : Lent) where
   unfoldable pub gap : ℕ
@@ -83,42 +93,36 @@ module _ (r : Reading) (l : LastDescriptor) (b : Lent) where
   isDataDrift s threshold =
       isDrift (isCandidate r l (s .«run_length») (r .«shingle_size») threshold) s (candidateState s threshold) (r .«base_dimension») (newestOf (b .point)) (newestOf expected) (b .«difference_deviations»)
 
-  -- The exits past the noise pass.
-  unfoldable pub lateVerdict : PredictorCorrector → Float → Float → Verdict
-  lateVerdict s threshold working =
-      cond (s .«auto_adjust» && explained) (Corrected threshold «CONDITIONAL_FORECAST»)
+  -- The exits past the noise pass. `drift`: whether the last of them is data drift.
+  unfoldable pub lateVerdict : (auto drift : Bool) → Float → Float → Verdict
+  lateVerdict auto drift threshold working =
+      cond (auto && explained) (Corrected threshold «CONDITIONAL_FORECAST»)
       (cond (ltb gap (r .«shingle_size») && not (triggered threshold)) (Corrected threshold «ANOMALY_IN_SHINGLE»)
       (cond withinBox (Corrected threshold FORECAST)
-      (cond (isDataDrift s threshold) (Corrected threshold «DATA_DRIFT») (Raised threshold working))))
+      (cond drift (Corrected threshold «DATA_DRIFT») (Raised threshold working))))
 
   -- The exits past an opening grade above 0.
-  unfoldable pub gradedVerdict : PredictorCorrector → Float → Float → Verdict
-  gradedVerdict s threshold grade =
+  unfoldable pub gradedVerdict : BasicThresholder → (auto drift : Bool) → Float → Float → Verdict
+  gradedVerdict t auto drift threshold grade =
       let working = Ieee.mul binary32 grade noisePass in
-      cond (recent && Ieee.eq (opening (s .«basic_thresholder») r (r .«corrected_score») .grade) zero32) (Corrected threshold «ANOMALY_IN_SHINGLE»)
-      (cond (Ieee.eq working zero32) (Corrected threshold NOISE) (lateVerdict s threshold working))
+      cond (recent && Ieee.eq (opening t r (r .«corrected_score») .grade) zero32) (Corrected threshold «ANOMALY_IN_SHINGLE»)
+      (cond (Ieee.eq working zero32) (Corrected threshold NOISE) (lateVerdict auto drift threshold working))
 
-  -- What the watch says of an accepted reading.
-  unfoldable pub verdict : PredictorCorrector → Verdict
-  verdict s =
-      let opened = opening (s .«basic_thresholder») r (r .score) in
+  -- The way of an accepted reading.
+  unfoldable pub decided : BasicThresholder → (auto drift : Bool) → Verdict
+  decided t auto drift =
+      let opened = opening t r (r .score) in
       cond (Ieee.eq (r .score) zero32) Skipped
-      (cond (Ieee.eq (opened .grade) zero32) (Quiet (opened .threshold)) (gradedVerdict s (opened .threshold) (opened .grade)))
+      (cond (Ieee.eq (opened .grade) zero32) (Quiet (opened .threshold)) (gradedVerdict t auto drift (opened .threshold) (opened .grade)))
 
-  -- The run and the two lists after a verdict: statistics of scores apart.
-  unfoldable pub runAfterMode : PredictorCorrector → Float → CorrectionMode → PredictorCorrector
-  runAfterMode s threshold Modes.NONE = autoAdjusted s (b .point)
-  runAfterMode s threshold Modes.NOISE = autoAdjusted s (b .point)
-  runAfterMode s threshold Modes.«MULTI_MODE» = autoAdjusted s (b .point)
-  runAfterMode s threshold Modes.«ANOMALY_IN_SHINGLE» = autoAdjusted s (b .point)
-  runAfterMode s threshold Modes.«CONDITIONAL_FORECAST» = autoAdjusted s (b .point)
-  runAfterMode s threshold Modes.FORECAST = autoAdjusted s (b .point)
-  runAfterMode s threshold Modes.«DATA_DRIFT» = candidateState s threshold
+  -- What the watch says of it.
+  unfoldable pub verdict : PredictorCorrector → Verdict
+  verdict s = decided (s .«basic_thresholder») (s .«auto_adjust») (isDataDrift s (opening (s .«basic_thresholder») r (r .score) .threshold))
 
   -- The state after a verdict.
   unfoldable pub after : PredictorCorrector → Verdict → PredictorCorrector
   after s (Quiet t) = entered (runEnded s) r l (r .score)
-  after s (Corrected t m) = entered (runAfterMode s t m) r l (correctedScore r l)
+  after s (Corrected t m) = entered (cond (isDriftMode m) (candidateState s t) (autoAdjusted s (b .point))) r l (correctedScore r l)
   after s (Raised t g) = entered (runGrown (candidateState s t)) r l (correctedScore r l)
   after s Skipped = s
 

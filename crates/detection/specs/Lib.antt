@@ -1,4 +1,5 @@
 pub mod Const
 pub mod Judging
 pub mod Judged
+pub mod Decided
 pub mod Steps

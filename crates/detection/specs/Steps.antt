@@ -1,15 +1,14 @@
 -- What the private stages ask of their buffers and promise each other: a reader need not read it. Every accepted reading gives it (proofs/Entry.antt).
 use mathlib.Core.Path.{_≡_}
-use Prim.Native.Nat.{ℕ, _≤_}
+use Prim.Native.Nat.{ℕ, _-_, _≤_}
 use mathlib.Core.Bool.{Bool, cond, _&&_}
 use mathlib.Core.List.{List, []}
-use lib.IntN.{pos, _+ℤ_, _-ℤ_}
-use lib.ListN.{length}
+use lib.IntN.{pos}
+use lib.ListN.{length, take, drop}
 use lib.Ieee as Ieee
 use lib.Ieee.{Float, binary32}
 use Rattle.types.specs.declared.Answer.{Answer}
 use Rattle.types.specs.declared.Answer.the-variants as Answers
-use Rattle.types.specs.declared.CorrectionMode.{CorrectionMode}
 use Rattle.types.specs.declared.CorrectionMode.the-variants.{NOISE, «ANOMALY_IN_SHINGLE», FORECAST, «DATA_DRIFT»}
 use Rattle.basicthresholder.specs.declared.BasicThresholder.{BasicThresholder}
 use Rattle.basicthresholder.specs.declared.Graded.{Graded}
@@ -19,18 +18,19 @@ use Rattle.descriptor.specs.Checks.{answerOf}
 use Rattle.descriptor.specs.Lent.{Lent, lent}
 use Rattle.descriptor.specs.declared.Reading.{Reading}
 use Rattle.descriptor.specs.declared.LastDescriptor.{LastDescriptor}
-use Rattle.divector.specs.DiVector.{normalized}
 use Rattle.predictorcorrector.specs.State.{runEnded, autoAdjusted, runGrown}
 use Rattle.predictorcorrector.specs.declared.PredictorCorrector.{PredictorCorrector}
 use Rattle.detection.specs.Const.{zero32}
-use Rattle.detection.specs.Judging.{gapOf, recent, opening, noisePass, start, block, isDataDrift, expected, lateVerdict, correctedScore, entered}
-use Rattle.detection.specs.Judged.{stateAfter, indexAfter, written}
+use Rattle.detection.specs.Judging.{gapOf, recent, opening, noisePass, start, block, expected, lateVerdict, isDriftMode, isCandidate, candidateWith, correctedScore, entered}
+use Rattle.detection.specs.Decided.{noRow, driftOf}
 use Rattle.detection.specs.declared.Way.{Way}
 use Rattle.detection.specs.declared.Way.the-variants as Ways
+use Rattle.detection.specs.declared.Verdict.{Verdict}
 use Rattle.detection.specs.declared.Verdict.the-variants.{Quiet, Corrected, Raised, Skipped}
 use Rattle.detection.specs.declared.Outcome.{Outcome}
 use Rattle.detection.specs.declared.Outcome.the-variants.{Accepted, Refused}
-use Rattle.detection.specs.declared.Judgment.{Judgment}
+use Rattle.detection.specs.declared.Standing.{Standing}
+use Rattle.detection.specs.declared.Decision.{Decision}
 
 -- The buffers that a stage is lent; the others are left empty, and its definitions do not look at them.
 abbrev pub passing : List Float → List Float → List Float → List Float → List Float → List Float → Lent
@@ -82,35 +82,43 @@ module _ (r : Reading) (l : LastDescriptor) (b : Lent) (t : BasicThresholder) wh
   unfoldable pub way : ℕ → ℕ → ℕ → ℕ → Bool → Way
   way base e h w ok = wayOf (answerOf r l b base e h w ok)
 
--- ---- the judgment of each end
+-- ---- past it
+module _ (k : Standing) (r : Reading) (l : LastDescriptor) (b : Lent) where
+  unfoldable pub lateOutcome : Float → Float → Outcome
+  lateOutcome t g = Accepted (lateVerdict r l b (k .«auto_adjust») (driftOf r l b k t) t g)
+
+  -- From the expected point on, for the box u.
+  unfoldable pub expectedOutcome : List Float → Float → Float → Outcome
+  expectedOutcome u t g =
+      Accepted (cond (withinUnertaintyBox u (start r l b) (b .scale) (b .point) (expected r l b)) (Corrected t FORECAST)
+      (cond (driftOf r l b k t) (Corrected t «DATA_DRIFT») (Raised t g)))
+
+-- ---- an outcome short of the candidate branch
+unfoldable pub withoutRow : Outcome → Decision
+withoutRow o = record { outcome = o; «relative_index» = pos 0; «newest_expected» = noRow }
+
+-- ---- what a verdict does to the state, by the point and the newest row of its expected point
+pub record Counting (r : Reading) (point : ℕ) : Type 0 where
+  pub shingle-most : r .«shingle_size» ≤ 64
+  pub base-most : r .«base_dimension» ≤ 16
+  pub inside : r .«base_dimension» ≤ point
+
+abbrev pub Fitting : Reading → ℕ → Outcome → Type 0
+Fitting r point (Accepted v) = Counting r point
+Fitting r point (Refused why) = Unit
+
 module _ (s : PredictorCorrector) (r : Reading) (l : LastDescriptor) where
-  unfoldable pub quiet : Float → Judgment
-  quiet t = record { outcome = Accepted (Quiet t); «relative_index» = pos 0; state = entered (runEnded s) r l (r .score) }
+  unfoldable pub rowsCounted : Float → List Float → List Float → PredictorCorrector
+  rowsCounted threshold point row =
+      candidateWith (isCandidate r l (s .«run_length») (r .«shingle_size») threshold) s (drop (length point - r .«base_dimension») point) (take (r .«base_dimension») row)
 
-  unfoldable pub corrected : Float → CorrectionMode → List Float → Judgment
-  corrected t m point = record { outcome = Accepted (Corrected t m); «relative_index» = pos 0; state = entered (autoAdjusted s point) r l (correctedScore r l) }
+  module _ (point row : List Float) where
+    unfoldable pub afterRows : Verdict → PredictorCorrector
+    afterRows (Quiet t) = entered (runEnded s) r l (r .score)
+    afterRows (Corrected t m) = entered (cond (isDriftMode m) (rowsCounted t point row) (autoAdjusted s point)) r l (correctedScore r l)
+    afterRows (Raised t g) = entered (runGrown (rowsCounted t point row)) r l (correctedScore r l)
+    afterRows Skipped = s
 
-  unfoldable pub drifted : Float → Judgment
-  drifted t = record { outcome = Accepted (Corrected t «DATA_DRIFT»); «relative_index» = pos 0; state = entered s r l (correctedScore r l) }
-
-  unfoldable pub raised : ℕ → Float → Float → Judgment
-  raised k t g = record { outcome = Accepted (Raised t g); «relative_index» = pos k -ℤ pos (r .«shingle_size») +ℤ pos 1; state = entered (runGrown s) r l (correctedScore r l) }
-
-  module _ (b : Lent) where
-    unfoldable pub lateOutcome : Float → Float → Outcome
-    lateOutcome t g = Accepted (lateVerdict r l b s t g)
-
-    -- From the expected point on, for the box u.
-    unfoldable pub expectedOutcome : List Float → Float → Float → Outcome
-    expectedOutcome u t g =
-        Accepted (cond (withinUnertaintyBox u (start r l b) (b .scale) (b .point) (expected r l b)) (Corrected t FORECAST)
-        (cond (isDataDrift r l b s t) (Corrected t «DATA_DRIFT») (Raised t g)))
-
-    -- What judging leaves, for the outcome o.
-    pub record Left (o : Outcome) (j : Judgment) (e h w e′ h′ w′ : List Float) : Type 0 where
-      pub says : j .outcome ≡ o
-      pub state : j .state ≡ stateAfter s r l b o
-      pub index : j .«relative_index» ≡ indexAfter s r l b o
-      pub point : e′ ≡ written o e (expected r l b)
-      pub highs : h′ ≡ written o h (normalized (r .score) (b .high) (b .low) (b .high))
-      pub lows : w′ ≡ written o w (normalized (r .score) (b .high) (b .low) (b .low))
+    unfoldable pub stateRows : Outcome → PredictorCorrector
+    stateRows (Accepted v) = afterRows v
+    stateRows (Refused why) = s

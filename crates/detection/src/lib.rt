@@ -3,15 +3,19 @@ use basicthresholder::BasicThresholder;
 use basicthresholder::Graded;
 use descriptor::LastDescriptor;
 use descriptor::Reading;
+use deviation::Deviation;
 use predictorcorrector::PredictorCorrector;
 use types::Answer;
 use types::CorrectionMode;
 use types::Refusal;
 ghost use mathlib.Core.Path.{_≡_};
-ghost use Prim.Native.Nat.{_≤_, _*_};
+ghost use Prim.Native.Nat.{_≤_, _*_, _+_, _-_};
 ghost use lib.IntN.{pos, _+ℤ_, _-ℤ_};
-ghost use lib.ListN.{length, take, replicate};
+ghost use lib.ListN.{length, take, drop, getD, replicate};
+ghost use lib.Seq.{paste};
 ghost use Rattle.types.specs.Codes.{isDifferenced};
+ghost use Rattle.deviation.specs.Const.{zero64};
+ghost use Rattle.deviation.specs.Statistics.{fresh};
 ghost use Rattle.uncertainty_box.specs.Box as Box;
 ghost use Rattle.uncertainty_box.specs.Pass as Pass;
 ghost use Rattle.corrector.specs.Corrector as Corrector;
@@ -20,6 +24,7 @@ ghost use Rattle.descriptor.specs.Lent.{lent};
 ghost use Rattle.detection.specs.Const.{zero32};
 ghost use Rattle.detection.specs.Judging as Judging;
 ghost use Rattle.detection.specs.Judged as Judged;
+ghost use Rattle.detection.specs.Decided as Decided;
 ghost use Rattle.detection.specs.Steps as Steps;
 
 // What the watch says of an accepted reading.
@@ -33,6 +38,24 @@ pub enum Verdict {
 pub enum Outcome {
     Accepted(Verdict),
     Refused(Refusal),
+}
+
+// How a state stands: all that judging looks at. Of the two lists the last entries alone decide.
+pub struct Standing {
+    pub basic_thresholder: BasicThresholder,
+    pub auto_adjust: bool,
+    pub run_length: u32,
+    pub base_dimension: usize,
+    pub counts_ok: bool,
+    pub last_actual: Deviation,
+    pub last_expected: Deviation,
+}
+
+// The outcome, with the relative index of a raised reading and, where the candidate branch is reached, the newest row of the expected point.
+pub struct Decision {
+    pub outcome: Outcome,
+    pub relative_index: i32,
+    pub newest_expected: [f32; 16],
 }
 
 // The outcome, with the relative index of a raised reading and the state beside it.
@@ -237,7 +260,7 @@ fn find_way(
     if let Answer::Refused(why) = answer {
         return Way::Refused(why);
     }
-    if r.score == 0.0 {
+    if scoring::is_skipped(r.score) {
         return Way::Skipped;
     }
     let opened = scoring::opening(t, r, r.score);
@@ -258,68 +281,34 @@ fn find_way(
     )
 }
 
-// The judgment of a quiet reading: the run ends.
-fn quiet(s: PredictorCorrector, r: Reading, l: LastDescriptor, threshold: f32) -> Judgment
-    ensures { λ j. ⌜ j ≡ Steps.quiet s r l threshold ⌝ }
+// An outcome short of the candidate branch.
+fn without_row(outcome: Outcome) -> Decision
+    ensures { λ j. ⌜ j ≡ Steps.withoutRow outcome ⌝ }
 {
-    Judgment {
-        outcome: Outcome::Accepted(Verdict::Quiet(threshold)),
+    Decision {
+        outcome,
         relative_index: 0,
-        state: scoring::entered(s.run_ended(), r, l, r.score),
+        newest_expected: sixteen(),
     }
 }
 
-// Of a corrected reading, data drift apart: `update_auto_adjust`.
-fn corrected(
-    s: PredictorCorrector,
-    r: Reading,
-    l: LastDescriptor,
-    threshold: f32,
-    mode: CorrectionMode,
-    point: &[f32],
-) -> Judgment
-    ensures { λ j. ⌜ j ≡ Steps.corrected s r l threshold mode (now (point .entry)) ⌝ }
+// The `base` numbers of a point from `at` on, zeros behind them.
+fn row_at(point: &[f32], at: usize, base: usize) -> [f32; 16]
+    requires { ⌜ base ≤ 16 ⌝ ∗ ⌜ at + base ≤ length (now point) ⌝ }
+    ensures { λ r. ⌜ r ≡ paste (replicate 16 zero32) 0 (drop at (now (point .entry))) base ⌝ }
 {
-    Judgment {
-        outcome: Outcome::Accepted(Verdict::Corrected(threshold, mode)),
-        relative_index: 0,
-        state: scoring::entered(s.auto_adjusted(point), r, l, scoring::corrected_score(r, l)),
+    let mut out = sixteen();
+    let mut i = 0usize;
+    while i < base {
+        out[i] = point[at + i];
+        i += 1;
     }
-}
-
-// Of data drift, for the state with the candidate's rows counted.
-fn drifted(s: PredictorCorrector, r: Reading, l: LastDescriptor, threshold: f32) -> Judgment
-    ensures { λ j. ⌜ j ≡ Steps.drifted s r l threshold ⌝ }
-{
-    Judgment {
-        outcome: Outcome::Accepted(Verdict::Corrected(threshold, CorrectionMode::DATA_DRIFT)),
-        relative_index: 0,
-        state: scoring::entered(s, r, l, scoring::corrected_score(r, l)),
-    }
-}
-
-// Of a raised reading, which is one more of the run.
-fn raised(
-    s: PredictorCorrector,
-    r: Reading,
-    l: LastDescriptor,
-    block: usize,
-    threshold: f32,
-    grade: f32,
-) -> Judgment
-    requires { ⌜ block ≤ 1024 ⌝ ∗ ⌜ r .«shingle_size» ≤ 64 ⌝ }
-    ensures { λ j. ⌜ j ≡ Steps.raised s r l block threshold grade ⌝ }
-{
-    Judgment {
-        outcome: Outcome::Accepted(Verdict::Raised(threshold, grade)),
-        relative_index: relative_index(block, r.shingle_size),
-        state: scoring::entered(s.run_grown(), r, l, scoring::corrected_score(r, l)),
-    }
+    out
 }
 
 // The exits that look at the expected point: forecast, data drift, or raised, which alone writes the buffers.
 fn expected_exits(
-    s: PredictorCorrector,
+    k: Standing,
     r: Reading,
     l: LastDescriptor,
     block: usize,
@@ -336,29 +325,40 @@ fn expected_exits(
     expected: &mut [f32],
     out_high: &mut [f64],
     out_low: &mut [f64],
-) -> Judgment
+) -> Decision
     requires { ⌜ Steps.Branching r l (Steps.branch (now point) (now scale) (now «difference_deviations») (now high) (now low) (now median)) ⌝ ∗ ⌜ Steps.Writing (Steps.branch (now point) (now scale) (now «difference_deviations») (now high) (now low) (now median)) (length (now expected)) (length (now «out_high»)) (length (now «out_low»)) ⌝ ∗ ⌜ block ≡ Judging.block r l (Steps.branch (now point) (now scale) (now «difference_deviations») (now high) (now low) (now median)) ⌝ ∗ ⌜ start ≡ Judging.start r l (Steps.branch (now point) (now scale) (now «difference_deviations») (now high) (now low) (now median)) ⌝ ∗ ⌜ length edges ≡ 16 ⌝ }
-    ensures { λ j. ⌜ Steps.Left s r l (Steps.branch (now (point .entry)) (now (scale .entry)) (now («difference_deviations» .entry)) (now (high .entry)) (now (low .entry)) (now (median .entry))) (Steps.expectedOutcome s r l (Steps.branch (now (point .entry)) (now (scale .entry)) (now («difference_deviations» .entry)) (now (high .entry)) (now (low .entry)) (now (median .entry))) (take (r .«base_dimension») edges) threshold grade) j (now (expected .entry)) (now («out_high» .entry)) (now («out_low» .entry)) (now (expected .exit)) (now («out_high» .exit)) (now («out_low» .exit)) ⌝ }
+    ensures { λ j. ⌜ Decided.Decided r l (Steps.branch (now (point .entry)) (now (scale .entry)) (now («difference_deviations» .entry)) (now (high .entry)) (now (low .entry)) (now (median .entry))) (Steps.expectedOutcome k r l (Steps.branch (now (point .entry)) (now (scale .entry)) (now («difference_deviations» .entry)) (now (high .entry)) (now (low .entry)) (now (median .entry))) (take (r .«base_dimension») edges) threshold grade) j (now (expected .entry)) (now («out_high» .entry)) (now («out_low» .entry)) (now (expected .exit)) (now («out_high» .exit)) (now («out_low» .exit)) ⌝ }
 {
     let base = r.base_dimension;
     let d = point.len();
     let mut work = zeros();
     corrector::expected_point(high, low, start, base, point, median, &mut work[..d]);
     if uncertainty_box::within_unertainty_box(&edges[..base], start, scale, point, &work[..d]) {
-        return corrected(s, r, l, threshold, CorrectionMode::FORECAST, point);
+        return without_row(Outcome::Accepted(Verdict::Corrected(
+            threshold,
+            CorrectionMode::FORECAST,
+        )));
     }
-    let counted = candidate::count_run(
-        s,
+    let at = d - base;
+    let newest_expected = row_at(&work[..d], at, base);
+    if candidate::is_data_drift(
         r,
         l,
+        k.auto_adjust,
+        k.run_length,
         r.shingle_size as u32,
         threshold,
-        point,
-        &work[..d],
+        k.last_actual,
+        k.last_expected,
+        &point[at..],
+        &newest_expected[..base],
         difference_deviations,
-    );
-    if counted.drift {
-        return drifted(counted.state, r, l, threshold);
+    ) {
+        return Decision {
+            outcome: Outcome::Accepted(Verdict::Corrected(threshold, CorrectionMode::DATA_DRIFT)),
+            relative_index: 0,
+            newest_expected,
+        };
     }
     scoring::write_raised(
         r,
@@ -371,12 +371,16 @@ fn expected_exits(
         out_high,
         out_low,
     );
-    raised(counted.state, r, l, block, threshold, grade)
+    Decision {
+        outcome: Outcome::Accepted(Verdict::Raised(threshold, grade)),
+        relative_index: relative_index(block, r.shingle_size),
+        newest_expected,
+    }
 }
 
 // The exits past the noise pass: first those that look at the block that contributes most.
 fn past_noise(
-    s: PredictorCorrector,
+    k: Standing,
     r: Reading,
     l: LastDescriptor,
     threshold: f32,
@@ -394,43 +398,35 @@ fn past_noise(
     expected: &mut [f32],
     out_high: &mut [f64],
     out_low: &mut [f64],
-) -> Judgment
+) -> Decision
     requires { ⌜ Steps.Branching r l (Steps.late (now point) (now scale) (now shift) (now «difference_deviations») (now high) (now low) (now median) (now «ideal_high») (now «ideal_low») (now neighbours)) ⌝ ∗ ⌜ Steps.Writing (Steps.late (now point) (now scale) (now shift) (now «difference_deviations») (now high) (now low) (now median) (now «ideal_high») (now «ideal_low») (now neighbours)) (length (now expected)) (length (now «out_high»)) (length (now «out_low»)) ⌝ }
-    ensures { λ j. ⌜ Steps.Left s r l (Steps.late (now (point .entry)) (now (scale .entry)) (now (shift .entry)) (now («difference_deviations» .entry)) (now (high .entry)) (now (low .entry)) (now (median .entry)) (now («ideal_high» .entry)) (now («ideal_low» .entry)) (now (neighbours .entry))) (Steps.lateOutcome s r l (Steps.late (now (point .entry)) (now (scale .entry)) (now (shift .entry)) (now («difference_deviations» .entry)) (now (high .entry)) (now (low .entry)) (now (median .entry)) (now («ideal_high» .entry)) (now («ideal_low» .entry)) (now (neighbours .entry))) threshold grade) j (now (expected .entry)) (now («out_high» .entry)) (now («out_low» .entry)) (now (expected .exit)) (now («out_high» .exit)) (now («out_low» .exit)) ⌝ }
+    ensures { λ j. ⌜ Decided.Decided r l (Steps.late (now (point .entry)) (now (scale .entry)) (now (shift .entry)) (now («difference_deviations» .entry)) (now (high .entry)) (now (low .entry)) (now (median .entry)) (now («ideal_high» .entry)) (now («ideal_low» .entry)) (now (neighbours .entry))) (Steps.lateOutcome k r l (Steps.late (now (point .entry)) (now (scale .entry)) (now (shift .entry)) (now («difference_deviations» .entry)) (now (high .entry)) (now (low .entry)) (now (median .entry)) (now («ideal_high» .entry)) (now («ideal_low» .entry)) (now (neighbours .entry))) threshold grade) j (now (expected .entry)) (now («out_high» .entry)) (now («out_low» .entry)) (now (expected .exit)) (now («out_high» .exit)) (now («out_low» .exit)) ⌝ }
 {
     let base = r.base_dimension;
     let block = scoring::anomaly_block(r, l, high, low);
     let start = block_start(block, base);
     let edges = box_of(r, start, point, scale, shift, difference_deviations);
     if scoring::auto_explained(
-        s.auto_adjust,
+        k.auto_adjust,
         &edges[..base],
         point,
         start,
         scale,
         neighbours,
     ) {
-        return corrected(
-            s,
-            r,
-            l,
+        return without_row(Outcome::Accepted(Verdict::Corrected(
             threshold,
             CorrectionMode::CONDITIONAL_FORECAST,
-            point,
-        );
+        )));
     }
     if scoring::in_shingle(r, l, high, low, ideal_high, ideal_low, threshold) {
-        return corrected(
-            s,
-            r,
-            l,
+        return without_row(Outcome::Accepted(Verdict::Corrected(
             threshold,
             CorrectionMode::ANOMALY_IN_SHINGLE,
-            point,
-        );
+        )));
     }
     expected_exits(
-        s,
+        k,
         r,
         l,
         block,
@@ -450,8 +446,200 @@ fn past_noise(
     )
 }
 
-// Judges a reading: document 01's entry checks, then the Rust's `detect_and_modify`. The expected point and the normalised attribution
-// are written to the last three buffers where the reading is raised, and left alone otherwise.
+// Decides on a reading: document 01's entry checks, then the exits of the Rust's `detect_and_modify`. The expected point and the normalised
+// attribution are written to the last three buffers where the reading is raised, and left alone otherwise. What a verdict does to the
+// state is left to the caller, who has it as a struct (`after`) or in bytes.
+pub fn judge(
+    k: Standing,
+    r: Reading,
+    l: LastDescriptor,
+    point: &[f32],
+    scale: &[f32],
+    shift: &[f32],
+    difference_deviations: &[f32],
+    last_expected: &[f32],
+    last_anomalous: &[f32],
+    high: &[f64],
+    low: &[f64],
+    median: &[f32],
+    ideal_high: &[f64],
+    ideal_low: &[f64],
+    neighbours: &[f32],
+    expected: &mut [f32],
+    out_high: &mut [f64],
+    out_low: &mut [f64],
+) -> Decision
+    ensures { λ j. ⌜ Decided.Decided r l (lent (now (point .entry)) (now (scale .entry)) (now (shift .entry)) (now («difference_deviations» .entry)) (now («last_expected» .entry)) (now («last_anomalous» .entry)) (now (high .entry)) (now (low .entry)) (now (median .entry)) (now («ideal_high» .entry)) (now («ideal_low» .entry)) (now (neighbours .entry))) (Decided.decision r l (lent (now (point .entry)) (now (scale .entry)) (now (shift .entry)) (now («difference_deviations» .entry)) (now («last_expected» .entry)) (now («last_anomalous» .entry)) (now (high .entry)) (now (low .entry)) (now (median .entry)) (now («ideal_high» .entry)) (now («ideal_low» .entry)) (now (neighbours .entry))) k (length (now (expected .entry))) (length (now («out_high» .entry))) (length (now («out_low» .entry)))) j (now (expected .entry)) (now («out_high» .entry)) (now («out_low» .entry)) (now (expected .exit)) (now («out_high» .exit)) (now («out_low» .exit)) ⌝ }
+{
+    let way = find_way(
+        k.basic_thresholder,
+        k.counts_ok,
+        k.base_dimension,
+        r,
+        l,
+        point,
+        scale,
+        shift,
+        difference_deviations,
+        last_expected,
+        last_anomalous,
+        high,
+        low,
+        median,
+        ideal_high,
+        ideal_low,
+        neighbours,
+        expected.len(),
+        out_high.len(),
+        out_low.len(),
+    );
+    match way {
+        Way::Refused(why) => without_row(Outcome::Refused(why)),
+        Way::Skipped => without_row(Outcome::Accepted(Verdict::Skipped)),
+        Way::Quiet(threshold) => without_row(Outcome::Accepted(Verdict::Quiet(threshold))),
+        Way::Corrected(threshold, mode) => {
+            without_row(Outcome::Accepted(Verdict::Corrected(threshold, mode)))
+        }
+        Way::Past(threshold, grade) => past_noise(
+            k,
+            r,
+            l,
+            threshold,
+            grade,
+            point,
+            scale,
+            shift,
+            difference_deviations,
+            high,
+            low,
+            median,
+            ideal_high,
+            ideal_low,
+            neighbours,
+            expected,
+            out_high,
+            out_low,
+        ),
+    }
+}
+
+// The mode of the candidate branch, which counts the newest rows.
+pub fn is_drift_mode(mode: CorrectionMode) -> bool
+    ensures { λ r. ⌜ r ≡ Judging.isDriftMode mode ⌝ }
+{
+    match mode {
+        CorrectionMode::NONE => false,
+        CorrectionMode::NOISE => false,
+        CorrectionMode::MULTI_MODE => false,
+        CorrectionMode::ANOMALY_IN_SHINGLE => false,
+        CorrectionMode::CONDITIONAL_FORECAST => false,
+        CorrectionMode::FORECAST => false,
+        CorrectionMode::DATA_DRIFT => true,
+    }
+}
+
+// The candidate branch's rows, counted.
+fn rows_counted(
+    s: PredictorCorrector,
+    r: Reading,
+    l: LastDescriptor,
+    threshold: f32,
+    point: &[f32],
+    newest_expected: [f32; 16],
+) -> PredictorCorrector
+    requires { ⌜ Steps.Counting r (length (now point)) ⌝ }
+    ensures { λ t. ⌜ t ≡ Steps.rowsCounted s r l threshold (now (point .entry)) «newest_expected» ⌝ }
+{
+    let base = r.base_dimension;
+    let at = point.len() - base;
+    candidate::count_rows(
+        s,
+        r,
+        l,
+        r.shingle_size as u32,
+        threshold,
+        &point[at..],
+        &newest_expected[..base],
+    )
+}
+
+// What a verdict does to the state.
+fn after(
+    s: PredictorCorrector,
+    r: Reading,
+    l: LastDescriptor,
+    verdict: Verdict,
+    point: &[f32],
+    newest_expected: [f32; 16],
+) -> PredictorCorrector
+    requires { ⌜ Steps.Counting r (length (now point)) ⌝ }
+    ensures { λ t. ⌜ t ≡ Steps.afterRows s r l (now (point .entry)) «newest_expected» verdict ⌝ }
+{
+    match verdict {
+        Verdict::Quiet(_) => scoring::after_quiet(s, r, l),
+        Verdict::Corrected(threshold, mode) => {
+            if is_drift_mode(mode) {
+                let counted = rows_counted(s, r, l, threshold, point, newest_expected);
+                return scoring::after_branch(counted, r, l);
+            }
+            scoring::after_corrected(s, r, l, point)
+        }
+        Verdict::Raised(threshold, _) => {
+            let counted = rows_counted(s, r, l, threshold, point, newest_expected);
+            scoring::after_branch(counted.run_grown(), r, l)
+        }
+        Verdict::Skipped => s,
+    }
+}
+
+// The same for an outcome: a refusal leaves the state as it came.
+fn state_after(
+    s: PredictorCorrector,
+    r: Reading,
+    l: LastDescriptor,
+    outcome: Outcome,
+    point: &[f32],
+    newest_expected: [f32; 16],
+) -> PredictorCorrector
+    requires { ⌜ Steps.Fitting r (length (now point)) outcome ⌝ }
+    ensures { λ t. ⌜ t ≡ Steps.stateRows s r l (now (point .entry)) «newest_expected» outcome ⌝ }
+{
+    match outcome {
+        Outcome::Accepted(verdict) => after(s, r, l, verdict, point, newest_expected),
+        Outcome::Refused(_) => s,
+    }
+}
+
+// The last of the entries that exist; a new one past the end.
+fn last_entry(list: [Deviation; 16], base: usize) -> Deviation
+    ensures { λ r. ⌜ r ≡ getD list (base - 1) (fresh zero64) ⌝ ∗ ⌜ length list ≡ 16 ⌝ }
+{
+    let y = candidate::last_place(base);
+    if y < 16 {
+        return list[y];
+    }
+    Deviation::create(0.0, 0.0, 0.0, 0.0, 0)
+}
+
+fn standing_of(s: PredictorCorrector) -> Standing
+    ensures { λ k. ⌜ k ≡ Decided.standing s ⌝ ∗ ⌜ length (s .«deviations_actual») ≡ 16 ⌝ ∗ ⌜ length (s .«deviations_expected») ≡ 16 ⌝ }
+{
+    let base = s.base_dimension as usize;
+    let basic_thresholder = s.basic_thresholder;
+    let actual = s.deviations_actual;
+    let expected = s.deviations_expected;
+    Standing {
+        basic_thresholder,
+        auto_adjust: s.auto_adjust,
+        run_length: s.run_length,
+        base_dimension: base,
+        counts_ok: s.counts_ok(),
+        last_actual: last_entry(actual, base),
+        last_expected: last_entry(expected, base),
+    }
+}
+
+// Judges a reading: `judge`, and what its verdict does to the state.
 pub fn detect_and_modify(
     s: PredictorCorrector,
     r: Reading,
@@ -474,11 +662,8 @@ pub fn detect_and_modify(
 ) -> Judgment
     ensures { λ j. ⌜ Judged.Judged s r l (lent (now (point .entry)) (now (scale .entry)) (now (shift .entry)) (now («difference_deviations» .entry)) (now («last_expected» .entry)) (now («last_anomalous» .entry)) (now (high .entry)) (now (low .entry)) (now (median .entry)) (now («ideal_high» .entry)) (now («ideal_low» .entry)) (now (neighbours .entry))) j (now (expected .entry)) (now («out_high» .entry)) (now («out_low» .entry)) (now (expected .exit)) (now («out_high» .exit)) (now («out_low» .exit)) ⌝ }
 {
-    let base = s.base_dimension as usize;
-    let way = find_way(
-        s.basic_thresholder,
-        s.counts_ok(),
-        base,
+    let decision = judge(
+        standing_of(s),
         r,
         l,
         point,
@@ -493,42 +678,15 @@ pub fn detect_and_modify(
         ideal_high,
         ideal_low,
         neighbours,
-        expected.len(),
-        out_high.len(),
-        out_low.len(),
+        expected,
+        out_high,
+        out_low,
     );
-    match way {
-        Way::Refused(why) => Judgment {
-            outcome: Outcome::Refused(why),
-            relative_index: 0,
-            state: s,
-        },
-        Way::Skipped => Judgment {
-            outcome: Outcome::Accepted(Verdict::Skipped),
-            relative_index: 0,
-            state: s,
-        },
-        Way::Quiet(threshold) => quiet(s, r, l, threshold),
-        Way::Corrected(threshold, mode) => corrected(s, r, l, threshold, mode, point),
-        Way::Past(threshold, grade) => past_noise(
-            s,
-            r,
-            l,
-            threshold,
-            grade,
-            point,
-            scale,
-            shift,
-            difference_deviations,
-            high,
-            low,
-            median,
-            ideal_high,
-            ideal_low,
-            neighbours,
-            expected,
-            out_high,
-            out_low,
-        ),
+    let outcome = decision.outcome;
+    let newest_expected = decision.newest_expected;
+    Judgment {
+        outcome,
+        relative_index: decision.relative_index,
+        state: state_after(s, r, l, outcome, point, newest_expected),
     }
 }

@@ -43,11 +43,13 @@ unfoldable pub correctedScore : Reading → LastDescriptor → Float
 correctedScore r l =
     usedScore (isRecent (l .«has_anomaly») (gapOf (r .«values_seen») (l .«has_anomaly») (l .anomaly .«values_seen»)) (r .«shingle_size»)) r
 
--- `update_score`: every accepted reading but one of score 0 enters the statistics, once.
+-- `update_score` of a reading: the thresholder with its scores counted.
+unfoldable pub updateScore : BasicThresholder → Reading → LastDescriptor → Float → BasicThresholder
+updateScore t r l corrected = scoreCounted t (r .«scoring_strategy») (r .score) corrected (l .«scoring_strategy») (l .score)
+
+-- Every accepted reading but one of score 0 enters the statistics, once.
 unfoldable pub entered : PredictorCorrector → Reading → LastDescriptor → Float → PredictorCorrector
-entered s r l corrected =
-    withThresholder s
-    (scoreCounted (s .«basic_thresholder») (r .«scoring_strategy») (r .score) corrected (l .«scoring_strategy») (l .score))
+entered s r l corrected = withThresholder s (updateScore (s .«basic_thresholder») r l corrected)
 
 -- The block that a search answers. It is refused for no accepted reading.
 unfoldable pub blockOf : Block → ℕ

@@ -1,4 +1,4 @@
-// What a reading's scores and attribution say in `detect_and_modify`: steps that ask nothing of their caller.
+// What a reading's scores and attribution say in `detect_and_modify`, and how its scores enter the state. The steps ask nothing of their caller.
 use basicthresholder::BasicThresholder;
 use basicthresholder::Graded;
 use descriptor::LastDescriptor;
@@ -14,6 +14,7 @@ ghost use Rattle.basicthresholder.specs.Const.{zero32};
 ghost use Rattle.divector.specs.DiVector as DiVector;
 ghost use Rattle.uncertainty_box.specs.Box as Box;
 ghost use Rattle.corrector.specs.Corrector as Corrector;
+ghost use Rattle.predictorcorrector.specs.State.{runEnded, autoAdjusted};
 ghost use Rattle.scoring.specs.Scores as Scores;
 
 // Readings since the last anomaly; without one, since the start.
@@ -54,6 +55,13 @@ fn recent(r: Reading, l: LastDescriptor) -> bool
     is_recent(l.has_anomaly, gap(r, l), r.shingle_size)
 }
 
+// A score of 0 is skipped.
+pub fn is_skipped(score: f32) -> bool
+    ensures { λ b. ⌜ b ≡ Ieee.eq score zero32 ⌝ }
+{
+    score == 0.0
+}
+
 // Threshold and grade of a score, by the reading's strategy. Of the reading's own score: the opening grade.
 pub fn opening(t: BasicThresholder, r: Reading, score: f32) -> Graded
     ensures { λ g. ⌜ g ≡ Scores.opening t r score ⌝ }
@@ -82,25 +90,48 @@ pub fn corrected_score(r: Reading, l: LastDescriptor) -> f32
     used_score(recent(r, l), r)
 }
 
-// `update_score`, and the state with what it leaves.
-pub fn entered(
-    s: PredictorCorrector,
+// `update_score` of a reading.
+pub fn update_score(
+    t: BasicThresholder,
     r: Reading,
     l: LastDescriptor,
     corrected: f32,
-) -> PredictorCorrector
-    ensures { λ t. ⌜ t ≡ Scores.entered s r l corrected ⌝ }
+) -> BasicThresholder
+    ensures { λ u. ⌜ u ≡ Scores.updateScore t r l corrected ⌝ }
 {
     let strategy = r.scoring_strategy;
     let last_strategy = l.scoring_strategy;
-    let t = predictorcorrector::score_counted(
-        s.basic_thresholder,
-        strategy,
-        r.score,
-        corrected,
-        last_strategy,
-        l.score,
-    );
+    predictorcorrector::score_counted(t, strategy, r.score, corrected, last_strategy, l.score)
+}
+
+// The state after a quiet reading: the run ends, and the score enters.
+pub fn after_quiet(s: PredictorCorrector, r: Reading, l: LastDescriptor) -> PredictorCorrector
+    ensures { λ u. ⌜ u ≡ Scores.entered (runEnded s) r l (r .score) ⌝ }
+{
+    let ended = s.run_ended();
+    let t = update_score(ended.basic_thresholder, r, l, r.score);
+    ended.with_thresholder(t)
+}
+
+// After a corrected one, data drift apart: `update_auto_adjust`, and the scores enter.
+pub fn after_corrected(
+    s: PredictorCorrector,
+    r: Reading,
+    l: LastDescriptor,
+    point: &[f32],
+) -> PredictorCorrector
+    ensures { λ u. ⌜ u ≡ Scores.entered (autoAdjusted s (now (point .entry))) r l (Scores.correctedScore r l) ⌝ }
+{
+    let adjusted = s.auto_adjusted(point);
+    let t = update_score(adjusted.basic_thresholder, r, l, corrected_score(r, l));
+    adjusted.with_thresholder(t)
+}
+
+// After data drift, and after a raised reading, the run and the lists being as it leaves them: the scores enter.
+pub fn after_branch(s: PredictorCorrector, r: Reading, l: LastDescriptor) -> PredictorCorrector
+    ensures { λ u. ⌜ u ≡ Scores.entered s r l (Scores.correctedScore r l) ⌝ }
+{
+    let t = update_score(s.basic_thresholder, r, l, corrected_score(r, l));
     s.with_thresholder(t)
 }
 

@@ -3,7 +3,7 @@ use mathlib.Core.Bool.{Bool, _&&_}
 use lib.Dec.{ltb}
 use denote.Ref.{now}
 use Rattle.candidate.specs.Candidate.{nearNext, driftAt, isCandidate}
-use Rattle.candidate.proofs.Rows.{and-flat}
+use Rattle.candidate.proofs.Conditions.{and-flat}
 use borrow.Author.Needs.{needs}
 use Rattle.candidate.proofs.is_data_drift.Statement.{statement}
 use Rattle.candidate.proofs.is_data_drift.Tie as tie

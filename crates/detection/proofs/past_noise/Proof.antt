@@ -1,12 +1,14 @@
-use mathlib.Core.Path.{_≡_, _∙_, sym, subst}
+use mathlib.Core.Path.{_≡_, _∙_, sym, subst, refl}
 use Prim.Native.Nat.{ℕ, _≤_}
 use native.Mathlib.Omega.{arith}
 use denote.Ref.{now}
 use lib.ListN.{length, take, length-take}
 use Rattle.types.specs.declared.CorrectionMode.the-variants.{«CONDITIONAL_FORECAST», «ANOMALY_IN_SHINGLE»}
 use Rattle.detection.proofs.Stages.{block-is, start-by, box-is, explained-is, shingle-is}
-use Rattle.detection.proofs.Settle.{corrected-left, at-explained, at-shingle, at-expected, branch-fits, branch-writes, branch-lent}
+use Rattle.detection.proofs.Settle.{calm-left, at-explained, at-shingle, at-expected, branch-fits, branch-writes, branch-lent}
 use Rattle.detection.specs.Steps.{late, branch}
+use Rattle.detection.specs.declared.Verdict.the-variants.{Corrected}
+use Rattle.detection.specs.declared.Outcome.the-variants.{Accepted}
 use borrow.Author.Needs.{needs}
 use Rattle.detection.proofs.past_noise.Statement.{statement}
 use Rattle.detection.proofs.past_noise.Tie as tie
@@ -14,8 +16,8 @@ use Rattle.detection.proofs.past_noise.Reads as reads
 use Rattle.detection.proofs.past_noise.Lts as lts
 use Rattle.detection.proofs.block_start.Reads as block-start-reads
 use Rattle.detection.proofs.box_of.Reads as box-of-reads
-use Rattle.detection.proofs.corrected.Reads as corrected-reads
 use Rattle.detection.proofs.expected_exits.Reads as expected-exits-reads
+use Rattle.detection.proofs.without_row.Reads as without-row-reads
 use Rattle.scoring.proofs.anomaly_block.Reads as anomaly-block-reads
 use Rattle.scoring.proofs.auto_explained.Reads as auto-explained-reads
 use Rattle.scoring.proofs.in_shingle.Reads as in-shingle-reads
@@ -46,8 +48,8 @@ slice-aggregate-auto-explained c =
 auto-explained-requires : tie.Need-auto-explained-requires
 auto-explained-requires c κs = search needs
 
-corrected-requires : tie.Need-corrected-requires
-corrected-requires c κs = search needs
+without-row-requires : tie.Need-without-row-requires
+without-row-requires c κs = search needs
 
 returns : tie.Need-returns
 returns c =
@@ -55,18 +57,18 @@ returns c =
     let r = c .before .before .before .before .before .before .before .before .before .before .before .before .before .before .before .before .before .before .before .before .args .r in
     let l = c .before .before .before .before .before .before .before .before .before .before .before .before .before .before .before .before .before .before .before .before .args .l in
     let k = block-is r l b (c .before .before .before .before .before .before .anomaly-block .result) (c .before .before .before .before .before .before .anomaly-block .ensures) in
-    let s = c .before .before .before .before .before .before .before .before .before .before .before .before .before .before .before .before .before .before .before .before .args .s in
+    let k₀ = c .before .before .before .before .before .before .before .before .before .before .before .before .before .before .before .before .before .before .before .before .args .k in
     let u = take (r .«base_dimension») (c .before .before .before .before .box-of .result) in
     let st = start-by r l b (c .before .before .before .before .before .before .anomaly-block .result) (c .before .before .before .before .before .block-start .result) k (c .before .before .before .before .before .block-start .ensures) in
     let bx = box-is r l b (c .before .before .before .before .before .block-start .result) u st (c .before .before .before .before .box-of .ensures) in
-    let x = explained-is r l b (s .«auto_adjust») (c .before .before .auto-explained .result) u (c .before .before .before .before .before .block-start .result) bx st (c .before .before .auto-explained .ensures) in
-    at-explained s r l b (c .before .before .before .before .before .before .before .before .before .before .before .before .before .before .before .before .before .before .before .before .args .threshold) (c .before .before .before .before .before .before .before .before .before .before .before .before .before .before .before .before .before .before .before .before .args .grade) _ (now (c .before .before .before .before .before .before .before .before .before .before .before .before .before .before .before .before .before .before .before .before .args .expected)) (now (c .before .before .before .before .before .before .before .before .before .before .before .before .before .before .before .before .before .before .before .before .args .out-high)) (now (c .before .before .before .before .before .before .before .before .before .before .before .before .before .before .before .before .before .before .before .before .args .out-low)) _ _ _ (sym x ∙ c .before .if1 .taken) (corrected-left s r l b (now (c .before .before .before .before .before .before .before .before .before .before .before .before .before .before .before .before .before .before .before .before .args .expected)) (now (c .before .before .before .before .before .before .before .before .before .before .before .before .before .before .before .before .before .before .before .before .args .out-high)) (now (c .before .before .before .before .before .before .before .before .before .before .before .before .before .before .before .before .before .before .before .before .args .out-low)) (c .before .before .before .before .before .before .before .before .before .before .before .before .before .before .before .before .before .before .before .before .args .threshold) «CONDITIONAL_FORECAST» _ tt (c .corrected .ensures))
+    let x = explained-is r l b (k₀ .«auto_adjust») (c .before .before .auto-explained .result) u (c .before .before .before .before .before .block-start .result) bx st (c .before .before .auto-explained .ensures) in
+    at-explained k₀ r l b (c .before .before .before .before .before .before .before .before .before .before .before .before .before .before .before .before .before .before .before .before .args .threshold) (c .before .before .before .before .before .before .before .before .before .before .before .before .before .before .before .before .before .before .before .before .args .grade) _ (now (c .before .before .before .before .before .before .before .before .before .before .before .before .before .before .before .before .before .before .before .before .args .expected)) (now (c .before .before .before .before .before .before .before .before .before .before .before .before .before .before .before .before .before .before .before .before .args .out-high)) (now (c .before .before .before .before .before .before .before .before .before .before .before .before .before .before .before .before .before .before .before .before .args .out-low)) _ _ _ (sym x ∙ c .before .if1 .taken) (calm-left k₀ r l b (now (c .before .before .before .before .before .before .before .before .before .before .before .before .before .before .before .before .before .before .before .before .args .expected)) (now (c .before .before .before .before .before .before .before .before .before .before .before .before .before .before .before .before .before .before .before .before .args .out-high)) (now (c .before .before .before .before .before .before .before .before .before .before .before .before .before .before .before .before .before .before .before .before .args .out-low)) (Accepted (Corrected (c .before .before .before .before .before .before .before .before .before .before .before .before .before .before .before .before .before .before .before .before .args .threshold) «CONDITIONAL_FORECAST»)) _ refl (c .without-row .ensures))
 
 in-shingle-requires : tie.Need-in-shingle-requires
 in-shingle-requires c κs = search needs
 
-corrected-requires-2 : tie.Need-corrected-requires-2
-corrected-requires-2 c κs = search needs
+without-row-requires-2 : tie.Need-without-row-requires-2
+without-row-requires-2 c κs = search needs
 
 returns-2 : tie.Need-returns-2
 returns-2 c =
@@ -74,13 +76,13 @@ returns-2 c =
     let r = c .before .before .before .before .before .before .before .before .before .before .before .before .before .before .before .before .before .before .before .before .before .before .args .r in
     let l = c .before .before .before .before .before .before .before .before .before .before .before .before .before .before .before .before .before .before .before .before .before .before .args .l in
     let k = block-is r l b (c .before .before .before .before .before .before .before .before .anomaly-block .result) (c .before .before .before .before .before .before .before .before .anomaly-block .ensures) in
-    let s = c .before .before .before .before .before .before .before .before .before .before .before .before .before .before .before .before .before .before .before .before .before .before .args .s in
+    let k₀ = c .before .before .before .before .before .before .before .before .before .before .before .before .before .before .before .before .before .before .before .before .before .before .args .k in
     let u = take (r .«base_dimension») (c .before .before .before .before .before .before .box-of .result) in
     let st = start-by r l b (c .before .before .before .before .before .before .before .before .anomaly-block .result) (c .before .before .before .before .before .before .before .block-start .result) k (c .before .before .before .before .before .before .before .block-start .ensures) in
     let bx = box-is r l b (c .before .before .before .before .before .before .before .block-start .result) u st (c .before .before .before .before .before .before .box-of .ensures) in
-    let x = explained-is r l b (s .«auto_adjust») (c .before .before .before .before .auto-explained .result) u (c .before .before .before .before .before .before .before .block-start .result) bx st (c .before .before .before .before .auto-explained .ensures) in
+    let x = explained-is r l b (k₀ .«auto_adjust») (c .before .before .before .before .auto-explained .result) u (c .before .before .before .before .before .before .before .block-start .result) bx st (c .before .before .before .before .auto-explained .ensures) in
     let y = shingle-is r l b (c .before .before .in-shingle .result) (c .before .before .before .before .before .before .before .before .before .before .before .before .before .before .before .before .before .before .before .before .before .before .args .threshold) (c .before .before .in-shingle .ensures) in
-    at-shingle s r l b (c .before .before .before .before .before .before .before .before .before .before .before .before .before .before .before .before .before .before .before .before .before .before .args .threshold) (c .before .before .before .before .before .before .before .before .before .before .before .before .before .before .before .before .before .before .before .before .before .before .args .grade) _ (now (c .before .before .before .before .before .before .before .before .before .before .before .before .before .before .before .before .before .before .before .before .before .before .args .expected)) (now (c .before .before .before .before .before .before .before .before .before .before .before .before .before .before .before .before .before .before .before .before .before .before .args .out-high)) (now (c .before .before .before .before .before .before .before .before .before .before .before .before .before .before .before .before .before .before .before .before .before .before .args .out-low)) _ _ _ (sym x ∙ c .before .before .before .if1 .left) (sym y ∙ c .before .if2 .taken) (corrected-left s r l b (now (c .before .before .before .before .before .before .before .before .before .before .before .before .before .before .before .before .before .before .before .before .before .before .args .expected)) (now (c .before .before .before .before .before .before .before .before .before .before .before .before .before .before .before .before .before .before .before .before .before .before .args .out-high)) (now (c .before .before .before .before .before .before .before .before .before .before .before .before .before .before .before .before .before .before .before .before .before .before .args .out-low)) (c .before .before .before .before .before .before .before .before .before .before .before .before .before .before .before .before .before .before .before .before .before .before .args .threshold) «ANOMALY_IN_SHINGLE» _ tt (c .corrected2 .ensures))
+    at-shingle k₀ r l b (c .before .before .before .before .before .before .before .before .before .before .before .before .before .before .before .before .before .before .before .before .before .before .args .threshold) (c .before .before .before .before .before .before .before .before .before .before .before .before .before .before .before .before .before .before .before .before .before .before .args .grade) _ (now (c .before .before .before .before .before .before .before .before .before .before .before .before .before .before .before .before .before .before .before .before .before .before .args .expected)) (now (c .before .before .before .before .before .before .before .before .before .before .before .before .before .before .before .before .before .before .before .before .before .before .args .out-high)) (now (c .before .before .before .before .before .before .before .before .before .before .before .before .before .before .before .before .before .before .before .before .before .before .args .out-low)) _ _ _ (sym x ∙ c .before .before .before .if1 .left) (sym y ∙ c .before .if2 .taken) (calm-left k₀ r l b (now (c .before .before .before .before .before .before .before .before .before .before .before .before .before .before .before .before .before .before .before .before .before .before .args .expected)) (now (c .before .before .before .before .before .before .before .before .before .before .before .before .before .before .before .before .before .before .before .before .before .before .args .out-high)) (now (c .before .before .before .before .before .before .before .before .before .before .before .before .before .before .before .before .before .before .before .before .before .before .args .out-low)) (Accepted (Corrected (c .before .before .before .before .before .before .before .before .before .before .before .before .before .before .before .before .before .before .before .before .before .before .args .threshold) «ANOMALY_IN_SHINGLE»)) _ refl (c .without-row2 .ensures))
 
 expected-exits-requires : tie.Need-expected-exits-requires
 expected-exits-requires c κs =
@@ -107,13 +109,13 @@ returns-3 c =
     let r = c .before .before .before .before .before .before .before .before .before .before .before .before .before .before .before .before .before .before .before .before .before .before .before .before .before .before .before .before .before .before .before .args .r in
     let l = c .before .before .before .before .before .before .before .before .before .before .before .before .before .before .before .before .before .before .before .before .before .before .before .before .before .before .before .before .before .before .before .args .l in
     let k = block-is r l b (c .before .before .before .before .before .before .before .before .before .before .before .before .before .before .before .before .before .anomaly-block .result) (c .before .before .before .before .before .before .before .before .before .before .before .before .before .before .before .before .before .anomaly-block .ensures) in
-    let s = c .before .before .before .before .before .before .before .before .before .before .before .before .before .before .before .before .before .before .before .before .before .before .before .before .before .before .before .before .before .before .before .args .s in
+    let k₀ = c .before .before .before .before .before .before .before .before .before .before .before .before .before .before .before .before .before .before .before .before .before .before .before .before .before .before .before .before .before .before .before .args .k in
     let u = take (r .«base_dimension») (c .before .before .before .before .before .before .before .before .before .before .before .before .before .before .before .box-of .result) in
     let st = start-by r l b (c .before .before .before .before .before .before .before .before .before .before .before .before .before .before .before .before .before .anomaly-block .result) (c .before .before .before .before .before .before .before .before .before .before .before .before .before .before .before .before .block-start .result) k (c .before .before .before .before .before .before .before .before .before .before .before .before .before .before .before .before .block-start .ensures) in
     let bx = box-is r l b (c .before .before .before .before .before .before .before .before .before .before .before .before .before .before .before .before .block-start .result) u st (c .before .before .before .before .before .before .before .before .before .before .before .before .before .before .before .box-of .ensures) in
-    let x = explained-is r l b (s .«auto_adjust») (c .before .before .before .before .before .before .before .before .before .before .before .before .before .auto-explained .result) u (c .before .before .before .before .before .before .before .before .before .before .before .before .before .before .before .before .block-start .result) bx st (c .before .before .before .before .before .before .before .before .before .before .before .before .before .auto-explained .ensures) in
+    let x = explained-is r l b (k₀ .«auto_adjust») (c .before .before .before .before .before .before .before .before .before .before .before .before .before .auto-explained .result) u (c .before .before .before .before .before .before .before .before .before .before .before .before .before .before .before .before .block-start .result) bx st (c .before .before .before .before .before .before .before .before .before .before .before .before .before .auto-explained .ensures) in
     let y = shingle-is r l b (c .before .before .before .before .before .before .before .before .before .before .before .in-shingle .result) (c .before .before .before .before .before .before .before .before .before .before .before .before .before .before .before .before .before .before .before .before .before .before .before .before .before .before .before .before .before .before .before .args .threshold) (c .before .before .before .before .before .before .before .before .before .before .before .in-shingle .ensures) in
-    at-expected s r l b (c .before .before .before .before .before .before .before .before .before .before .before .before .before .before .before .before .before .before .before .before .before .before .before .before .before .before .before .before .before .before .before .args .threshold) (c .before .before .before .before .before .before .before .before .before .before .before .before .before .before .before .before .before .before .before .before .before .before .before .before .before .before .before .before .before .before .before .args .grade) _ (now (c .before .before .before .before .before .before .before .before .before .before .before .before .before .before .before .before .before .before .before .before .before .before .before .before .before .before .before .before .before .before .before .args .expected)) (now (c .before .before .before .before .before .before .before .before .before .before .before .before .before .before .before .before .before .before .before .before .before .before .before .before .before .before .before .before .before .before .before .args .out-high)) (now (c .before .before .before .before .before .before .before .before .before .before .before .before .before .before .before .before .before .before .before .before .before .before .before .before .before .before .before .before .before .before .before .args .out-low)) _ _ _ (sym x ∙ c .before .before .before .before .before .before .before .before .before .before .before .before .if1 .left) (sym y ∙ c .before .before .before .before .before .before .before .before .before .before .if2 .left) u bx (branch-lent s r l b (c .before .before .before .before .before .before .before .before .before .before .before .before .before .before .before .before .before .before .before .before .before .before .before .before .before .before .before .before .before .before .before .args .threshold) (c .before .before .before .before .before .before .before .before .before .before .before .before .before .before .before .before .before .before .before .before .before .before .before .before .before .before .before .before .before .before .before .args .grade) _ (now (c .before .before .before .before .before .before .before .before .before .before .before .before .before .before .before .before .before .before .before .before .before .before .before .before .before .before .before .before .before .before .before .args .expected)) (now (c .before .before .before .before .before .before .before .before .before .before .before .before .before .before .before .before .before .before .before .before .before .before .before .before .before .before .before .before .before .before .before .args .out-high)) (now (c .before .before .before .before .before .before .before .before .before .before .before .before .before .before .before .before .before .before .before .before .before .before .before .before .before .before .before .before .before .before .before .args .out-low)) _ _ _ u (c .before .before .before .before .before .before .expected-exits .ensures))
+    at-expected k₀ r l b (c .before .before .before .before .before .before .before .before .before .before .before .before .before .before .before .before .before .before .before .before .before .before .before .before .before .before .before .before .before .before .before .args .threshold) (c .before .before .before .before .before .before .before .before .before .before .before .before .before .before .before .before .before .before .before .before .before .before .before .before .before .before .before .before .before .before .before .args .grade) _ (now (c .before .before .before .before .before .before .before .before .before .before .before .before .before .before .before .before .before .before .before .before .before .before .before .before .before .before .before .before .before .before .before .args .expected)) (now (c .before .before .before .before .before .before .before .before .before .before .before .before .before .before .before .before .before .before .before .before .before .before .before .before .before .before .before .before .before .before .before .args .out-high)) (now (c .before .before .before .before .before .before .before .before .before .before .before .before .before .before .before .before .before .before .before .before .before .before .before .before .before .before .before .before .before .before .before .args .out-low)) _ _ _ (sym x ∙ c .before .before .before .before .before .before .before .before .before .before .before .before .if1 .left) (sym y ∙ c .before .before .before .before .before .before .before .before .before .before .if2 .left) u bx (branch-lent k₀ r l b (c .before .before .before .before .before .before .before .before .before .before .before .before .before .before .before .before .before .before .before .before .before .before .before .before .before .before .before .before .before .before .before .args .threshold) (c .before .before .before .before .before .before .before .before .before .before .before .before .before .before .before .before .before .before .before .before .before .before .before .before .before .before .before .before .before .before .before .args .grade) _ (now (c .before .before .before .before .before .before .before .before .before .before .before .before .before .before .before .before .before .before .before .before .before .before .before .before .before .before .before .before .before .before .before .args .expected)) (now (c .before .before .before .before .before .before .before .before .before .before .before .before .before .before .before .before .before .before .before .before .before .before .before .before .before .before .before .before .before .before .before .args .out-high)) (now (c .before .before .before .before .before .before .before .before .before .before .before .before .before .before .before .before .before .before .before .before .before .before .before .before .before .before .before .before .before .before .before .args .out-low)) _ _ _ u (c .before .before .before .before .before .before .expected-exits .ensures))
 
 pub past-noise-spec : {M : Type 1} → statement M
 past-noise-spec =
@@ -125,10 +127,10 @@ past-noise-spec =
     array-share-prefix-edges
     slice-aggregate-auto-explained
     auto-explained-requires
-    corrected-requires
+    without-row-requires
     returns
     in-shingle-requires
-    corrected-requires-2
+    without-row-requires-2
     returns-2
     expected-exits-requires
     same-length

@@ -1,4 +1,4 @@
--- That no way up to the noise pass is data drift, so that a corrected reading counts its oldest row. Assumes nothing.
+-- That no way up to the noise pass is data drift, so that a reading corrected there hands no row on. Assumes nothing.
 use mathlib.Core.Path.{_≡_, refl, sym, subst}
 use mathlib.Core.Bool.{Bool, true, false, cond, _&&_}
 use Prim.Native.Nat.{ℕ}
@@ -7,34 +7,22 @@ use lib.Ieee.{Float, binary32}
 use Rattle.types.specs.declared.Answer.{Answer}
 use Rattle.types.specs.declared.Answer.the-variants as Answers
 use Rattle.types.specs.declared.CorrectionMode.{CorrectionMode}
-use Rattle.types.specs.declared.CorrectionMode.the-variants as Modes
 use Rattle.basicthresholder.specs.declared.BasicThresholder.{BasicThresholder}
 use Rattle.descriptor.specs.Checks.{answerOf}
 use Rattle.descriptor.specs.Lent.{Lent}
 use Rattle.descriptor.specs.declared.Reading.{Reading}
 use Rattle.descriptor.specs.declared.LastDescriptor.{LastDescriptor}
-use Rattle.predictorcorrector.specs.State.{autoAdjusted}
-use Rattle.predictorcorrector.specs.declared.PredictorCorrector.{PredictorCorrector}
 use Rattle.detection.specs.Const.{zero32}
-use Rattle.detection.specs.Judging.{recent, opening, noisePass, runAfterMode}
+use Rattle.detection.specs.Judging.{recent, opening, noisePass, isDriftMode}
 use Rattle.detection.specs.Steps.{gradedWay, acceptedWay, wayOf, way}
 use Rattle.detection.specs.declared.Way.{Way}
 use Rattle.detection.specs.declared.Way.the-variants as Ways
-
-abbrev pub NotDrift : CorrectionMode → Type 0
-NotDrift Modes.NONE = Unit
-NotDrift Modes.NOISE = Unit
-NotDrift Modes.«MULTI_MODE» = Unit
-NotDrift Modes.«ANOMALY_IN_SHINGLE» = Unit
-NotDrift Modes.«CONDITIONAL_FORECAST» = Unit
-NotDrift Modes.FORECAST = Unit
-NotDrift Modes.«DATA_DRIFT» = ⊥
 
 abbrev Calm : Way → Type 0
 Calm (Ways.Refused why) = Unit
 Calm Ways.Skipped = Unit
 Calm (Ways.Quiet t) = Unit
-Calm (Ways.Corrected t m) = NotDrift m
+Calm (Ways.Corrected t m) = isDriftMode m ≡ false
 Calm (Ways.Past t g) = Unit
 
 picks : (p q : Bool) (x y z : Way) → Calm x → Calm y → Calm z → Calm (cond p x (cond q y z))
@@ -47,23 +35,13 @@ module _ (r : Reading) (l : LastDescriptor) (b : Lent) (t : BasicThresholder) wh
   unfolding acceptedWay gradedWay
   accepted-calm =
       picks (Ieee.eq (r .score) zero32) (Ieee.eq (opening t r (r .score) .grade) zero32) _ _ _ tt tt
-      (picks (recent r l b && Ieee.eq (opening t r (r .«corrected_score») .grade) zero32) (Ieee.eq (Ieee.mul binary32 (opening t r (r .score) .grade) (noisePass r l b)) zero32) _ _ _ tt tt tt)
+      (picks (recent r l b && Ieee.eq (opening t r (r .«corrected_score») .grade) zero32) (Ieee.eq (Ieee.mul binary32 (opening t r (r .score) .grade) (noisePass r l b)) zero32) _ _ _ refl refl tt)
 
   calm-by : (a : Answer) → Calm (wayOf r l b t a)
   unfolding wayOf
   calm-by Answers.Done = accepted-calm
   calm-by (Answers.Refused why) = tt
 
-  pub not-drift : (base e h w : ℕ) (ok : Bool) (y : Way) (x : Float) (m : CorrectionMode) → y ≡ way r l b t base e h w ok → y ≡ Ways.Corrected x m → NotDrift m
+  pub not-drift : (base e h w : ℕ) (ok : Bool) (y : Way) (x : Float) (m : CorrectionMode) → y ≡ way r l b t base e h w ok → y ≡ Ways.Corrected x m → isDriftMode m ≡ false
   unfolding way
   not-drift base e h w ok y x m p q = subst Calm q (subst Calm (sym p) (calm-by (answerOf r l b base e h w ok)))
-
-pub mode-adjusts : (r : Reading) (l : LastDescriptor) (b : Lent) (s : PredictorCorrector) (t : Float) (m : CorrectionMode) → NotDrift m → autoAdjusted s (b .point) ≡ runAfterMode r l b s t m
-unfolding runAfterMode
-mode-adjusts r l b s t Modes.NONE h = refl
-mode-adjusts r l b s t Modes.NOISE h = refl
-mode-adjusts r l b s t Modes.«MULTI_MODE» h = refl
-mode-adjusts r l b s t Modes.«ANOMALY_IN_SHINGLE» h = refl
-mode-adjusts r l b s t Modes.«CONDITIONAL_FORECAST» h = refl
-mode-adjusts r l b s t Modes.FORECAST h = refl
-mode-adjusts r l b s t Modes.«DATA_DRIFT» h = absurd h

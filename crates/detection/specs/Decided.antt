@@ -1,0 +1,77 @@
+-- The contract of `judge`, which decides by how the state stands, without its lists: of these it is told the last entries alone.
+use Prim.Native.Nat.{ℕ, _-_}
+use mathlib.Core.Path.{_≡_}
+use mathlib.Core.Bool.{Bool, cond}
+use mathlib.Core.List.{List}
+use lib.ListN.{length, getD, replicate}
+use lib.Seq.{paste}
+use lib.Ieee.{Float}
+use Rattle.deviation.specs.Const.{zero64}
+use Rattle.deviation.specs.Statistics.{fresh}
+use Rattle.divector.specs.DiVector.{normalized}
+use Rattle.descriptor.specs.Checks.{answerOf}
+use Rattle.descriptor.specs.Lent.{Lent}
+use Rattle.descriptor.specs.declared.Reading.{Reading}
+use Rattle.descriptor.specs.declared.LastDescriptor.{LastDescriptor}
+use Rattle.predictorcorrector.specs.State.{stateCountsOk}
+use Rattle.predictorcorrector.specs.declared.PredictorCorrector.{PredictorCorrector}
+use Rattle.candidate.specs.Candidate.{isCandidate, driftAt}
+use Rattle.detection.specs.Const.{zero32}
+use Rattle.detection.specs.Judging.{opening, expected, newestOf, decided, isDriftMode}
+use Rattle.detection.specs.Judged.{outcomeOf, indexAfter, written}
+use Rattle.detection.specs.declared.Verdict.the-variants.{Quiet, Corrected, Raised, Skipped}
+use Rattle.detection.specs.declared.Outcome.{Outcome}
+use Rattle.detection.specs.declared.Outcome.the-variants.{Accepted, Refused}
+use Rattle.detection.specs.declared.Standing.{Standing}
+use Rattle.detection.specs.declared.Decision.{Decision}
+
+-- How a state stands. For it `decision` is `outcome` (proofs/Standing.antt).
+unfoldable pub standing : PredictorCorrector → Standing
+standing s = record {
+  «basic_thresholder» = s .«basic_thresholder»;
+  «auto_adjust» = s .«auto_adjust»;
+  «run_length» = s .«run_length»;
+  «base_dimension» = s .«base_dimension»;
+  «counts_ok» = stateCountsOk s;
+  «last_actual» = getD (s .«deviations_actual») (s .«base_dimension» - 1) (fresh zero64);
+  «last_expected» = getD (s .«deviations_expected») (s .«base_dimension» - 1) (fresh zero64);
+}
+
+-- No row: sixteen zeros.
+abbrev pub noRow : List Float
+noRow = replicate 16 zero32
+
+module _ (r : Reading) (l : LastDescriptor) (b : Lent) where
+  -- The newest row of the expected point, zeros behind it.
+  unfoldable pub newestExpected : List Float
+  newestExpected = paste noRow 0 (newestOf r l b (expected r l b)) (r .«base_dimension»)
+
+  -- The row that an outcome hands on: where the candidate branch may have counted it.
+  unfoldable pub rowAfter : Outcome → List Float
+  rowAfter (Accepted (Quiet t)) = noRow
+  rowAfter (Accepted (Corrected t m)) = cond (isDriftMode m) newestExpected noRow
+  rowAfter (Accepted (Raised t g)) = newestExpected
+  rowAfter (Accepted Skipped) = noRow
+  rowAfter (Refused why) = noRow
+
+  module _ (k : Standing) where
+    -- Data drift, by the last entries.
+    unfoldable pub driftOf : Float → Bool
+    driftOf threshold =
+        driftAt (isCandidate r l (k .«run_length») (r .«shingle_size») threshold) (k .«auto_adjust») (k .«run_length») (r .«base_dimension»)
+        (k .«last_actual») (k .«last_expected») (newestOf r l b (b .point)) (newestOf r l b (expected r l b)) (b .«difference_deviations»)
+
+    -- The three numbers are the lengths of the buffers that may be written.
+    unfoldable pub decision : ℕ → ℕ → ℕ → Outcome
+    decision e h w =
+        outcomeOf (decided r l b (k .«basic_thresholder») (k .«auto_adjust») (driftOf (opening (k .«basic_thresholder») r (r .score) .threshold)))
+        (answerOf r l b (k .«base_dimension») e h w (k .«counts_ok»))
+
+  -- What judging leaves for the outcome o: the buffers e (expected point), h and w (normalised attribution) at entry, e′, h′ and w′ at exit.
+  pub record Decided (o : Outcome) (j : Decision) (e h w e′ h′ w′ : List Float) : Type 0 where
+    pub says : j .outcome ≡ o
+    pub index : j .«relative_index» ≡ indexAfter r l b o
+    pub row : j .«newest_expected» ≡ rowAfter o
+    pub point : e′ ≡ written o e (expected r l b)
+    pub highs : h′ ≡ written o h (normalized (r .score) (b .high) (b .low) (b .high))
+    pub lows : w′ ≡ written o w (normalized (r .score) (b .high) (b .low) (b .low))
