@@ -205,14 +205,17 @@ impl Drawer {
     /// Asks the forest about the drawer's next withdrawal, judges it and counts its score. Refusals:
     /// 2 to 6, of the withdrawal or of something that the forest said.
     ///
-    /// The judgment is tried after each answer, with zeros for the answers that are still missing;
-    /// it stands as soon as it ended before the first of these.
+    /// A withdrawal that is refused for itself costs no call of the forest. Then the judgment is
+    /// tried after each answer, with zeros for the answers that are still missing; it stands as soon
+    /// as it ended before the first of these.
     pub fn judge<F: Forest + ?Sized>(
         &mut self,
         withdrawal: &Withdrawal,
         forest: &F,
     ) -> Result<Verdict, NotJudged<F::Error>> {
         let reading = withdrawal.unasked(self.kept.descriptor());
+        // Its score is 0, which is skipped unless something else is refused.
+        self.watch.trial(&reading)?;
         let judged = Asking {
             watch: &mut self.watch,
             forest,

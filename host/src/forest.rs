@@ -21,6 +21,7 @@ use crate::verdict::Attribution;
 ///
 /// | A reading that ends as | costs |
 /// |---|---|
+/// | refused for the withdrawal itself | none |
 /// | skipped, quiet | 1 |
 /// | corrected: anomaly in shingle, by the corrected score | 1, 2 |
 /// | corrected: noise | 1, 2 |

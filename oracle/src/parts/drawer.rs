@@ -45,6 +45,27 @@ struct Seen {
     bases: BTreeSet<usize>,
 }
 
+impl Seen {
+    fn count(&mut self, reading: &Reading, result: &Descriptor, calls: &[Call], adjust: bool) {
+        self.readings += 1;
+        self.calls += calls.len() as u64;
+        self.exits.count(reading, adjust, exit(result, calls));
+        if calls.len() < 2 || !reading.corrects() {
+            return;
+        }
+        let differenced = matches!(
+            reading.method,
+            TransformMethod::DIFFERENCE | TransformMethod::NORMALIZE_DIFFERENCE
+        );
+        let kind = match (differenced, reading.time_augmented) {
+            (true, _) => 0,
+            (_, true) => 1,
+            _ => 2,
+        };
+        self.corrected[kind] += 1;
+    }
+}
+
 /// The stand-in forest, as the host asks it.
 struct Lending<'a>(&'a RCFLarge<u64, u64>);
 
@@ -375,26 +396,11 @@ fn sequence(tally: &mut Tally, random: &mut Random, seen: &mut Seen) {
             return;
         }
         let (result, calls) = judge(tally, &reading, &mut drawer, &mut rust);
-        let asked_twice = calls.len() > 1 && reading.corrects();
-        if asked_twice {
-            let differenced = matches!(
-                reading.method,
-                TransformMethod::DIFFERENCE | TransformMethod::NORMALIZE_DIFFERENCE
-            );
-            let kind = match (differenced, reading.time_augmented) {
-                (true, _) => 0,
-                (_, true) => 1,
-                _ => 2,
-            };
-            seen.corrected[kind] += 1;
-        }
+        seen.count(&reading, &result, &calls, adjust);
         seen.spoiled += !keep(&mut last, &reading, &result) as u64;
         tally.compare(&kept_by_host(&drawer), &kept_by_rust(&last), || {
             format!("what is kept: {reading:?}")
         });
-        seen.readings += 1;
-        seen.calls += calls.len() as u64;
-        seen.exits.count(&reading, adjust, exit(&result, &calls));
         maker.judged(&reading, &result);
     }
 }
