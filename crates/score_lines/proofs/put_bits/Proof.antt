@@ -1,6 +1,5 @@
-use mathlib.Core.Path.{_≡_, ap₂, _∙_}
+use mathlib.Core.Path.{ap₂, _∙_}
 use native.Mathlib.Omega.{arith}
-use lib.ListN.{take}
 use Rattle.io.specs.Digits.{digits}
 use Rattle.score_lines.proofs.Bytes.{eight}
 use Rattle.score_lines.specs.Output.{bits}
