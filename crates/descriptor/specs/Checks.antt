@@ -4,7 +4,8 @@ use mathlib.Core.Bool.{Bool, true, false, cond, _&&_, not}
 use mathlib.Core.List.{List, [], _∷_}
 use lib.Dec.{leb, ltb, eqb}
 use lib.ListN.{length}
-use lib.Ieee.{Float, nan, inf, fin}
+use lib.Ieee.{Float}
+use lib.Ieee.Scale.{finite}
 use Rattle.types.specs.declared.Refusal.the-variants.{Range, Length, NotFinite, ValuesSeen, Count}
 use Rattle.types.specs.declared.Answer.{Answer}
 use Rattle.types.specs.declared.Answer.the-variants.{Done, Refused}
@@ -12,18 +13,13 @@ use Rattle.descriptor.specs.Lent.{Lent}
 use Rattle.descriptor.specs.declared.Reading.{Reading}
 use Rattle.descriptor.specs.declared.LastDescriptor.{LastDescriptor}
 
--- Neither NaN nor an infinity.
-unfoldable pub isFinite : Float → Bool
-isFinite nan = false
-isFinite (inf s) = false
-isFinite (fin s m e) = true
-
 unfoldable pub every : {A : Type 0} → (A → Bool) → List A → Bool
 every f [] = true
 every f (x ∷ xs) = f x && every f xs
 
+-- Neither NaN nor an infinity among them.
 abbrev pub allFinite : List Float → Bool
-allFinite xs = every isFinite xs
+allFinite xs = every finite xs
 
 -- Shingle size 1 to 64, base dimension 1 to 16.
 unfoldable pub sizesOk : ℕ → ℕ → Bool
@@ -69,12 +65,12 @@ lengthsOk r l b expected outHigh outLow =
 
 -- The numbers of the reading and of the last descriptor.
 unfoldable pub numbersFinite : Reading → LastDescriptor → Bool
-numbersFinite r l = isFinite (r .score) && (isFinite (r .«corrected_score») && (isFinite (l .score) && isFinite (l .threshold)))
+numbersFinite r l = finite (r .score) && (finite (r .«corrected_score») && (finite (l .score) && finite (l .threshold)))
 
 -- The last anomaly's score and points, behind its yes/no.
 unfoldable pub lastFinite : LastDescriptor → List Float → List Float → Bool
 lastFinite l expected anomalous =
-    cond (l .«has_anomaly») (isFinite (l .anomaly .score) && (allFinite expected && allFinite anomalous)) true
+    cond (l .«has_anomaly») (finite (l .anomaly .score) && (allFinite expected && allFinite anomalous)) true
 
 -- Refusal 4 otherwise: every lent float is finite.
 unfoldable pub finiteOk : Reading → LastDescriptor → Lent → Bool

@@ -37,14 +37,6 @@ pub struct LastDescriptor {
     pub anomaly: LastAnomaly,
 }
 
-// Neither NaN nor an infinity: the difference with itself is a number.
-pub fn is_finite_f32(x: f32) -> bool
-    ensures { λ r. ⌜ r ≡ Checks.isFinite x ⌝ }
-{
-    let gap = x - x;
-    gap == gap
-}
-
 // No early exit: a turn without a branch lets the compiler take several elements at once.
 pub fn all_finite_f32(xs: &[f32]) -> bool
     ensures { λ r. ⌜ r ≡ Checks.allFinite (now (xs .entry)) ⌝ }
@@ -147,8 +139,9 @@ pub fn last_points_ok(has_anomaly: bool, d: usize, expected: usize, anomalous: u
 fn numbers_finite(r: Reading, l: LastDescriptor) -> bool
     ensures { λ b. ⌜ b ≡ Checks.numbersFinite r l ⌝ }
 {
-    is_finite_f32(r.score)
-        & (is_finite_f32(r.corrected_score) & (is_finite_f32(l.score) & is_finite_f32(l.threshold)))
+    ieee::is_finite(r.score)
+        & (ieee::is_finite(r.corrected_score)
+            & (ieee::is_finite(l.score) & ieee::is_finite(l.threshold)))
 }
 
 fn last_finite(l: LastDescriptor, expected: &[f32], anomalous: &[f32]) -> bool
@@ -156,7 +149,7 @@ fn last_finite(l: LastDescriptor, expected: &[f32], anomalous: &[f32]) -> bool
 {
     let anomaly = l.anomaly;
     if l.has_anomaly {
-        return is_finite_f32(anomaly.score)
+        return ieee::is_finite(anomaly.score)
             & (all_finite_f32(expected) & all_finite_f32(anomalous));
     }
     true
