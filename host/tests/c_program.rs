@@ -10,8 +10,8 @@ score 1.75: refusal 5
 state kept
 ";
 
-/// The archives in an order in which each may use those behind it.
-const ARCHIVES: [&str; 4] = ["c_judging", "c_calls", "c_chain", "c_interface"];
+/// The archives whose functions it calls.
+const ARCHIVES: [&str; 3] = ["c_interface", "c_chain", "c_judging"];
 
 /// The first of these compilers that starts.
 fn compiler() -> Option<String> {
