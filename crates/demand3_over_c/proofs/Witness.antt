@@ -21,7 +21,7 @@ use Rattle.basicthresholder.specs.Updates.{countsOk, primaryCounted, countedOve
 use Rattle.basicthresholder.specs.Grades.{primaryThresholdAndGrade, threshold, thresholdBy, primaryGrade, gradeOver, isDeviationReady, countsReady}
 use Rattle.ledger.specs.Statement.{mostReadings, accepted, Sized, Sizes, InBounds}
 use Rattle.descriptor.specs.Lent.{Lent}
-use Rattle.descriptor.specs.Checks.{isFinite, every, sizesOk, dimension, rangeOk, pointsOk, rowsOk, neighboursOk, lastPointsOk, lengthsOk, numbersFinite, lastFinite, finiteOk, isLater, seenOk, answerOf}
+use Rattle.descriptor.specs.Checks.{every, sizesOk, dimension, rangeOk, pointsOk, rowsOk, neighboursOk, lastPointsOk, lengthsOk, numbersFinite, lastFinite, finiteOk, isLater, seenOk, answerOf}
 use Rattle.descriptor.specs.declared.Reading.{Reading}
 use Rattle.descriptor.specs.declared.LastDescriptor.{LastDescriptor}
 use Rattle.predictorcorrector.specs.State.{new, freshState, freshList, stateCountsOk, runEnded, scoreCounted}
@@ -124,7 +124,7 @@ accepted-in-turn (suc n) xs s k d =
     ∙ omega arith
 
 eleven-done : AllDone 11 (new nought false 1 .state)
-unfolding answerOf rangeOk sizesOk lengthsOk dimension pointsOk rowsOk neighboursOk lastPointsOk finiteOk numbersFinite lastFinite isFinite every seenOk isLater
+unfolding answerOf rangeOk sizesOk lengthsOk dimension pointsOk rowsOk neighboursOk lastPointsOk finiteOk numbersFinite lastFinite every seenOk isLater
     stateCountsOk countsOk countable listCountable firstCountable new freshState freshList
     lt le eq ne ofBits round add sub mul div ofInt
     readReading decodeReading readLast decodeLast decodeAnomaly f32At i32At signed le4 flagAt strategyFrom methodFrom
