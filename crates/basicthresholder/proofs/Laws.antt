@@ -1,15 +1,62 @@
--- What callers use of the definitions: when a grade is 0, and what an update does to each part of the state. Assumes nothing.
-use mathlib.Core.Path.{_≡_, refl}
-use mathlib.Core.Bool.{Bool, true, false, cond, _||_}
+-- What callers use of the definitions: what a construction answers, when a grade is 0, and what an update does to each part of the state. Assumes nothing.
+use mathlib.Core.Path.{_≡_, refl, ap, sym}
+use mathlib.Core.Bool.{Bool, true, false, cond, _||_, true≢false}
 use lib.Ieee as Ieee
 use lib.Ieee.{Float, binary32}
 use Rattle.ieee.specs.Round.{narrow}
-use Rattle.deviation.specs.Statistics.{deviation, counted, oneMore}
-use Rattle.basicthresholder.specs.Const.{zero32}
+use Rattle.util.specs.Util.{minf32}
+use Rattle.types.specs.declared.Refusal.{Refusal}
+use Rattle.types.specs.declared.Refusal.the-variants.{Discount, Horizon}
+use Rattle.deviation.specs.Statistics.{deviation, counted, oneMore, isDiscount}
+use Rattle.basicthresholder.specs.Const.{zero32, two32}
 use Rattle.basicthresholder.specs.Grades.{graded, gradedOr, gradeAgainst, sixteenths, isDeviationReady, threshold, gradeOver, primaryGrade, primaryThresholdAndGrade}
-use Rattle.basicthresholder.specs.Updates.{primaryCounted, bothCounted, cappedCounted, countedOver}
+use Rattle.basicthresholder.specs.Updates.{freshThresholder, newAdjustible, done, refused, withScoreDifferencing, isHorizon, setScoreDifferencing, updated, updateThreshold, updatePrimary, updateBoth, update, thresholdCounted, primaryCounted, bothCounted, countedOver, countsOk}
 use Rattle.basicthresholder.specs.declared.BasicThresholder.{BasicThresholder}
 use Rattle.basicthresholder.specs.declared.Graded.{Graded}
+use Rattle.basicthresholder.specs.declared.Made.{Made}
+use Rattle.basicthresholder.specs.declared.Made.the-variants.{Ready, Refused}
+
+-- ---- what a construction's answer tells of the discount.
+abbrev isReady : Made → Bool
+isReady (Ready t) = true
+isReady (Refused why) = false
+
+abbrev ready-or : BasicThresholder → Made → BasicThresholder
+ready-or t (Ready s) = s
+ready-or t (Refused why) = t
+
+abbrev refused-or : Refusal → Made → Refusal
+refused-or why (Ready s) = why
+refused-or why (Refused because) = because
+
+module _ (d : Float) (adjust : Bool) where
+  abbrev made : Bool → Made
+  made b = cond b (Ready (freshThresholder d adjust)) (Refused Discount)
+
+  pub made-ready : (t : BasicThresholder) → newAdjustible d adjust ≡ Ready t → (isDiscount d ≡ true) × (t ≡ freshThresholder d adjust)
+  unfolding newAdjustible
+  made-ready t = by (isDiscount d)
+    where
+      by : (b : Bool) → made b ≡ Ready t → (b ≡ true) × (t ≡ freshThresholder d adjust)
+      by true e = (refl, ap (ready-or t) (sym e))
+      by false e = absurd (true≢false (ap isReady (sym e)))
+
+  pub made-refused : (why : Refusal) → newAdjustible d adjust ≡ Refused why → (isDiscount d ≡ false) × (why ≡ Discount)
+  unfolding newAdjustible
+  made-refused why = by (isDiscount d)
+    where
+      by : (b : Bool) → made b ≡ Refused why → (b ≡ false) × (why ≡ Discount)
+      by true e = absurd (true≢false (ap isReady e))
+      by false e = (refl, ap (refused-or why) (sym e))
+
+-- The horizon alone decides the answer.
+pub horizon-answer : (s t : BasicThresholder) (x : Float) → setScoreDifferencing s x .answer ≡ setScoreDifferencing t x .answer
+unfolding setScoreDifferencing
+horizon-answer s t x = by (isHorizon x)
+  where
+    by : (b : Bool) → cond b (done (withScoreDifferencing s x)) (refused Horizon s) .answer ≡ cond b (done (withScoreDifferencing t x)) (refused Horizon t) .answer
+    by true = refl
+    by false = refl
 
 -- ---- grades of the height strategy: 0, or above 0 beside the threshold.
 module _ (score limit surprise : Float) where
@@ -51,6 +98,28 @@ module _ (s : BasicThresholder) (score : Float) where
 pub over-zero : (t spread : Float) → Ieee.lt zero32 t ≡ false → gradeOver t spread ≡ zero32
 unfolding gradeOver
 over-zero t spread h = rw h
+
+-- ---- where every count takes an update, the state handed back is the counted one.
+module _ (s : BasicThresholder) (ok : countsOk s ≡ true) where
+  pub updated-counted : (after : BasicThresholder) → updated s after .thresholder ≡ after
+  unfolding updated
+  updated-counted after = rw ok
+
+  pub threshold-counted : (x : Float) → updateThreshold s x .thresholder ≡ thresholdCounted s x
+  unfolding updateThreshold
+  threshold-counted x = updated-counted (thresholdCounted s x)
+
+  pub primary-counted : (x : Float) → updatePrimary s x .thresholder ≡ primaryCounted s x
+  unfolding updatePrimary
+  primary-counted x = updated-counted (primaryCounted s x)
+
+  pub both-counted : (x y : Float) → updateBoth s x y .thresholder ≡ bothCounted s x y
+  unfolding updateBoth
+  both-counted x y = updated-counted (bothCounted s x y)
+
+  pub capped-counted : (x y last : Float) → update s x y last .thresholder ≡ bothCounted s (minf32 two32 x) (Ieee.sub binary32 y last)
+  unfolding update
+  capped-counted x y last = both-counted (minf32 two32 x) (Ieee.sub binary32 y last)
 
 -- ---- what an update does to each part.
 module _ (s : BasicThresholder) (x : Float) where

@@ -1,6 +1,6 @@
 -- Steps of the functions' proofs: what a test on a field of the state picks. Assumes nothing.
 use mathlib.Core.Path.{_≡_}
-use mathlib.Core.Bool.{Bool, true, false, _&&_}
+use mathlib.Core.Bool.{true, false}
 use lib.Ieee.{Float}
 use Rattle.basicthresholder.specs.Grades.{absoluteOf, easedAbsolute, intermediateFraction}
 use Rattle.basicthresholder.specs.declared.BasicThresholder.{BasicThresholder}
@@ -13,10 +13,3 @@ module _ (s : BasicThresholder) (t : Float) where
   pub absolute-off : s .«auto_threshold» ≡ false → s .«absolute_threshold» ≡ absoluteOf s t
   unfolding absoluteOf
   absolute-off h = rw h
-
--- A test in front of a conjunction.
-pub and-true : {a b : Bool} → a ≡ true → b ≡ (a && b)
-and-true h = rw h
-
-pub and-false : {a : Bool} (b : Bool) → a ≡ false → false ≡ (a && b)
-and-false b h = rw h

@@ -1,11 +1,12 @@
 -- basicthresholder.rs: threshold and grade of a score against the state. One definition for each function, in the Rust's shape; the steps of the crate grading
--- take the numbers they read, and `self`'s fields are handed to them.
+-- take the numbers they read, and `self`'s fields are handed to them. Operators are those of f32, `*₆₄` is f64's.
 use Prim.Native.Nat.{ℕ}
 use mathlib.Core.Bool.{Bool, true, false, cond, _&&_, _||_, not}
 use lib.Dec.{eqb}
-use lib.Ieee as Ieee
-use lib.Ieee.{Float, binary32, binary64}
+use lib.Ieee.{Float}
 use Rattle.ieee.specs.Round.{narrow}
+use Rattle.ieee.specs.F32.{_+_, _-_, _*_, _/_, _<_, _>_, _==_}
+use Rattle.ieee.specs.F64.{_*_ as _*₆₄_}
 use Rattle.util.specs.Util.{minf32}
 use Rattle.types.specs.Codes.{isNone, isDifferenced}
 use Rattle.types.specs.declared.TransformMethod.{TransformMethod}
@@ -25,14 +26,15 @@ isDeviationReady s = countsReady (s .count) (s .«score_differencing») (s .«pr
 -- The deviations' part of `long_term_deviation`: the smallest of the three, the third times the root of 2, mixed with the second.
 unfoldable pub smallestDeviation : BasicThresholder → Float
 smallestDeviation s =
-    let first = smaller (Ieee.mul binary64 rootOfTwo (deviation (s .«threshold_deviation»))) (deviation (s .«primary_deviation»)) in
+    let t = rootOfTwo *₆₄ deviation (s .«threshold_deviation») in
+    let first = smaller t (deviation (s .«primary_deviation»)) in
     let second = deviation (s .«secondary_deviation») in
     mixed (s .«score_differencing») (smaller second first) second
 
 unfoldable pub longTermDeviation : BasicThresholder → Bool → ℕ → Float
-longTermDeviation s differenced shingle =
-    cond (eqb shingle 1 && not differenced)
-    (minf32 (narrow (Ieee.mul binary64 rootOfTwo (mean (s .«threshold_deviation»)))) (narrow (mean (s .«primary_deviation»))))
+longTermDeviation s differenced shingleSize =
+    cond (eqb shingleSize 1 && not differenced)
+    (minf32 (narrow (rootOfTwo *₆₄ mean (s .«threshold_deviation»))) (narrow (mean (s .«primary_deviation»))))
     (smallestDeviation s)
 
 unfoldable pub absoluteOf : BasicThresholder → Float → Float
@@ -43,31 +45,34 @@ absoluteOf s t =
 
 -- A grade above 0 goes with the threshold; otherwise the score itself is answered as the threshold.
 unfoldable pub gradedOr : Float → Float → Float → Graded
-gradedOr score threshold grade = cond (Ieee.lt zero32 grade) (graded threshold grade) (graded score zero32)
+gradedOr score threshold t = cond (t > zero32) (graded threshold t) (graded score zero32)
 
 -- Grade 0 below the threshold or when that is 0.
 unfoldable pub gradeAgainst : Float → Float → Float → Graded
 gradeAgainst score threshold surprise =
-    cond (Ieee.lt score threshold || Ieee.eq threshold zero32) (graded threshold zero32) (gradedOr score threshold (sixteenths surprise))
+    cond (score < threshold || threshold == zero32) (graded threshold zero32) (gradedOr score threshold (sixteenths surprise))
 
 unfoldable pub thresholdAndGradeWithFactor : BasicThresholder → Float → Float → TransformMethod → ℕ → Graded
-thresholdAndGradeWithFactor s score factor method shingle =
+thresholdAndGradeWithFactor s score factor method shingleSize =
     let ready = isDeviationReady s in
+    let fraction = intermediateFraction (s .count) in
     let t = narrow (mean (s .«primary_deviation»)) in
     let newFactor = adjustedFactor t factor (s .«factor_adjustment_threshold») (isNone method) in
-    let scaled = Ieee.add binary32 (Ieee.mul binary32 (Ieee.sub binary32 newFactor one32) (longTermDeviation s (isDifferenced method) shingle)) (narrow (deviation (s .«primary_deviation»))) in
-    let threshold = thresholdFrom ready (intermediateFraction (s .count)) t scaled (s .«initial_threshold») (absoluteOf s t) in
-    gradeAgainst score threshold (surpriseIndex ready score threshold newFactor (Ieee.div binary32 scaled newFactor) (s .«absolute_threshold»))
+    let longTerm = longTermDeviation s (isDifferenced method) shingleSize in
+    let scaledDeviation = (newFactor - one32) * longTerm + narrow (deviation (s .«primary_deviation»)) in
+    let absolute = absoluteOf s t in
+    let threshold = thresholdFrom ready fraction t scaledDeviation (s .«initial_threshold») absolute in
+    let surprise = surpriseIndex ready score threshold newFactor (scaledDeviation / newFactor) (s .«absolute_threshold») in
+    gradeAgainst score threshold surprise
 
 unfoldable pub thresholdAndGrade : BasicThresholder → Float → TransformMethod → ℕ → Graded
-thresholdAndGrade s score method shingle = thresholdAndGradeWithFactor s score (s .«z_factor») method shingle
+thresholdAndGrade s score method shingleSize = thresholdAndGradeWithFactor s score (s .«z_factor») method shingleSize
 
 unfoldable pub threshold : BasicThresholder → Float
 threshold s = thresholdBy (narrow (mean (s .«primary_deviation»))) (s .«z_factor») (narrow (deviation (s .«primary_deviation»)))
 
 unfoldable pub primaryGrade : BasicThresholder → Float → Float
-primaryGrade s score =
-    cond (isDeviationReady s) (gradeOver (Ieee.sub binary32 score (threshold s)) (narrow (deviation (s .«primary_deviation»)))) zero32
+primaryGrade s score = cond (isDeviationReady s) (gradeOver (score - threshold s) (narrow (deviation (s .«primary_deviation»)))) zero32
 
 unfoldable pub primaryThresholdAndGrade : BasicThresholder → Float → Graded
 primaryThresholdAndGrade s score = graded (threshold s) (primaryGrade s score)

@@ -9,6 +9,8 @@ use util::minf32;
 ghost use mathlib.Core.Path.{_≡_};
 ghost use mathlib.Core.Bool.{false};
 ghost use Rattle.ieee.specs.Round as Round;
+ghost use Rattle.deviation.specs.Const.{zero64};
+ghost use Rattle.deviation.specs.Statistics as Statistics;
 ghost use Rattle.deviation.specs.Statistics.{mean, deviation};
 ghost use Rattle.basicthresholder.specs.Grades as Grades;
 ghost use Rattle.basicthresholder.specs.Updates as Updates;
@@ -94,11 +96,26 @@ fn grade_against(score: f32, threshold: f32, surprise: f32) -> Graded
     graded_or(score, threshold, grading::sixteenths(surprise))
 }
 
+// Refusal 7 is of any other horizon.
+fn is_horizon(horizon: f32) -> bool
+    ensures { λ r. ⌜ r ≡ Updates.isHorizon horizon ⌝ }
+{
+    (horizon >= 0.0) & (horizon <= 1.0)
+}
+
+// The statistic that `update` hands back.
+fn counted(d: Deviation, score: f64) -> Deviation
+    ensures { λ r. ⌜ r ≡ Statistics.counted d score ⌝ }
+{
+    let after = d.update(score);
+    after.deviation
+}
+
 fn counted_gap(third: Deviation, gap: f32) -> Deviation
     ensures { λ r. ⌜ r ≡ Updates.countedGap third gap ⌝ }
 {
     if gap > 0.0 {
-        return third.counted(std::num::f32_to_f64_with_nan(gap));
+        return counted(third, std::num::f32_to_f64_with_nan(gap));
     }
     third
 }
@@ -109,33 +126,12 @@ fn counted_over(third: Deviation, primary: Deviation, score: f32) -> Deviation
     counted_gap(third, score - narrow(primary.mean()))
 }
 
-fn is_horizon(horizon: f32) -> bool
-    ensures { λ r. ⌜ r ≡ Updates.isHorizon horizon ⌝ }
-{
-    if horizon >= 0.0 {
-        return horizon <= 1.0;
-    }
-    false
-}
-
-// Refusal 7 for a horizon outside [0, 1].
-pub fn horizon_answer(horizon: f32) -> Answer
-    ensures { λ r. ⌜ r ≡ Updates.horizonAnswer horizon ⌝ }
-{
-    if is_horizon(horizon) {
-        return Answer::Done;
-    }
-    Answer::Refused(Refusal::Horizon)
-}
-
 impl BasicThresholder {
     pub fn new_adjustible(discount: f64, adjust: bool) -> Made
         ensures { λ r. ⌜ r ≡ Updates.newAdjustible discount adjust ⌝ }
     {
-        if discount >= 0.0 {
-            if discount < 1.0 {
-                return Made::Ready(BasicThresholder::fresh(discount, adjust));
-            }
+        if (discount >= 0.0) & (discount < 1.0) {
+            return Made::Ready(BasicThresholder::fresh(discount, adjust));
         }
         Made::Refused(Refusal::Discount)
     }
@@ -146,8 +142,15 @@ impl BasicThresholder {
         BasicThresholder::new_adjustible(discount, false)
     }
 
-    // A new state; `new_adjustible` tests the discount.
-    pub fn fresh(discount: f64, adjust: bool) -> BasicThresholder
+    // A new state of discount 0, as `Deviation::default` is a new statistic of it.
+    pub fn default() -> BasicThresholder
+        ensures { λ r. ⌜ r ≡ Updates.freshThresholder zero64 false ⌝ }
+    {
+        BasicThresholder::fresh(0.0, false)
+    }
+
+    // `new_adjustible` tests the discount.
+    fn fresh(discount: f64, adjust: bool) -> BasicThresholder
         ensures { λ r. ⌜ r ≡ Updates.freshThresholder discount adjust ⌝ }
     {
         let statistic = Deviation::create(discount, 0.0, 0.0, 0.0, 0);
@@ -196,10 +199,7 @@ impl BasicThresholder {
         requires { ⌜ t ≡ Round.narrow (mean (self .«primary_deviation»)) ⌝ ∗ ⌜ first ≡ deviation (self .«primary_deviation») ⌝ }
         ensures { λ r. ⌜ r ≡ Grades.longTermDeviation self differenced «shingle_size» ⌝ }
     {
-        if shingle_size == 1 {
-            if differenced {
-                return self.smallest_deviation(first);
-            }
+        if (shingle_size == 1) & !differenced {
             return minf32(narrow(ROOT_OF_TWO * self.threshold_deviation.mean()), t);
         }
         self.smallest_deviation(first)
@@ -247,17 +247,23 @@ impl BasicThresholder {
         let limit = self.factor_adjustment_threshold;
         let new_factor = grading::adjusted_factor(t, factor, limit, method.is_none());
         let long_term = self.long_term_deviation(t, first, method.is_differenced(), shingle_size);
-        let scaled = (new_factor - 1.0) * long_term + narrow(first);
+        let scaled_deviation = (new_factor - 1.0) * long_term + narrow(first);
         let absolute = self.absolute(t, fraction);
         let initial = self.initial_threshold;
-        let threshold = grading::threshold_from(ready, fraction, t, scaled, initial, absolute);
-        let spread = scaled / new_factor;
+        let threshold = grading::threshold_from(
+            ready,
+            fraction,
+            t,
+            scaled_deviation,
+            initial,
+            absolute,
+        );
         let surprise = grading::surprise_index(
             ready,
             score,
             threshold,
             new_factor,
-            spread,
+            scaled_deviation / new_factor,
             self.absolute_threshold,
         );
         grade_against(score, threshold, surprise)
@@ -284,12 +290,12 @@ impl BasicThresholder {
         ensures { λ r. ⌜ r ≡ Grades.primaryThresholdAndGrade self score ⌝ }
     {
         let mean = narrow(self.primary_deviation.mean());
-        let spread = narrow(self.primary_deviation.deviation());
-        let threshold = grading::threshold_by(mean, self.z_factor, spread);
+        let deviation = narrow(self.primary_deviation.deviation());
+        let threshold = grading::threshold_by(mean, self.z_factor, deviation);
         if self.is_deviation_ready() {
             return Graded {
                 threshold,
-                grade: grading::grade_over(score - threshold, spread),
+                grade: grading::grade_over(score - threshold, deviation),
             };
         }
         Graded {
@@ -298,8 +304,8 @@ impl BasicThresholder {
         }
     }
 
-    // What `update_threshold`, `update_primary`, `update_both` and `update` leave, for callers that tested the counts.
-    pub fn threshold_counted(self, score: f32) -> BasicThresholder
+    // What `update_threshold`, `update_primary` and `update_both` leave where `counts_ok`.
+    fn threshold_counted(self, score: f32) -> BasicThresholder
         ensures { λ r. ⌜ r ≡ Updates.thresholdCounted self score ⌝ }
     {
         let third = counted_over(self.threshold_deviation, self.primary_deviation, score);
@@ -308,11 +314,11 @@ impl BasicThresholder {
         out
     }
 
-    pub fn primary_counted(self, score: f64) -> BasicThresholder
+    fn primary_counted(self, score: f64) -> BasicThresholder
         ensures { λ r. ⌜ r ≡ Updates.primaryCounted self score ⌝ }
     {
         let last_score = narrow(score);
-        let primary = self.primary_deviation.counted(score);
+        let primary = counted(self.primary_deviation, score);
         let third = counted_over(self.threshold_deviation, primary, last_score);
         let count = deviation::one_more(self.count);
         let mut out = self;
@@ -323,13 +329,17 @@ impl BasicThresholder {
         out
     }
 
-    pub fn both_counted(self, primary: f32, secondary: f32) -> BasicThresholder
+    fn both_counted(self, primary: f32, secondary: f32) -> BasicThresholder
         ensures { λ r. ⌜ r ≡ Updates.bothCounted self primary secondary ⌝ }
     {
-        let first = self.primary_deviation
-            .counted(std::num::f32_to_f64_with_nan(primary));
-        let second = self.secondary_deviation
-            .counted(std::num::f32_to_f64_with_nan(secondary));
+        let first = counted(
+            self.primary_deviation,
+            std::num::f32_to_f64_with_nan(primary),
+        );
+        let second = counted(
+            self.secondary_deviation,
+            std::num::f32_to_f64_with_nan(secondary),
+        );
         let third = counted_over(self.threshold_deviation, first, primary);
         let count = deviation::one_more(self.count);
         let mut out = self;
@@ -341,12 +351,6 @@ impl BasicThresholder {
         out
     }
 
-    pub fn capped_counted(self, primary: f32, secondary: f32, last_score: f32) -> BasicThresholder
-        ensures { λ r. ⌜ r ≡ Updates.cappedCounted self primary secondary «last_score» ⌝ }
-    {
-        self.both_counted(minf32(2.0, primary), secondary - last_score)
-    }
-
     // Every count of the record takes an update.
     pub fn counts_ok(self) -> bool
         ensures { λ r. ⌜ r ≡ Updates.countsOk self ⌝ }
@@ -354,18 +358,12 @@ impl BasicThresholder {
         let primary = self.primary_deviation;
         let secondary = self.secondary_deviation;
         let third = self.threshold_deviation;
-        if deviation::countable(self.count) {
-            if deviation::countable(primary.count) {
-                if deviation::countable(secondary.count) {
-                    return deviation::countable(third.count);
-                }
-                return false;
-            }
-            return false;
-        }
-        false
+        deviation::countable(self.count)
+            & (deviation::countable(primary.count)
+                & (deviation::countable(secondary.count) & deviation::countable(third.count)))
     }
 
+    // Refusal 6 hands the state back as it came.
     fn updated(self, after: BasicThresholder) -> Updated
         ensures { λ r. ⌜ r ≡ Updates.updated self after ⌝ }
     {
@@ -382,27 +380,28 @@ impl BasicThresholder {
     }
 
     pub fn update_threshold(self, score: f32) -> Updated
-        ensures { λ r. ⌜ r ≡ Updates.updated self (Updates.thresholdCounted self score) ⌝ }
+        ensures { λ r. ⌜ r ≡ Updates.updateThreshold self score ⌝ }
     {
         self.updated(self.threshold_counted(score))
     }
 
     pub fn update_primary(self, score: f64) -> Updated
-        ensures { λ r. ⌜ r ≡ Updates.updated self (Updates.primaryCounted self score) ⌝ }
+        ensures { λ r. ⌜ r ≡ Updates.updatePrimary self score ⌝ }
     {
         self.updated(self.primary_counted(score))
     }
 
     pub fn update_both(self, primary: f32, secondary: f32) -> Updated
-        ensures { λ r. ⌜ r ≡ Updates.updated self (Updates.bothCounted self primary secondary) ⌝ }
+        ensures { λ r. ⌜ r ≡ Updates.updateBoth self primary secondary ⌝ }
     {
         self.updated(self.both_counted(primary, secondary))
     }
 
+    // The primary is capped at 2.
     pub fn update(self, primary: f32, secondary: f32, last_score: f32) -> Updated
-        ensures { λ r. ⌜ r ≡ Updates.updated self (Updates.cappedCounted self primary secondary «last_score») ⌝ }
+        ensures { λ r. ⌜ r ≡ Updates.update self primary secondary «last_score» ⌝ }
     {
-        self.updated(self.capped_counted(primary, secondary, last_score))
+        self.update_both(minf32(2.0, primary), secondary - last_score)
     }
 
     pub fn z_factor(self) -> f32
@@ -443,24 +442,21 @@ impl BasicThresholder {
         out
     }
 
-    // The state with the horizon, or itself where the horizon is refused.
-    pub fn horizon_set(self, horizon: f32) -> BasicThresholder
-        ensures { λ r. ⌜ r ≡ Updates.horizonSet self horizon ⌝ }
+    // Refusal 7 hands the state back as it came.
+    pub fn set_score_differencing(self, horizon: f32) -> Updated
+        ensures { λ r. ⌜ r ≡ Updates.setScoreDifferencing self horizon ⌝ }
     {
         if is_horizon(horizon) {
             let mut out = self;
             out.score_differencing = horizon;
-            return out;
+            return Updated {
+                answer: Answer::Done,
+                thresholder: out,
+            };
         }
-        self
-    }
-
-    pub fn set_score_differencing(self, horizon: f32) -> Updated
-        ensures { λ r. ⌜ r ≡ Updates.setScoreDifferencing self horizon ⌝ }
-    {
         Updated {
-            answer: horizon_answer(horizon),
-            thresholder: self.horizon_set(horizon),
+            answer: Answer::Refused(Refusal::Horizon),
+            thresholder: self,
         }
     }
 

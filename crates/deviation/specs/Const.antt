@@ -1,15 +1,7 @@
--- The numbers that deviation.rs writes. A literal of the source is `ofBits` of its pattern; `constants` says which number each one is.
-use mathlib.Core.Path.{_≡_, refl}
-use mathlib.Core.Bool.{false}
-use lib.IntN.{pos}
-use lib.Ieee.{Float, fin, ofBits, binary64}
+-- The numbers that deviation.rs and document 01's table write.
+use Prim.Native.Nat.{ℕ}
+pub use Rattle.ieee.specs.F64.{zero64, one64}
 
-abbrev pub zero64 : Float
-zero64 = ofBits binary64 0
-
-abbrev pub one64 : Float
-one64 = ofBits binary64 0x3FF0_0000_0000_0000
-
-pub constants : (zero64 ≡ fin false 0 (pos 0)) × (one64 ≡ fin false 1 (pos 0))
-unfolding ofBits
-constants = (refl, refl)
+-- The largest count, and the longest run, that refusal 6 lets pass.
+abbrev pub countLimit : ℕ
+countLimit = 16777215

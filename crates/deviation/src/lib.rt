@@ -28,6 +28,9 @@ pub struct Updated {
     pub deviation: Deviation,
 }
 
+// The largest count that an update takes.
+const COUNT_LIMIT: i32 = 16777215;
+
 // A count that an update takes: 0 to 16,777,215.
 pub fn countable(count: i32) -> bool
     ensures { λ r. ⌜ r ≡ Statistics.countable count ⌝ }
@@ -35,7 +38,7 @@ pub fn countable(count: i32) -> bool
     if count < 0 {
         return false;
     }
-    count <= 16777215
+    count <= COUNT_LIMIT
 }
 
 fn plus_one(count: i32) -> i32
@@ -53,15 +56,6 @@ pub fn one_more(count: i32) -> i32
         return plus_one(count);
     }
     count
-}
-
-pub fn count_answer(count: i32) -> Answer
-    ensures { λ r. ⌜ r ≡ Statistics.countAnswer count ⌝ }
-{
-    if countable(count) {
-        return Answer::Done;
-    }
-    Answer::Refused(Refusal::Count)
 }
 
 fn plus_two(count: i32) -> f64
@@ -94,10 +88,8 @@ impl Deviation {
     pub fn new(discount: f64) -> Made
         ensures { λ r. ⌜ r ≡ Statistics.new discount ⌝ }
     {
-        if discount >= 0.0 {
-            if discount < 1.0 {
-                return Made::Ready(Deviation::create(discount, 0.0, 0.0, 0.0, 0));
-            }
+        if (discount >= 0.0) & (discount < 1.0) {
+            return Made::Ready(Deviation::create(discount, 0.0, 0.0, 0.0, 0));
         }
         Made::Refused(Refusal::Discount)
     }
@@ -149,22 +141,19 @@ impl Deviation {
         }
     }
 
-    // The record with one more score, or itself where its count is not countable: `update` for callers that tested the count.
-    pub fn counted(self, score: f64) -> Deviation
-        ensures { λ r. ⌜ r ≡ Statistics.counted self score ⌝ }
-    {
-        if countable(self.count) {
-            return self.next(score);
-        }
-        self
-    }
-
+    // Refusal 6 hands the record back as it came.
     pub fn update(self, score: f64) -> Updated
         ensures { λ r. ⌜ r ≡ Statistics.update self score ⌝ }
     {
+        if countable(self.count) {
+            return Updated {
+                answer: Answer::Done,
+                deviation: self.next(score),
+            };
+        }
         Updated {
-            answer: count_answer(self.count),
-            deviation: self.counted(score),
+            answer: Answer::Refused(Refusal::Count),
+            deviation: self,
         }
     }
 

@@ -1,14 +1,8 @@
 -- The numbers that these steps write. A literal of the source is `ofBits` of its pattern; `constants` says which number each one is.
 use mathlib.Core.Path.{_≡_, refl}
 use mathlib.Core.Bool.{false}
-use lib.IntN.{pos}
-use lib.Ieee.{Float, fin, ofBits, round, binary32}
-
-abbrev pub zero32 : Float
-zero32 = ofBits binary32 0
-
-abbrev pub one32 : Float
-one32 = ofBits binary32 0x3F80_0000
+use lib.Ieee.{Float, ofBits, round, binary32}
+pub use Rattle.ieee.specs.F32.{zero32, one32}
 
 abbrev pub two32 : Float
 two32 = ofBits binary32 0x4000_0000
@@ -26,12 +20,10 @@ abbrev pub tenth32 : Float
 tenth32 = ofBits binary32 0x3DCC_CCCD
 
 pub constants :
-    (zero32 ≡ fin false 0 (pos 0))
-    × (one32 ≡ fin false 1 (pos 0))
-    × (two32 ≡ round binary32 false 2 1)
+    (two32 ≡ round binary32 false 2 1)
     × (ten32 ≡ round binary32 false 10 1)
     × (sixteen32 ≡ round binary32 false 16 1)
     × (twenty32 ≡ round binary32 false 20 1)
     × (tenth32 ≡ round binary32 false 1 10)
 unfolding ofBits round
-constants = (refl, refl, refl, refl, refl, refl, refl)
+constants = (refl, refl, refl, refl, refl)

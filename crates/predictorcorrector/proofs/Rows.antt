@@ -1,12 +1,14 @@
 -- One step more of `stepped` and `changed`, as a loop takes it: a store at the next place. Lengths stay. Assumes nothing.
 use mathlib.Core.Path.{_≡_, refl, ap, ap₂, _∙_, sym}
-use mathlib.Core.Bool.{Bool, true, false, cond, _&&_}
+use mathlib.Core.Bool.{Bool, true, false, cond, _&&_, true≢false}
 use mathlib.Core.List.{List, [], _∷_}
 use Prim.Native.Nat.{ℕ, zero, suc, _<_, _≤_, _+_, _-_, zero-le}
 use native.Mathlib.Nat.{not-suc-le-zero, le-of-suc-le-suc}
 use native.Mathlib.Numerals.{add-one}
 use native.Mathlib.Omega.{arith}
+use lib.Dec.{leb}
 use lib.ListN.{length, getD, set, drop}
+use borrow.Author.Tests.{leb-true}
 use lib.Seq.{drop-cons}
 use lib.Ieee.{Float}
 use Rattle.deviation.specs.Statistics.{countable}
@@ -76,6 +78,13 @@ countable-end n i ds h = let e : n - i ≡ 0 = omega arith in ap (λ (m : ℕ). 
 pub existing-most : (auto : Bool) (base : ℕ) → base ≤ 16 → existing auto base ≤ 16
 existing-most true base h = h
 existing-most false base h = zero-le
+
+pub both : (a b : Bool) → (a && b) ≡ true → (a ≡ true) × (b ≡ true)
+both true b e = (refl, e)
+both false b e = absurd (true≢false (sym e))
+
+pub base-most : (n : ℕ) → (leb 1 n && leb n 16) ≡ true → n ≤ 16
+base-most n e = leb-true n 16 (both (leb 1 n) (leb n 16) e .1)
 
 -- What a `cond` picks by two tests.
 module _ {A : Type 0} {s t : Bool} (a b : A) where

@@ -10,16 +10,15 @@ use Rattle.types.specs.declared.Answer.{Answer}
 use Rattle.types.specs.declared.Answer.the-variants.{Done, Refused}
 use Rattle.types.specs.declared.ScoringStrategy.{ScoringStrategy}
 use Rattle.types.specs.Codes.{isHeight}
-use Rattle.types.specs.Refusals.{answered}
-use Rattle.deviation.specs.Const.{zero64}
+use Rattle.deviation.specs.Const.{zero64, countLimit}
 use Rattle.deviation.specs.Statistics.{fresh, isDiscount}
 use Rattle.deviation.specs.declared.Deviation.{Deviation}
 use Rattle.basicthresholder.specs.Const.{zero32}
-use Rattle.basicthresholder.specs.Updates.{freshThresholder, countsOk, primaryCounted, cappedCounted, withZFactor, withAbsoluteThreshold, withInitialThreshold, horizonAnswer, horizonSet}
+use Rattle.basicthresholder.specs.Updates.{freshThresholder, countsOk, updatePrimary, update, withZFactor, withAbsoluteThreshold, withInitialThreshold, setScoreDifferencing}
 use Rattle.basicthresholder.specs.declared.BasicThresholder.{BasicThresholder}
 use Rattle.predictorcorrector.specs.Lists.{changed, rowCounted, rowReset, listCountable}
 use Rattle.predictorcorrector.specs.declared.PredictorCorrector.{PredictorCorrector}
-use Rattle.predictorcorrector.specs.declared.Changed.{Changed}
+use Rattle.predictorcorrector.specs.declared.Updated.{Updated}
 
 -- The state by its parts.
 abbrev pub state : BasicThresholder → Bool → ℕ → ℕ → List Deviation → List Deviation → PredictorCorrector
@@ -31,6 +30,10 @@ state t auto run base actual expected = record {
   «deviations_actual» = actual;
   «deviations_expected» = expected;
 }
+
+-- A call's answer beside the state.
+abbrev pub updated : Answer → PredictorCorrector → Updated
+updated a s = record { answer = a; state = s }
 
 -- The state with another thresholder.
 abbrev pub withThresholder : PredictorCorrector → BasicThresholder → PredictorCorrector
@@ -49,18 +52,19 @@ unfoldable pub freshList : Float → ℕ → List Deviation
 freshList d n = changed (λ (old : Deviation). fresh d) n (replicate 16 (fresh zero64))
 
 unfoldable pub freshState : Float → Bool → ℕ → PredictorCorrector
-freshState d auto base =
-    state (freshThresholder d false) auto 0 base (freshList d (existing auto base)) (freshList d (existing auto base))
+freshState discount auto base =
+    let row = freshList discount (existing auto base) in
+    state (freshThresholder discount false) auto 0 base row row
 
 -- What stands beside a refused construction's answer: the new state of discount 0, base 1, without auto adjust. No call hands it on.
-unfoldable pub refusedNew : Answer → Changed
-refusedNew why = record { answer = why; state = freshState zero64 false 1 }
+unfoldable pub refusedNew : Answer → Updated
+refusedNew why = updated why (freshState zero64 false 1)
 
 -- Refusal 1, then refusal 2 for a base outside 1 to 16.
-unfoldable pub new : Float → Bool → ℕ → Changed
-new d auto base =
-    cond (isDiscount d)
-    (cond (leb 1 base && leb base 16) (record { answer = Done; state = freshState d auto base }) (refusedNew (Refused Range)))
+unfoldable pub new : Float → Bool → ℕ → Updated
+new discount auto base =
+    cond (isDiscount discount)
+    (cond (leb 1 base && leb base 16) (updated Done (freshState discount auto base)) (refusedNew (Refused Range)))
     (refusedNew (Refused Discount))
 
 -- ---- setters
@@ -74,30 +78,24 @@ lowerThresholdSet s x = withThresholder s (withAbsoluteThreshold (s .«basic_thr
 abbrev pub initialThresholdSet : PredictorCorrector → Float → PredictorCorrector
 initialThresholdSet s x = withThresholder s (withInitialThreshold (s .«basic_thresholder») x)
 
--- The state itself where the horizon is refused.
-abbrev pub horizonSetTo : PredictorCorrector → Float → PredictorCorrector
-horizonSetTo s x = withThresholder s (horizonSet (s .«basic_thresholder») x)
-
 -- Refusal 7 outside [0, 1].
-unfoldable pub setHorizon : PredictorCorrector → Float → Changed
-setHorizon s x = record { answer = horizonAnswer x; state = horizonSetTo s x }
-
--- The same refusal by its number, 0 where there is none.
-abbrev pub horizonNumber : Float → ℕ
-horizonNumber x = answered (horizonAnswer x)
+unfoldable pub setHorizon : PredictorCorrector → Float → Updated
+setHorizon s x =
+    let u = setScoreDifferencing (s .«basic_thresholder») x in
+    updated (u .answer) (withThresholder s (u .thresholder))
 
 -- ---- refusal 6: run length, the thresholder's counts, and with auto adjust those of the entries that exist
 unfoldable pub stateCountsOk : PredictorCorrector → Bool
 stateCountsOk s =
-    leb (s .«run_length») 16777215
+    leb (s .«run_length») countLimit
     && (countsOk (s .«basic_thresholder»)
     && (listCountable (existing (s .«auto_adjust») (s .«base_dimension»)) (s .«deviations_actual»)
     && listCountable (existing (s .«auto_adjust») (s .«base_dimension»)) (s .«deviations_expected»)))
 
 -- ---- what a reading does
--- One more, up to 16,777,216.
+-- One more; a run that refusal 6 is of stays.
 unfoldable pub longerRun : ℕ → ℕ
-longerRun n = cond (leb n 16777215) (n + 1) n
+longerRun n = cond (leb n countLimit) (n + 1) n
 
 -- Opening grade 0 with auto adjust: the run ends, and both lists are reset. Without auto adjust the run length never falls.
 unfoldable pub runEnded : PredictorCorrector → PredictorCorrector
@@ -126,7 +124,13 @@ candidateCounted s newest expected =
 unfoldable pub runGrown : PredictorCorrector → PredictorCorrector
 runGrown s = withRun s (longerRun (s .«run_length»)) (s .«deviations_actual») (s .«deviations_expected»)
 
--- `update_score`: every accepted reading with a score enters the statistics once. The height strategy caps the score at 2, DISTANCE does not.
-unfoldable pub scoreCounted : BasicThresholder → ScoringStrategy → Float → Float → ScoringStrategy → Float → BasicThresholder
-scoreCounted t strategy score corrected lastStrategy lastScore =
-    cond (isHeight strategy) (cappedCounted t score corrected (cond (isHeight lastStrategy) lastScore zero32)) (primaryCounted t score)
+-- The score where it is a height, else 0.
+unfoldable pub heightScore : ScoringStrategy → Float → Float
+heightScore strategy score = cond (isHeight strategy) score zero32
+
+-- Every accepted reading with a score enters the statistics once. The height strategy caps the score at 2, DISTANCE does not.
+unfoldable pub updateScore : BasicThresholder → ScoringStrategy → Float → Float → ScoringStrategy → Float → BasicThresholder
+updateScore t strategy score correctedScore lastStrategy lastScore =
+    cond (isHeight strategy)
+    (update t score correctedScore (heightScore lastStrategy lastScore) .thresholder)
+    (updatePrimary t score .thresholder)

@@ -1,14 +1,18 @@
 // predictorcorrector.rs: the state, its construction and setters, and what a reading does to it.
 use basicthresholder::BasicThresholder;
+use basicthresholder::Made;
 use deviation::Deviation;
 use types::Answer;
 use types::Refusal;
 use types::ScoringStrategy;
 ghost use mathlib.Core.Path.{_≡_};
-ghost use mathlib.Core.Bool.{cond};
+ghost use mathlib.Core.Bool.{false};
 ghost use Prim.Native.Nat.{_≤_};
 ghost use lib.ListN.{length};
+ghost use Rattle.deviation.specs.Const.{zero64};
 ghost use Rattle.deviation.specs.Statistics as Statistics;
+ghost use Rattle.types.specs.declared.Answer.the-variants.{Refused};
+ghost use Rattle.basicthresholder.specs.Updates as Updates;
 ghost use Rattle.predictorcorrector.specs.Lists as Lists;
 ghost use Rattle.predictorcorrector.specs.State as State;
 
@@ -23,9 +27,20 @@ pub struct PredictorCorrector {
 }
 
 // A call's answer beside the state, which a refusal hands back as it came.
-pub struct Changed {
+pub struct Updated {
     pub answer: Answer,
     pub state: PredictorCorrector,
+}
+
+// The longest run that refusal 6 lets pass.
+const RUN_LIMIT: u32 = 16777215;
+
+// The statistic that `update` hands back.
+fn counted(d: Deviation, x: f32) -> Deviation
+    ensures { λ r. ⌜ r ≡ Statistics.counted d x ⌝ }
+{
+    let after = d.update(std::num::f32_to_f64_with_nan(x));
+    after.deviation
 }
 
 fn count_row(list: [Deviation; 16], row: &[f32], n: usize) -> [Deviation; 16]
@@ -35,8 +50,7 @@ fn count_row(list: [Deviation; 16], row: &[f32], n: usize) -> [Deviation; 16]
     let mut out = list;
     let mut i = 0usize;
     while i < n {
-        let d = out[i];
-        out[i] = d.counted(std::num::f32_to_f64_with_nan(row[i]));
+        out[i] = counted(out[i], row[i]);
         i += 1;
     }
     out
@@ -46,11 +60,8 @@ fn count_row(list: [Deviation; 16], row: &[f32], n: usize) -> [Deviation; 16]
 pub fn row_counted(list: [Deviation; 16], row: &[f32], n: usize) -> [Deviation; 16]
     ensures { λ r. ⌜ r ≡ Lists.rowCounted n list (now (row .entry)) ⌝ }
 {
-    if n <= 16 {
-        if n <= row.len() {
-            return count_row(list, row, n);
-        }
-        return list;
+    if (n <= 16) & (n <= row.len()) {
+        return count_row(list, row, n);
     }
     list
 }
@@ -133,18 +144,28 @@ fn fresh_row(discount: f64, n: usize) -> [Deviation; 16]
     out
 }
 
-// One more, up to 16,777,216.
+// One more; a run that refusal 6 is of stays.
 fn longer_run(n: u32) -> u32
     ensures { λ r. ⌜ r ≡ State.longerRun n ⌝ }
 {
-    if n <= 16777215 {
+    if n <= RUN_LIMIT {
         return n + 1;
     }
     n
 }
 
-// `update_score`, on the thresholder alone.
-pub fn score_counted(
+// The score where it is a height, else 0.
+fn height_score(strategy: ScoringStrategy, score: f32) -> f32
+    ensures { λ r. ⌜ r ≡ State.heightScore strategy score ⌝ }
+{
+    if strategy.is_height() {
+        return score;
+    }
+    0.0
+}
+
+// Every accepted reading with a score enters the statistics once. A step of the judge, on the thresholder alone: it is left alone, whole, where refusal 6 applies.
+pub fn update_score(
     t: BasicThresholder,
     strategy: ScoringStrategy,
     score: f32,
@@ -152,33 +173,43 @@ pub fn score_counted(
     last_strategy: ScoringStrategy,
     last_score: f32,
 ) -> BasicThresholder
-    ensures { λ r. ⌜ r ≡ State.scoreCounted t strategy score «corrected_score» «last_strategy» «last_score» ⌝ }
+    ensures { λ r. ⌜ r ≡ State.updateScore t strategy score «corrected_score» «last_strategy» «last_score» ⌝ }
 {
     if strategy.is_height() {
-        if last_strategy.is_height() {
-            return t.capped_counted(score, corrected_score, last_score);
-        }
-        return t.capped_counted(score, corrected_score, 0.0);
+        let height = t.update(
+            score,
+            corrected_score,
+            height_score(last_strategy, last_score),
+        );
+        return height.thresholder;
     }
-    t.primary_counted(std::num::f32_to_f64_with_nan(score))
+    let distance = t.update_primary(std::num::f32_to_f64_with_nan(score));
+    distance.thresholder
 }
 
-// 0 for a horizon in [0, 1], else refusal 7.
-pub fn horizon_number(horizon: f32) -> u8
-    ensures { λ r. ⌜ r ≡ State.horizonNumber horizon ⌝ }
+// What `set_horizon` answers of any state.
+fn horizon_answer(horizon: f32) -> Answer
+    ensures { λ r. ⌜ r ≡ Updates.setScoreDifferencing (Updates.freshThresholder zero64 false) horizon .answer ⌝ }
 {
-    basicthresholder::horizon_answer(horizon).number()
+    let u = BasicThresholder::default().set_score_differencing(horizon);
+    u.answer
 }
 
 impl PredictorCorrector {
-    fn fresh(discount: f64, auto_adjust: bool, base_dimension: u32) -> PredictorCorrector
-        requires { ⌜ «base_dimension» ≤ 16 ⌝ }
+    // The new state, by the thresholder that `BasicThresholder::new` built.
+    fn fresh(
+        t: BasicThresholder,
+        discount: f64,
+        auto_adjust: bool,
+        base_dimension: u32,
+    ) -> PredictorCorrector
+        requires { ⌜ t ≡ Updates.freshThresholder discount false ⌝ ∗ ⌜ «base_dimension» ≤ 16 ⌝ }
         ensures { λ r. ⌜ r ≡ State.freshState discount «auto_adjust» «base_dimension» ⌝ }
     {
         let n = existing(auto_adjust, base_dimension);
         let row = fresh_row(discount, n);
         PredictorCorrector {
-            basic_thresholder: BasicThresholder::fresh(discount, false),
+            basic_thresholder: t,
             auto_adjust,
             run_length: 0,
             base_dimension,
@@ -187,39 +218,37 @@ impl PredictorCorrector {
         }
     }
 
-    fn refused(answer: Answer) -> Changed
-        ensures { λ r. ⌜ r ≡ State.refusedNew answer ⌝ }
+    fn refused(why: Refusal) -> Updated
+        ensures { λ r. ⌜ r ≡ State.refusedNew (Refused why) ⌝ }
     {
-        Changed {
-            answer,
-            state: PredictorCorrector::fresh(0.0, false, 1),
+        let t = BasicThresholder::default();
+        Updated {
+            answer: Answer::Refused(why),
+            state: PredictorCorrector::fresh(t, 0.0, false, 1),
         }
     }
 
     // An enum that held the state would be no covered form, so the answer stands beside it; beside a refusal stands a state that means nothing.
-    pub fn new(discount: f64, auto_adjust: bool, base_dimension: usize) -> Changed
+    pub fn new(discount: f64, auto_adjust: bool, base_dimension: usize) -> Updated
         ensures { λ r. ⌜ r ≡ State.new discount «auto_adjust» «base_dimension» ⌝ }
     {
-        if discount >= 0.0 {
-            if discount < 1.0 {
-                if 1 <= base_dimension {
-                    if base_dimension <= 16 {
-                        return Changed {
-                            answer: Answer::Done,
-                            state: PredictorCorrector::fresh(
-                                discount,
-                                auto_adjust,
-                                base_dimension as u32,
-                            ),
-                        };
-                    }
-                    return PredictorCorrector::refused(Answer::Refused(Refusal::Range));
+        match BasicThresholder::new(discount) {
+            Made::Ready(t) => {
+                if (1 <= base_dimension) & (base_dimension <= 16) {
+                    return Updated {
+                        answer: Answer::Done,
+                        state: PredictorCorrector::fresh(
+                            t,
+                            discount,
+                            auto_adjust,
+                            base_dimension as u32,
+                        ),
+                    };
                 }
-                return PredictorCorrector::refused(Answer::Refused(Refusal::Range));
+                PredictorCorrector::refused(Refusal::Range)
             }
-            return PredictorCorrector::refused(Answer::Refused(Refusal::Discount));
+            Made::Refused(why) => PredictorCorrector::refused(why),
         }
-        PredictorCorrector::refused(Answer::Refused(Refusal::Discount))
     }
 
     // The setters by value; `set_z_factor` and its like below change a lent state.
@@ -244,21 +273,23 @@ impl PredictorCorrector {
         self.with_thresholder(t)
     }
 
-    // The state itself where the horizon is refused.
-    pub fn horizon_set(self, horizon: f32) -> PredictorCorrector
-        ensures { λ r. ⌜ r ≡ State.horizonSetTo self horizon ⌝ }
-    {
-        let t = self.basic_thresholder.horizon_set(horizon);
-        self.with_thresholder(t)
-    }
-
-    pub fn with_horizon(self, horizon: f32) -> Changed
+    // Refusal 7 hands the state back as it came.
+    pub fn with_horizon(self, horizon: f32) -> Updated
         ensures { λ r. ⌜ r ≡ State.setHorizon self horizon ⌝ }
     {
-        Changed {
-            answer: basicthresholder::horizon_answer(horizon),
-            state: self.horizon_set(horizon),
+        let u = self.basic_thresholder.set_score_differencing(horizon);
+        let answer = u.answer;
+        Updated {
+            answer,
+            state: self.with_thresholder(u.thresholder),
         }
+    }
+
+    fn horizon_set(self, horizon: f32) -> PredictorCorrector
+        ensures { λ r. ⌜ r ≡ State.setHorizon self horizon .state ⌝ }
+    {
+        let u = self.with_horizon(horizon);
+        u.state
     }
 
     pub fn set_z_factor(&mut self, factor: f32)
@@ -279,12 +310,12 @@ impl PredictorCorrector {
         *self = (*self).with_initial_threshold(initial);
     }
 
-    // A refused horizon leaves the state as it was.
-    pub fn set_horizon(&mut self, horizon: f32) -> u8
-        ensures { λ r. ⌜ (r ≡ State.horizonNumber horizon) × (now (self .exit) ≡ State.horizonSetTo (now (self .entry)) horizon) ⌝ }
+    // Refusal 7 leaves the state as it was.
+    pub fn set_horizon(&mut self, horizon: f32) -> Answer
+        ensures { λ r. ⌜ State.updated r (now (self .exit)) ≡ State.setHorizon (now (self .entry)) horizon ⌝ }
     {
         *self = (*self).horizon_set(horizon);
-        horizon_number(horizon)
+        horizon_answer(horizon)
     }
 
     pub fn with_thresholder(self, t: BasicThresholder) -> PredictorCorrector
@@ -302,7 +333,7 @@ impl PredictorCorrector {
         let n = existing(self.auto_adjust, self.base_dimension);
         let actual = self.deviations_actual;
         let expected = self.deviations_expected;
-        (self.run_length <= 16777215)
+        (self.run_length <= RUN_LIMIT)
             & (self.basic_thresholder.counts_ok()
                 & (list_countable(actual, n) & list_countable(expected, n)))
     }

@@ -18,5 +18,4 @@ unfolding countedGap
 returns-2 c = simp (c .if1 .left)
 
 pub counted-gap-spec : {M : Type 1} → statement M
-counted-gap-spec =
-    tie.close (tie.spec f32-to-f64-with-nan-requires counted-requires returns returns-2)
+counted-gap-spec = tie.close (tie.spec f32-to-f64-with-nan-requires counted-requires returns returns-2)

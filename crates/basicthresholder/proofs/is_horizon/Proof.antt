@@ -1,14 +1,12 @@
+use mathlib.Core.Path.{refl}
 use Rattle.basicthresholder.specs.Updates.{isHorizon}
+use borrow.Author.Needs.{needs}
 use Rattle.basicthresholder.proofs.is_horizon.Statement.{statement}
 use Rattle.basicthresholder.proofs.is_horizon.Tie as tie
 
 returns : tie.Need-returns
 unfolding isHorizon
-returns c = simp (c .if1 .taken)
-
-returns-2 : tie.Need-returns-2
-unfolding isHorizon
-returns-2 c = simp (c .if1 .left)
+returns c = refl
 
 pub is-horizon-spec : {M : Type 1} → statement M
-is-horizon-spec = tie.close (tie.spec returns returns-2)
+is-horizon-spec = tie.close (tie.spec returns)

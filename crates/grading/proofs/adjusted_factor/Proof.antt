@@ -8,29 +8,14 @@ at-least-minimum-requires c κs = search needs
 
 returns : tie.Need-returns
 unfolding adjustedFactor
-returns c = simp (c .before .before .if1 .taken, c .before .if2 .taken, c .at-least-minimum .ensures)
+returns c = simp (c .before .if1 .taken, c .at-least-minimum .ensures)
 
 at-least-minimum-requires-2 : tie.Need-at-least-minimum-requires-2
 at-least-minimum-requires-2 c κs = search needs
 
 returns-2 : tie.Need-returns-2
 unfolding adjustedFactor
-returns-2 c = simp (c .before .before .if1 .taken, c .before .if2 .left, c .at-least-minimum2 .ensures)
-
-at-least-minimum-requires-3 : tie.Need-at-least-minimum-requires-3
-at-least-minimum-requires-3 c κs = search needs
-
-returns-3 : tie.Need-returns-3
-unfolding adjustedFactor
-returns-3 c = simp (c .before .if1 .left, c .at-least-minimum3 .ensures)
+returns-2 c = simp (c .before .if1 .left, c .at-least-minimum2 .ensures)
 
 pub adjusted-factor-spec : {M : Type 1} → statement M
-adjusted-factor-spec =
-    tie.close
-    (tie.spec
-    at-least-minimum-requires
-    returns
-    at-least-minimum-requires-2
-    returns-2
-    at-least-minimum-requires-3
-    returns-3)
+adjusted-factor-spec = tie.close (tie.spec at-least-minimum-requires returns at-least-minimum-requires-2 returns-2)

@@ -4,15 +4,11 @@ use Rattle.grading.proofs.eased_absolute.Tie as tie
 
 returns : tie.Need-returns
 unfolding easedAbsolute
-returns c = simp (c .before .if1 .taken, c .if2 .taken)
+returns c = simp (c .if1 .taken)
 
 returns-2 : tie.Need-returns-2
 unfolding easedAbsolute
-returns-2 c = simp (c .before .if1 .taken, c .if2 .left)
-
-returns-3 : tie.Need-returns-3
-unfolding easedAbsolute
-returns-3 c = simp (c .if1 .left)
+returns-2 c = simp (c .if1 .left)
 
 pub eased-absolute-spec : {M : Type 1} → statement M
-eased-absolute-spec = tie.close (tie.spec returns returns-2 returns-3)
+eased-absolute-spec = tie.close (tie.spec returns returns-2)

@@ -1,7 +1,7 @@
-use mathlib.Core.Path.{_≡_, _∙_, ap, ap₂, sym, subst}
-use lib.IntN.{ℤ, pos, _+ℤ_, _-ℤ_}
+use mathlib.Core.Path.{_∙_, ap, ap₂}
 use mir.Syntax.{w32}
 use mir.ValLaws.{toZ-ofZ}
+use lib.Ieee.{Float}
 use Rattle.deviation.specs.declared.Deviation.{Deviation}
 use Rattle.deviation.specs.Statistics.{oneMore, counted}
 use Rattle.basicthresholder.specs.Updates.{bothCounted, withCounted, countedOver}
@@ -39,13 +39,4 @@ returns c =
     λ i. withCounted s x (p i) (q i) (t i) (n i)
 
 pub both-counted-spec : {M : Type 1} → statement M
-both-counted-spec =
-    tie.close
-    (tie.spec
-    f32-to-f64-with-nan-requires
-    counted-requires
-    f32-to-f64-with-nan-requires-2
-    counted-requires-2
-    counted-over-requires
-    one-more-requires
-    returns)
+both-counted-spec = tie.close (tie.spec f32-to-f64-with-nan-requires counted-requires f32-to-f64-with-nan-requires-2 counted-requires-2 counted-over-requires one-more-requires returns)

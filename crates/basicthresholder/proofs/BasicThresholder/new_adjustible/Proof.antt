@@ -8,15 +8,11 @@ fresh-requires c κs = search needs
 
 returns : tie.Need-returns
 unfolding newAdjustible
-returns c = simp (c .before .before .if1 .taken, c .before .if2 .taken, c .fresh .ensures)
+returns c = simp (c .before .if1 .taken, c .fresh .ensures)
 
 returns-2 : tie.Need-returns-2
 unfolding newAdjustible
-returns-2 c = simp (c .before .if1 .taken, c .if2 .left)
-
-returns-3 : tie.Need-returns-3
-unfolding newAdjustible
-returns-3 c = simp (c .if1 .left)
+returns-2 c = simp (c .if1 .left)
 
 pub new-adjustible-spec : {M : Type 1} → statement M
-new-adjustible-spec = tie.close (tie.spec fresh-requires returns returns-2 returns-3)
+new-adjustible-spec = tie.close (tie.spec fresh-requires returns returns-2)

@@ -1,10 +1,9 @@
-use mathlib.Core.Path.{_≡_, _∙_, ap, ap₂, sym, subst}
-use lib.IntN.{ℤ, pos, _+ℤ_, _-ℤ_}
+use mathlib.Core.Path.{_∙_, ap, ap₂}
 use mir.Syntax.{w32}
 use mir.ValLaws.{toZ-ofZ}
 use lib.Ieee.{Float}
 use Rattle.deviation.specs.declared.Deviation.{Deviation}
-use Rattle.deviation.specs.Statistics.{oneMore}
+use Rattle.deviation.specs.Statistics.{oneMore, counted}
 use Rattle.basicthresholder.specs.Updates.{primaryCounted, withCounted, countedOver}
 use borrow.Author.Needs.{needs}
 use Rattle.basicthresholder.proofs.BasicThresholder.primary_counted.Statement.{statement}
@@ -33,6 +32,4 @@ returns c =
     λ i. withCounted s (x i) (p i) (s .«secondary_deviation») (t i) (n i)
 
 pub primary-counted-spec : {M : Type 1} → statement M
-primary-counted-spec =
-    tie.close
-    (tie.spec narrow-requires counted-requires counted-over-requires one-more-requires returns)
+primary-counted-spec = tie.close (tie.spec narrow-requires counted-requires counted-over-requires one-more-requires returns)

@@ -1,17 +1,17 @@
-use mathlib.Core.Path.{_∙_, ap}
-use Rattle.basicthresholder.specs.Updates.{updated}
+use Rattle.basicthresholder.specs.Updates.{update}
 use borrow.Author.Needs.{needs}
 use Rattle.basicthresholder.proofs.BasicThresholder.update.Statement.{statement}
 use Rattle.basicthresholder.proofs.BasicThresholder.update.Tie as tie
 
-capped-counted-requires : tie.Need-capped-counted-requires
-capped-counted-requires c κs = search needs
+minf32-requires : tie.Need-minf32-requires
+minf32-requires c κs = search needs
 
-updated-requires : tie.Need-updated-requires
-updated-requires c κs = search needs
+update-both-requires : tie.Need-update-both-requires
+update-both-requires c κs = search needs
 
 returns : tie.Need-returns
-returns c = c .updated .ensures ∙ ap (updated (c .before .before .args .self)) (c .before .capped-counted .ensures)
+unfolding update
+returns c = simp (c .update-both .ensures, c .before .minf32 .ensures)
 
 pub update-spec : {M : Type 1} → statement M
-update-spec = tie.close (tie.spec capped-counted-requires updated-requires returns)
+update-spec = tie.close (tie.spec minf32-requires update-both-requires returns)

@@ -1,5 +1,5 @@
 use mathlib.Core.Path.{_∙_, ap}
-use Rattle.basicthresholder.specs.Updates.{updated}
+use Rattle.basicthresholder.specs.Updates.{updated, updateBoth}
 use borrow.Author.Needs.{needs}
 use Rattle.basicthresholder.proofs.BasicThresholder.update_both.Statement.{statement}
 use Rattle.basicthresholder.proofs.BasicThresholder.update_both.Tie as tie
@@ -11,6 +11,7 @@ updated-requires : tie.Need-updated-requires
 updated-requires c κs = search needs
 
 returns : tie.Need-returns
+unfolding updateBoth
 returns c = c .updated .ensures ∙ ap (updated (c .before .before .args .self)) (c .before .both-counted .ensures)
 
 pub update-both-spec : {M : Type 1} → statement M

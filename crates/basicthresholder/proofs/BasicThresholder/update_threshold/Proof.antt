@@ -1,5 +1,5 @@
 use mathlib.Core.Path.{_∙_, ap}
-use Rattle.basicthresholder.specs.Updates.{updated}
+use Rattle.basicthresholder.specs.Updates.{updated, updateThreshold}
 use borrow.Author.Needs.{needs}
 use Rattle.basicthresholder.proofs.BasicThresholder.update_threshold.Statement.{statement}
 use Rattle.basicthresholder.proofs.BasicThresholder.update_threshold.Tie as tie
@@ -11,6 +11,7 @@ updated-requires : tie.Need-updated-requires
 updated-requires c κs = search needs
 
 returns : tie.Need-returns
+unfolding updateThreshold
 returns c = c .updated .ensures ∙ ap (updated (c .before .before .args .self)) (c .before .threshold-counted .ensures)
 
 pub update-threshold-spec : {M : Type 1} → statement M

@@ -8,15 +8,11 @@ create-requires c κs = search needs
 
 returns : tie.Need-returns
 unfolding new
-returns c = simp (c .before .before .if1 .taken, c .before .if2 .taken, c .create .ensures)
+returns c = simp (c .before .if1 .taken, c .create .ensures)
 
 returns-2 : tie.Need-returns-2
 unfolding new
-returns-2 c = simp (c .before .if1 .taken, c .if2 .left)
-
-returns-3 : tie.Need-returns-3
-unfolding new
-returns-3 c = simp (c .if1 .left)
+returns-2 c = simp (c .if1 .left)
 
 pub new-spec : {M : Type 1} → statement M
-new-spec = tie.close (tie.spec create-requires returns returns-2 returns-3)
+new-spec = tie.close (tie.spec create-requires returns returns-2)

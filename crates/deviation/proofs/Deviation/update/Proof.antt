@@ -1,27 +1,32 @@
-use mathlib.Core.Path.{_∙_, ap, ap₂, sym, subst}
-use lib.IntN.{ℤ, pos, _+ℤ_}
+use mathlib.Core.Path.{_∙_, ap, sym, subst}
 use lib.Dec.{T}
 use mir.Syntax.{w32}
 use mir.ValLaws.{toZ-ofZ}
+use Rattle.types.specs.declared.Answer.the-variants as Answers
 use Rattle.deviation.proofs.Laws.{picked, passed}
-use Rattle.deviation.specs.Statistics.{countAnswer, update}
+use Rattle.deviation.specs.Statistics.{countable, update}
+use Rattle.deviation.specs.declared.Deviation.{Deviation}
 use Rattle.deviation.specs.declared.Updated.{Updated}
 use borrow.Author.Needs.{needs}
 use Rattle.deviation.proofs.Deviation.update.Statement.{statement}
 use Rattle.deviation.proofs.Deviation.update.Tie as tie
 
-count-answer-requires : tie.Need-count-answer-requires
-count-answer-requires c κs = search needs
+abbrev done : Deviation → Updated
+done d = record { answer = Answers.Done; deviation = d }
 
-counted-requires : tie.Need-counted-requires
-counted-requires c κs = search needs
+countable-requires : tie.Need-countable-requires
+countable-requires c κs = search needs
+
+next-requires : tie.Need-next-requires
+next-requires c κs = subst T (sym (c .if1 .taken) ∙ c .before .countable .ensures ∙ ap countable (toZ-ofZ w32 (c .before .before .before .args .self .count) (search needs))) tt
 
 returns : tie.Need-returns
 unfolding update
-returns c =
-    let a = c .before .count-answer .ensures ∙ ap countAnswer (toZ-ofZ w32 (c .before .before .before .args .self .count) (search needs)) in
-    let d = c .counted .ensures in
-    λ i. record { answer = a i; deviation = d i }
+returns c = ap done (c .next .ensures) ∙ picked _ _ (c .before .before .countable .ensures ∙ ap countable (toZ-ofZ w32 (c .before .before .before .before .args .self .count) (search needs))) (c .before .if1 .taken)
+
+returns-2 : tie.Need-returns-2
+unfolding update
+returns-2 c = passed _ _ (c .before .countable .ensures ∙ ap countable (toZ-ofZ w32 (c .before .before .before .args .self .count) (search needs))) (c .if1 .left)
 
 pub update-spec : {M : Type 1} → statement M
-update-spec = tie.close (tie.spec count-answer-requires counted-requires returns)
+update-spec = tie.close (tie.spec countable-requires next-requires returns returns-2)

@@ -1,17 +1,14 @@
-use mathlib.Core.Path.{_∙_, ap}
-use Rattle.predictorcorrector.specs.State.{withThresholder}
+use mathlib.Core.Path.{ap}
+use Rattle.predictorcorrector.specs.declared.Updated.{Updated}
 use borrow.Author.Needs.{needs}
 use Rattle.predictorcorrector.proofs.PredictorCorrector.horizon_set.Statement.{statement}
 use Rattle.predictorcorrector.proofs.PredictorCorrector.horizon_set.Tie as tie
 
-horizon-set-requires : tie.Need-horizon-set-requires
-horizon-set-requires c κs = search needs
-
-with-thresholder-requires : tie.Need-with-thresholder-requires
-with-thresholder-requires c κs = search needs
+with-horizon-requires : tie.Need-with-horizon-requires
+with-horizon-requires c κs = search needs
 
 returns : tie.Need-returns
-returns c = c .with-thresholder .ensures ∙ ap (withThresholder (c .before .before .args .self)) (c .before .horizon-set .ensures)
+returns c = ap (λ (u : Updated). u .state) (c .before .with-horizon .ensures)
 
 pub horizon-set-spec : {M : Type 1} → statement M
-horizon-set-spec = tie.close (tie.spec horizon-set-requires with-thresholder-requires returns)
+horizon-set-spec = tie.close (tie.spec with-horizon-requires returns)

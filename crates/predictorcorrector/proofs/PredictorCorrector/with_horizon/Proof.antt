@@ -1,21 +1,22 @@
-use mathlib.Core.Path.{_≡_}
-use Rattle.predictorcorrector.specs.State.{setHorizon}
+use mathlib.Core.Path.{_∙_, ap}
+use Rattle.basicthresholder.specs.declared.Updated as Thresholders
+use Rattle.predictorcorrector.specs.State.{setHorizon, withThresholder, updated}
 use borrow.Author.Needs.{needs}
 use Rattle.predictorcorrector.proofs.PredictorCorrector.with_horizon.Statement.{statement}
 use Rattle.predictorcorrector.proofs.PredictorCorrector.with_horizon.Tie as tie
 
-horizon-answer-requires : tie.Need-horizon-answer-requires
-horizon-answer-requires c κs = search needs
+set-score-differencing-requires : tie.Need-set-score-differencing-requires
+set-score-differencing-requires c κs = search needs
 
-horizon-set-requires : tie.Need-horizon-set-requires
-horizon-set-requires c κs = search needs
+with-thresholder-requires : tie.Need-with-thresholder-requires
+with-thresholder-requires c κs = search needs
 
 returns : tie.Need-returns
 unfolding setHorizon
 returns c =
-    let a = c .before .horizon-answer .ensures in
-    let t = c .horizon-set .ensures in
-    λ i. record { answer = a i; state = t i }
+    let u = c .before .set-score-differencing .ensures in
+    let t = c .with-thresholder .ensures ∙ ap (λ (v : Thresholders.Updated). withThresholder (c .before .before .args .self) (v .thresholder)) u in
+    λ i. updated (u i .answer) (t i)
 
 pub with-horizon-spec : {M : Type 1} → statement M
-with-horizon-spec = tie.close (tie.spec horizon-answer-requires horizon-set-requires returns)
+with-horizon-spec = tie.close (tie.spec set-score-differencing-requires with-thresholder-requires returns)
