@@ -10,7 +10,6 @@ ghost use mathlib.Core.Path.{_≡_};
 ghost use mathlib.Core.Bool.{false};
 ghost use Rattle.ieee.specs.Round as Round;
 ghost use Rattle.deviation.specs.Const.{zero64};
-ghost use Rattle.deviation.specs.Statistics as Statistics;
 ghost use Rattle.deviation.specs.Statistics.{mean, deviation};
 ghost use Rattle.basicthresholder.specs.Grades as Grades;
 ghost use Rattle.basicthresholder.specs.Updates as Updates;
@@ -103,19 +102,11 @@ fn is_horizon(horizon: f32) -> bool
     (horizon >= 0.0) & (horizon <= 1.0)
 }
 
-// The statistic that `update` hands back.
-fn counted(d: Deviation, score: f64) -> Deviation
-    ensures { λ r. ⌜ r ≡ Statistics.counted d score ⌝ }
-{
-    let after = d.update(score);
-    after.deviation
-}
-
 fn counted_gap(third: Deviation, gap: f32) -> Deviation
     ensures { λ r. ⌜ r ≡ Updates.countedGap third gap ⌝ }
 {
     if gap > 0.0 {
-        return counted(third, std::num::f32_to_f64_with_nan(gap));
+        return third.counted(std::num::f32_to_f64_with_nan(gap));
     }
     third
 }
@@ -318,7 +309,7 @@ impl BasicThresholder {
         ensures { λ r. ⌜ r ≡ Updates.primaryCounted self score ⌝ }
     {
         let last_score = narrow(score);
-        let primary = counted(self.primary_deviation, score);
+        let primary = self.primary_deviation.counted(score);
         let third = counted_over(self.threshold_deviation, primary, last_score);
         let count = deviation::one_more(self.count);
         let mut out = self;
@@ -332,14 +323,10 @@ impl BasicThresholder {
     fn both_counted(self, primary: f32, secondary: f32) -> BasicThresholder
         ensures { λ r. ⌜ r ≡ Updates.bothCounted self primary secondary ⌝ }
     {
-        let first = counted(
-            self.primary_deviation,
-            std::num::f32_to_f64_with_nan(primary),
-        );
-        let second = counted(
-            self.secondary_deviation,
-            std::num::f32_to_f64_with_nan(secondary),
-        );
+        let first = self.primary_deviation
+            .counted(std::num::f32_to_f64_with_nan(primary));
+        let second = self.secondary_deviation
+            .counted(std::num::f32_to_f64_with_nan(secondary));
         let third = counted_over(self.threshold_deviation, first, primary);
         let count = deviation::one_more(self.count);
         let mut out = self;

@@ -14,7 +14,7 @@ use Rattle.types.specs.declared.Answer.{Answer}
 use Rattle.types.specs.declared.Answer.the-variants.{Done, Refused}
 use Rattle.descriptor.specs.Checks.{sizesOk}
 use Rattle.predictorcorrector.specs.declared.PredictorCorrector.{PredictorCorrector}
-use Rattle.predictorcorrector.specs.declared.Changed.{Changed}
+use Rattle.predictorcorrector.specs.declared.Updated.{Updated}
 use Rattle.layout.specs.Numbers.{writtenOf}
 use Rattle.layout.specs.Chain.{decodeState, encodeStateOver, readState}
 use Rattle.layout.specs.Left.{left}
@@ -58,7 +58,7 @@ module _ (state : List ℕ) (shingle : ℕ) (point : List Float) where
       unfolding updateAutoAdjust
       bad-size s = rw (c, l, s)
 
-    module _ (l : eqb (length state) 1310 ≡ true) (s : PredictorCorrector) (r : s ≡ readState state) (made : Changed) (m : made ≡ Calls.updateAutoAdjust s shingle point) where
+    module _ (l : eqb (length state) 1310 ≡ true) (s : PredictorCorrector) (r : s ≡ readState state) (made : Updated) (m : made ≡ Calls.updateAutoAdjust s shingle point) where
       decoded : s ≡ decodeState state
       unfolding readState
       decoded = r ∙ rw l
@@ -67,7 +67,7 @@ module _ (state : List ℕ) (shingle : ℕ) (point : List Float) where
       unfolding updateAutoAdjust
       through =
           let from : made ≡ Calls.updateAutoAdjust (decodeState state) shingle point = m ∙ ap (λ (t : PredictorCorrector). Calls.updateAutoAdjust t shingle point) decoded in
-          ap (λ (u : Changed). storedBy u state) from ∙ rw (c, l)
+          ap (λ (u : Updated). storedBy u state) from ∙ rw (c, l)
 
       pub adjusted : (state′ : List ℕ) → made .answer ≡ Done → state′ ≡ writtenOf 1310 state (encodeStateOver state (made .state)) → left 0 state′ ≡ updateAutoAdjust state shingle point
       unfolding stored writtenOf

@@ -14,7 +14,7 @@ use Rattle.types.specs.declared.Answer.the-variants.{Done, Refused}
 use Rattle.descriptor.specs.Checks.{sizesOk}
 use Rattle.corrector.specs.Corrector as Corrector
 use Rattle.predictorcorrector.specs.declared.PredictorCorrector.{PredictorCorrector}
-use Rattle.predictorcorrector.specs.declared.Changed.{Changed}
+use Rattle.predictorcorrector.specs.declared.Updated.{Updated}
 use Rattle.layout.specs.Chain.{decodeState, encodeStateOver}
 use Rattle.layout.specs.Left.{Left, left}
 use Rattle.calls.specs.Calls as Calls
@@ -54,7 +54,7 @@ unfoldable pub stored : Answer → List ℕ → PredictorCorrector → List ℕ
 stored Done xs s = encodeStateOver xs s
 stored (Refused why) xs s = xs
 
-abbrev pub storedBy : Changed → List ℕ → Left
+abbrev pub storedBy : Updated → List ℕ → Left
 storedBy c xs = left (answered (c .answer)) (stored (c .answer) xs (c .state))
 
 -- Where the state cannot be read, its base is taken for 1.

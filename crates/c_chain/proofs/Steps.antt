@@ -16,8 +16,8 @@ use Rattle.divector.specs.declared.Number.the-variants as Numbers
 use Rattle.divector.specs.declared.Block.{Block}
 use Rattle.divector.specs.declared.Block.the-variants as Places
 use Rattle.predictorcorrector.specs.declared.PredictorCorrector.{PredictorCorrector}
-use Rattle.predictorcorrector.specs.declared.Changed.{Changed}
-use Rattle.predictorcorrector.specs.State.{horizonNumber, horizonSetTo}
+use Rattle.predictorcorrector.specs.declared.Updated.{Updated}
+use Rattle.predictorcorrector.specs.State.{setHorizon}
 use Rattle.layout.specs.Numbers.{writtenOf, f64Bytes, bytes8}
 use Rattle.layout.specs.Chain.{decodeState, encodeStateOver, readState}
 use Rattle.layout.specs.Left.{Left, left, putInto}
@@ -91,15 +91,20 @@ module _ (xs : List ℕ) (why : ℕ) (e : why ≡ chainRefusal xs) where
       unfolding chainSet
       chain-set f t zs p q = ap (left 0) (over t zs q ∙ ap (encodeStateOver xs) (p ∙ ap f state)) ∙ rw none
 
-      pub horizon-set : (x : Float) (n : ℕ) (t : PredictorCorrector) (zs : List ℕ) → n ≡ horizonNumber x → n ≡ 0 → t ≡ horizonSetTo s x
-          → zs ≡ writtenOf 1310 xs (encodeStateOver xs t) → left 0 zs ≡ horizonSetIn x xs
-      unfolding horizonSetIn
-      horizon-set x n t zs en ez p q =
-          ap (left 0) (over t zs q ∙ ap (encodeStateOver xs) (p ∙ ap (λ (u : PredictorCorrector). horizonSetTo u x) state)) ∙ rw (none, ← en, ez)
+      module _ (x : Float) (u : Updated) (n : ℕ) (m : u ≡ setHorizon s x) (en : n ≡ answered (u .answer)) where
+        from : u ≡ setHorizon (decodeState xs) x
+        from = m ∙ ap (λ (t : PredictorCorrector). setHorizon t x) state
 
-    pub horizon-refused : (x : Float) (n : ℕ) → n ≡ horizonNumber x → eqb n 0 ≡ false → left n xs ≡ horizonSetIn x xs
-    unfolding horizonSetIn
-    horizon-refused x n en h = rw (none, ← en, h)
+        number-of : n ≡ answered (setHorizon (decodeState xs) x .answer)
+        number-of = en ∙ ap (λ (v : Updated). answered (v .answer)) from
+
+        pub horizon-set : (zs : List ℕ) → n ≡ 0 → zs ≡ writtenOf 1310 xs (encodeStateOver xs (u .state)) → left 0 zs ≡ horizonSetIn x xs
+        unfolding horizonSetIn
+        horizon-set zs ez q = ap (left 0) (over (u .state) zs q ∙ ap (λ (v : Updated). encodeStateOver xs (v .state)) from) ∙ rw (none, ← number-of, ez)
+
+        pub horizon-refused : eqb n 0 ≡ false → left n xs ≡ horizonSetIn x xs
+        unfolding horizonSetIn
+        horizon-refused h = rw (none, ← number-of, h)
 
   module _ (h : eqb why 0 ≡ false) where
     pub chain-kept : (f : PredictorCorrector → PredictorCorrector) → left why xs ≡ chainSet f xs
@@ -111,9 +116,9 @@ module _ (xs : List ℕ) (why : ℕ) (e : why ≡ chainRefusal xs) where
     horizon-kept x = rw (← e, h)
 
 -- ---- a new state.
-module _ (made made′ : Changed) (adjust : ℕ) (out : List ℕ) (m : made ≡ made′) (why : ℕ) (e : why ≡ answered (made .answer)) where
+module _ (made made′ : Updated) (adjust : ℕ) (out : List ℕ) (m : made ≡ made′) (why : ℕ) (e : why ≡ answered (made .answer)) where
   number-is : why ≡ answered (made′ .answer)
-  number-is = e ∙ ap (λ (c : Changed). answered (c .answer)) m
+  number-is = e ∙ ap (λ (c : Updated). answered (c .answer)) m
 
   pub made-refused : eqb why 0 ≡ false → left why out ≡ chainMade made′ adjust out
   unfolding chainMade
@@ -137,5 +142,5 @@ module _ (made made′ : Changed) (adjust : ℕ) (out : List ℕ) (m : made ≡ 
           let long : eqb (length zeros) 1310 ≡ true = rw same l in
           let full : writtenOf 1310 zeros (encodeStateOver zeros (made .state)) ≡ encodeStateOver zeros (made .state) = rw long in
           let over : encodeStateOver zeros (made .state) ≡ encodeStateOver (replicate (length out) 0) (made′ .state) =
-          ap₂ (λ (ys : List ℕ) (t : Changed). encodeStateOver ys (t .state)) c m in
+          ap₂ (λ (ys : List ℕ) (t : Updated). encodeStateOver ys (t .state)) c m in
           ap (left 0) (w ∙ full ∙ over) ∙ rw (← number-is, z, h, l)

@@ -9,8 +9,8 @@ use lib.Ieee.{Float}
 use Rattle.types.specs.Refusals.{number, answered}
 use Rattle.types.specs.declared.Refusal.the-variants.{Range, Length}
 use Rattle.predictorcorrector.specs.declared.PredictorCorrector.{PredictorCorrector}
-use Rattle.predictorcorrector.specs.declared.Changed.{Changed}
-use Rattle.predictorcorrector.specs.State.{horizonNumber, horizonSetTo}
+use Rattle.predictorcorrector.specs.declared.Updated.{Updated}
+use Rattle.predictorcorrector.specs.State.{setHorizon}
 use Rattle.layout.specs.Chain.{decodeState, encodeStateOver}
 use Rattle.layout.specs.Left.{Left, left}
 
@@ -27,11 +27,12 @@ chainSet f xs = cond (eqb (chainRefusal xs) 0) (left 0 (encodeStateOver xs (f (d
 unfoldable pub horizonSetIn : Float → List ℕ → Left
 horizonSetIn x xs =
     cond (eqb (chainRefusal xs) 0)
-    (cond (eqb (horizonNumber x) 0) (left 0 (encodeStateOver xs (horizonSetTo (decodeState xs) x))) (left (horizonNumber x) xs))
+    (let u = setHorizon (decodeState xs) x in
+    cond (eqb (answered (u .answer)) 0) (left 0 (encodeStateOver xs (u .state))) (left (answered (u .answer)) xs))
     (left (chainRefusal xs) xs)
 
 -- A new state over zeros: 1 for its discount, 2 for its base or the yes/no byte `adjust`, then 3.
-unfoldable pub chainMade : Changed → ℕ → List ℕ → Left
+unfoldable pub chainMade : Updated → ℕ → List ℕ → Left
 chainMade made adjust out =
     cond (eqb (answered (made .answer)) 0)
     (cond (leb adjust 1)

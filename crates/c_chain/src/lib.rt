@@ -245,10 +245,12 @@ pub extern "C" fn krcf_chain_set_horizon(state: &mut [u8], horizon: f32) -> u8
 {
     let why = chain_refusal(state);
     if why == 0 {
-        let number = predictorcorrector::horizon_number(horizon);
+        let s = layout::read_state(state);
+        let changed = s.with_horizon(horizon);
+        let answer = changed.answer;
+        let number = answer.number();
         if number == 0 {
-            let s = layout::read_state(state);
-            layout::write_state(state, s.horizon_set(horizon));
+            layout::write_state(state, changed.state);
             return 0;
         }
         return number;

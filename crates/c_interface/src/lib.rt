@@ -414,7 +414,7 @@ pub extern "C" fn krcf_threshold_and_grade_with_factor(
 
 #[no_mangle]
 pub extern "C" fn krcf_update_threshold(state: &mut [u8], score: f32) -> u8
-    ensures { λ r. ⌜ left r (now (state .exit)) ≡ thresholderChanged (λ s. Updates.updated s (Updates.thresholdCounted s score)) (now (state .entry)) ⌝ }
+    ensures { λ r. ⌜ left r (now (state .exit)) ≡ thresholderChanged (λ s. Updates.updateThreshold s score) (now (state .entry)) ⌝ }
 {
     let s = layout::read_thresholder(state);
     store_thresholder(state, s.update_threshold(score))
@@ -422,7 +422,7 @@ pub extern "C" fn krcf_update_threshold(state: &mut [u8], score: f32) -> u8
 
 #[no_mangle]
 pub extern "C" fn krcf_update_primary(state: &mut [u8], score: f64) -> u8
-    ensures { λ r. ⌜ left r (now (state .exit)) ≡ thresholderChanged (λ s. Updates.updated s (Updates.primaryCounted s score)) (now (state .entry)) ⌝ }
+    ensures { λ r. ⌜ left r (now (state .exit)) ≡ thresholderChanged (λ s. Updates.updatePrimary s score) (now (state .entry)) ⌝ }
 {
     let s = layout::read_thresholder(state);
     store_thresholder(state, s.update_primary(score))
@@ -430,7 +430,7 @@ pub extern "C" fn krcf_update_primary(state: &mut [u8], score: f64) -> u8
 
 #[no_mangle]
 pub extern "C" fn krcf_update_both(state: &mut [u8], primary: f32, secondary: f32) -> u8
-    ensures { λ r. ⌜ left r (now (state .exit)) ≡ thresholderChanged (λ s. Updates.updated s (Updates.bothCounted s primary secondary)) (now (state .entry)) ⌝ }
+    ensures { λ r. ⌜ left r (now (state .exit)) ≡ thresholderChanged (λ s. Updates.updateBoth s primary secondary) (now (state .entry)) ⌝ }
 {
     let s = layout::read_thresholder(state);
     store_thresholder(state, s.update_both(primary, secondary))
@@ -438,7 +438,7 @@ pub extern "C" fn krcf_update_both(state: &mut [u8], primary: f32, secondary: f3
 
 #[no_mangle]
 pub extern "C" fn krcf_update(state: &mut [u8], primary: f32, secondary: f32, last_score: f32) -> u8
-    ensures { λ r. ⌜ left r (now (state .exit)) ≡ thresholderChanged (λ s. Updates.updated s (Updates.cappedCounted s primary secondary «last_score»)) (now (state .entry)) ⌝ }
+    ensures { λ r. ⌜ left r (now (state .exit)) ≡ thresholderChanged (λ s. Updates.update s primary secondary «last_score») (now (state .entry)) ⌝ }
 {
     let s = layout::read_thresholder(state);
     store_thresholder(state, s.update(primary, secondary, last_score))

@@ -13,7 +13,7 @@ use Rattle.descriptor.specs.Checks.{sizesOk, dimension, lastPointsOk, allFinite
 use Rattle.corrector.specs.Corrector.{expectedPoint, applyBasicCorrector}
 use Rattle.predictorcorrector.specs.State.{autoAdjusted, stateCountsOk}
 use Rattle.predictorcorrector.specs.declared.PredictorCorrector.{PredictorCorrector}
-use Rattle.predictorcorrector.specs.declared.Changed.{Changed}
+use Rattle.predictorcorrector.specs.declared.Updated.{Updated}
 
 -- The first test that fails names the refusal: 2, 3, 4, then the call's own.
 unfoldable pub firstRefusal : Bool → Bool → Bool → Answer → Answer
@@ -84,6 +84,6 @@ unfoldable pub adjustedBy : Answer → PredictorCorrector → List Float → Pre
 adjustedBy Done s point = autoAdjusted s point
 adjustedBy (Refused why) s point = s
 
-unfoldable pub updateAutoAdjust : PredictorCorrector → ℕ → List Float → Changed
+unfoldable pub updateAutoAdjust : PredictorCorrector → ℕ → List Float → Updated
 updateAutoAdjust s shingle point =
     record { answer = adjustAnswer s shingle point; state = adjustedBy (adjustAnswer s shingle point) s point }

@@ -1,6 +1,6 @@
 // The calls on a reading's buffers that predictorcorrector.rs has public, with document 01's refusals.
-use predictorcorrector::Changed;
 use predictorcorrector::PredictorCorrector;
+use predictorcorrector::Updated;
 use types::Answer;
 use types::Refusal;
 ghost use mathlib.Core.Path.{_≡_};
@@ -206,15 +206,15 @@ fn adjust_answer(s: PredictorCorrector, shingle_size: usize, point: &[f32]) -> A
 }
 
 // Within a run with auto adjust, counts the oldest row of the point.
-pub fn update_auto_adjust(s: PredictorCorrector, shingle_size: usize, point: &[f32]) -> Changed
+pub fn update_auto_adjust(s: PredictorCorrector, shingle_size: usize, point: &[f32]) -> Updated
     ensures { λ r. ⌜ r ≡ Calls.updateAutoAdjust s «shingle_size» (now (point .entry)) ⌝ }
 {
     let answer = adjust_answer(s, shingle_size, point);
     match answer {
-        Answer::Done => Changed {
+        Answer::Done => Updated {
             answer,
             state: s.auto_adjusted(point),
         },
-        Answer::Refused(_) => Changed { answer, state: s },
+        Answer::Refused(_) => Updated { answer, state: s },
     }
 }

@@ -10,14 +10,14 @@ use Rattle.types.specs.declared.Answer.the-variants as Answers
 use Rattle.util.specs.Util.{minf32}
 use Rattle.ieee.specs.Round.{narrow}
 use Rattle.deviation.specs.Statistics as Statistics
-use Rattle.deviation.specs.Statistics.{counted, countable, next, oneMore}
+use Rattle.deviation.specs.Statistics.{countable, next, oneMore}
 use Rattle.basicthresholder.specs.Const.{zero32, sixteen32}
 use Rattle.basicthresholder.specs.Grades.{primaryThresholdAndGrade, threshold, thresholdBy, primaryGrade, gradeOver, isDeviationReady, countsReady}
-use Rattle.basicthresholder.specs.Updates.{countsOk, primaryCounted, countedOver, countedGap}
+use Rattle.basicthresholder.specs.Updates.{countsOk, updated, updatePrimary, primaryCounted, countedOver, countedGap}
 use Rattle.ledger.specs.Statement.{mostReadings, accepted, Sized, Sizes, InBounds}
 use Rattle.descriptor.specs.Checks.{every, sizesOk, dimension, rangeOk, pointsOk, rowsOk, neighboursOk, lastPointsOk, lengthsOk, numbersFinite, lastFinite, finiteOk, isLater, seenOk, answerOf}
 use Rattle.predictorcorrector.specs.State as State
-use Rattle.predictorcorrector.specs.State.{freshState, freshList, stateCountsOk, runEnded, scoreCounted}
+use Rattle.predictorcorrector.specs.State.{freshState, freshList, stateCountsOk, runEnded}
 use Rattle.predictorcorrector.specs.Lists.{listCountable, firstCountable, changed}
 use Rattle.predictorcorrector.specs.declared.PredictorCorrector.{PredictorCorrector}
 use Rattle.detection.specs.Judging as Exits
@@ -47,8 +47,8 @@ all-accepted : accepted (toldOf (made .state) eleven) ≡ 11
 unfolding answerOf rangeOk sizesOk lengthsOk dimension pointsOk rowsOk neighboursOk lastPointsOk finiteOk numbersFinite lastFinite every seenOk isLater
     stateCountsOk countsOk countable listCountable firstCountable State.new freshState freshList
     lt le eq ne ofBits round add sub mul div ofInt
-    outcome outcomeOf stateAfter Exits.verdict Exits.decided Exits.opening Exits.after Exits.entered Exits.updateScore runEnded scoreCounted
-    primaryCounted countedOver countedGap counted next oneMore Statistics.factor Statistics.mean Statistics.deviation Statistics.isEmpty Statistics.positiveRoot narrow
+    outcome outcomeOf stateAfter Exits.verdict Exits.decided Exits.opening Exits.after Exits.entered Exits.updateScore runEnded State.updateScore
+    updatePrimary updated primaryCounted countedOver countedGap Statistics.update next oneMore Statistics.factor Statistics.mean Statistics.deviation Statistics.isEmpty Statistics.positiveRoot narrow
     primaryThresholdAndGrade threshold thresholdBy primaryGrade gradeOver isDeviationReady countsReady minf32
 all-accepted = refl
 

@@ -15,9 +15,9 @@ use Rattle.ledger.specs.Theorem.{New}
 use Rattle.ledger.proofs.Laws.{new-fresh, new-z, new-horizon}
 use Rattle.ledger.proofs.WholeList as WholeList
 use Rattle.predictorcorrector.specs.State as State
-use Rattle.predictorcorrector.specs.State.{freshState, refusedNew, zFactorSet, horizonSetTo, setHorizon}
+use Rattle.predictorcorrector.specs.State.{freshState, refusedNew, zFactorSet, setHorizon}
 use Rattle.predictorcorrector.specs.declared.PredictorCorrector.{PredictorCorrector}
-use Rattle.predictorcorrector.specs.declared.Changed.{Changed}
+use Rattle.predictorcorrector.specs.declared.Updated.{Updated}
 use Rattle.detection.specs.declared.Outcome.{Outcome}
 use Rattle.demand3.specs.Calls.{Judging, Call, new, set-z-factor, set-horizon, detect-and-modify, Contract, JudgedInTurn, SetInTurn, InTurn, Made, zAfter, zOf, answerAt, isRefusal, toldOf, shownBy, shownOf}
 use Rattle.demand3.specs.Statement.{Returned, Demand3OfCalls}
@@ -72,9 +72,9 @@ z-stays (set-horizon x r ∷ cs) s z k = absurd k
 z-stays (detect-and-modify c ∷ cs) s z k = z-stays cs (c .judgment .state) z (k .1)
 
 -- ---- settings before them
-horizon-left : (s : PredictorCorrector) (x : Float) (r : Changed) → r ≡ setHorizon s x → r .state ≡ horizonSetTo s x
+horizon-left : (d z x : Float) (s : PredictorCorrector) (r : Updated) → r ≡ setHorizon s x → New d z (s .«basic_thresholder») → New d z (r .state .«basic_thresholder»)
 unfolding setHorizon
-horizon-left s x r e = ap (λ (c : Changed). c .state) e
+horizon-left d z x s r e n = subst (λ (u : Updated). New d z (u .state .«basic_thresholder»)) (sym e) (new-horizon d z x (s .«basic_thresholder») n)
 
 set-in-turn : (d : Float) → T (fits binary64 d) → T (isDiscount d) → (cs : List Call) (z : Float) (s : PredictorCorrector) → New d z (s .«basic_thresholder») → SetInTurn s cs
     → InBounds (zAfter z cs) (toldOf s cs) → Demand3 d (zAfter z cs) (toldOf s cs) (shownOf s cs)
@@ -83,7 +83,7 @@ set-in-turn d f i (new e auto base r ∷ cs) z s n k b = absurd k
 set-in-turn d f i (set-z-factor x s′ ∷ cs) z s n k b =
     set-in-turn d f i cs x s′ (subst (λ (u : PredictorCorrector). New d x (u .«basic_thresholder»)) (sym (k .0)) (new-z d z x (s .«basic_thresholder») n)) (k .1) b
 set-in-turn d f i (set-horizon x r ∷ cs) z s n k b =
-    set-in-turn d f i cs z (r .state) (subst (λ (u : PredictorCorrector). New d z (u .«basic_thresholder»)) (sym (horizon-left s x r (k .0))) (new-horizon d z x (s .«basic_thresholder») n)) (k .1) b
+    set-in-turn d f i cs z (r .state) (horizon-left d z x s r (k .0) n) (k .1) b
 set-in-turn d f i (detect-and-modify c ∷ cs) z s n k b =
     let e = z-stays (detect-and-modify c ∷ cs) s z k in
     subst (λ (y : Float). Demand3 d y (toldOf s (detect-and-modify c ∷ cs)) (shownOf s (detect-and-modify c ∷ cs))) (sym e)
@@ -98,7 +98,7 @@ pub fresh : (d : Float) (auto : Bool) (base : ℕ) → State.new d auto base .an
 unfolding State.new refusedNew freshState
 fresh d auto base e = (let p = go (isDiscount d) (leb 1 base && leb base 16) e in record { discount = p .0; new = p .1 })
   where
-    by : Bool → Bool → Changed
+    by : Bool → Bool → Updated
     by c k = cond c (cond k (record { answer = Answers.Done; state = freshState d auto base }) (refusedNew (Answers.Refused Refusals.Range))) (refusedNew (Answers.Refused Refusals.Discount))
 
     go : (c k : Bool) → by c k .answer ≡ Answers.Done → T c × New d zFactorDefault (by c k .state .«basic_thresholder»)
@@ -106,13 +106,13 @@ fresh d auto base e = (let p = go (isDiscount d) (leb 1 base && leb base 16) e i
     go true false q = absurd (subst (λ (a : Answer). T (isRefusal a)) q tt)
     go false k q = absurd (subst (λ (a : Answer). T (isRefusal a)) q tt)
 
-pub demand-3 : (d : Float) (auto : Bool) (base : ℕ) (r : Changed) (cs : List Call) → InTurn (new d auto base r ∷ cs) → InBounds (zOf cs) (toldOf (r .state) cs)
+pub demand-3 : (d : Float) (auto : Bool) (base : ℕ) (r : Updated) (cs : List Call) → InTurn (new d auto base r ∷ cs) → InBounds (zOf cs) (toldOf (r .state) cs)
     → Demand3 d (zOf cs) (toldOf (r .state) cs) (shownOf (r .state) cs)
 demand-3 d auto base r cs k b =
     let m = k .0 in
-    let n = fresh d auto base (ap (λ (c : Changed). c .answer) (sym (m .contract)) ∙ m .accepted) in
+    let n = fresh d auto base (ap (λ (c : Updated). c .answer) (sym (m .contract)) ∙ m .accepted) in
     set-in-turn d (m .discount) (n .discount) cs zFactorDefault (r .state)
-    (subst (λ (c : Changed). New d zFactorDefault (c .state .«basic_thresholder»)) (sym (m .contract)) (n .new)) (k .1) b
+    (subst (λ (c : Updated). New d zFactorDefault (c .state .«basic_thresholder»)) (sym (m .contract)) (n .new)) (k .1) b
 
 pub demand-3-of-calls : Demand3OfCalls
 demand-3-of-calls = record { returned = returned; demand-3 = demand-3; met = calm-met }

@@ -6,23 +6,28 @@ use lib.Dec.{T, ltb}
 use lib.ListN.{length}
 use lib.Ieee.{Float, eq, ofBits}
 use Rattle.types.specs.Codes.{isHeight}
+use Rattle.types.specs.declared.Refusal.the-variants.{Range, Length, NotFinite, ValuesSeen, Count}
 use Rattle.types.specs.declared.Answer.{Answer}
 use Rattle.types.specs.declared.Answer.the-variants as Answers
 use Rattle.types.specs.declared.ScoringStrategy.{ScoringStrategy}
 use Rattle.types.specs.declared.ScoringStrategy.the-variants.{DISTANCE}
 use Rattle.basicthresholder.specs.Const.{zero32}
 use Rattle.basicthresholder.specs.Grades.{primaryThresholdAndGrade}
-use Rattle.basicthresholder.specs.Updates.{primaryCounted}
+use Rattle.basicthresholder.specs.Updates.{updatePrimary, countsOk}
 use Rattle.basicthresholder.specs.declared.BasicThresholder.{BasicThresholder}
 use Rattle.basicthresholder.specs.declared.Graded.{Graded}
+use Rattle.basicthresholder.proofs.Laws.{primary-counted}
 use Rattle.ledger.specs.Statement.{Judge, Shown}
 use Rattle.ledger.specs.Theorem.{Laws, Counts}
 use Rattle.ledger.proofs.Laws.{primary-counts}
+use Rattle.descriptor.specs.Checks.{answerOf, rangeOk, lengthsOk, finiteOk, seenOk}
 use Rattle.descriptor.specs.Lent.{Lent}
 use Rattle.descriptor.specs.declared.Reading.{Reading}
 use Rattle.descriptor.specs.declared.LastDescriptor.{LastDescriptor}
-use Rattle.predictorcorrector.specs.State.{runEnded, autoAdjusted, candidateCounted, runGrown, scoreCounted}
+use Rattle.predictorcorrector.specs.State as State
+use Rattle.predictorcorrector.specs.State.{runEnded, autoAdjusted, candidateCounted, runGrown, stateCountsOk}
 use Rattle.predictorcorrector.specs.declared.PredictorCorrector.{PredictorCorrector}
+use Rattle.predictorcorrector.proofs.Rows.{thresholder-ok}
 use Rattle.detection.specs.Judging.{opening, updateScore, entered, candidateWith, candidateState, isDriftMode, verdict, after}
 use Rattle.detection.specs.Judged.{outcome, outcomeOf, stateAfter}
 use Rattle.detection.specs.declared.Verdict.{Verdict}
@@ -99,11 +104,11 @@ module _ (s : PredictorCorrector) (r : Reading) (l : LastDescriptor) (b : Lent) 
   candidate-keeps threshold = with-keeps _ s _ _
 
   entered-counts : (u : PredictorCorrector) (corrected : Float) → isHeight (r .«scoring_strategy») ≡ false → u .«basic_thresholder» ≡ s .«basic_thresholder»
-      → entered u r l corrected .«basic_thresholder» ≡ primaryCounted (s .«basic_thresholder») (r .score)
-  unfolding entered updateScore scoreCounted
-  entered-counts u corrected d e = rw d (ap (λ (t : BasicThresholder). primaryCounted t (r .score)) e)
+      → entered u r l corrected .«basic_thresholder» ≡ updatePrimary (s .«basic_thresholder») (r .score) .thresholder
+  unfolding entered updateScore State.updateScore
+  entered-counts u corrected d e = rw d (ap (λ (t : BasicThresholder). updatePrimary t (r .score) .thresholder) e)
 
-  after-counts : (v : Verdict) → isHeight (r .«scoring_strategy») ≡ false → isSkipped v ≡ false → after r l b s v .«basic_thresholder» ≡ primaryCounted (s .«basic_thresholder») (r .score)
+  after-counts : (v : Verdict) → isHeight (r .«scoring_strategy») ≡ false → isSkipped v ≡ false → after r l b s v .«basic_thresholder» ≡ updatePrimary (s .«basic_thresholder») (r .score) .thresholder
   unfolding after
   after-counts (Quiet t) d k = entered-counts (runEnded s) _ d (ended-keeps s)
   after-counts (Corrected t m) d k = entered-counts (cond (isDriftMode m) (candidateState r l b s t) (autoAdjusted s (b .point))) _ d (same-either (isDriftMode m) (s .«basic_thresholder») _ _ (candidate-keeps t) (adjusted-keeps s (b .point)))
@@ -126,7 +131,7 @@ module _ (s : PredictorCorrector) (r : Reading) (l : LastDescriptor) (b : Lent) 
   skipped-state e = rw e refl
 
   accepted-counts : isHeight (r .«scoring_strategy») ≡ false → eq (r .score) zero32 ≡ false
-      → stateAfter s r l b (Accepted (verdict r l b s)) .«basic_thresholder» ≡ primaryCounted (s .«basic_thresholder») (r .score)
+      → stateAfter s r l b (Accepted (verdict r l b s)) .«basic_thresholder» ≡ updatePrimary (s .«basic_thresholder») (r .score) .thresholder
   unfolding stateAfter
   accepted-counts d e = after-counts (verdict r l b s) d (verdict-shows s r l b e .skipped)
 
@@ -146,6 +151,25 @@ module _ (s : PredictorCorrector) (c : Judging) where
   refused-at : T (isRefusal (answerAt s c)) → stateAfter s (c .reading) (c .last) (c .lent) (outcomeAt s c) ≡ s
   unfolding outcome
   refused-at k = refused-state s (c .reading) (c .last) (c .lent) (answerAt s c) k
+
+  -- An accepted reading's counts take an update.
+  counts-at : T (not (isRefusal (answerAt s c))) → countsOk (s .«basic_thresholder») ≡ true
+  unfolding answerOf
+  counts-at a =
+      thresholder-ok s
+      (pick (rangeOk (c .reading .«shingle_size») (c .reading .«base_dimension») (s .«base_dimension»))
+      (lengthsOk (c .reading) (c .last) (c .lent) (length (c .expected)) (length (c .high)) (length (c .low)))
+      (finiteOk (c .reading) (c .last) (c .lent)) (seenOk (c .reading .«values_seen») (c .last .«has_anomaly») (c .last .anomaly .«values_seen»)) (stateCountsOk s) a)
+    where
+      pick : (range lengths finite seen counts : Bool)
+          → T (not (isRefusal (cond range (cond lengths (cond finite (cond seen (cond counts Answers.Done (Answers.Refused Count)) (Answers.Refused ValuesSeen)) (Answers.Refused NotFinite)) (Answers.Refused Length)) (Answers.Refused Range))))
+          → counts ≡ true
+      pick true true true true true a = refl
+      pick true true true true false a = absurd a
+      pick true true true false k a = absurd a
+      pick true true false e k a = absurd a
+      pick true false f e k a = absurd a
+      pick false q f e k a = absurd a
 
   -- ---- what a call returns
   pub returned-at : Returned s c (outcomeAt s c)
@@ -177,7 +201,7 @@ module _ (s : PredictorCorrector) (c : Judging) where
       counts : Counts (s .«basic_thresholder») (c .reading .score) (stateAfter s (c .reading) (c .last) (c .lent) (outcomeAt s c) .«basic_thresholder»)
       counts =
           subst (λ (t : BasicThresholder). Counts (s .«basic_thresholder») (c .reading .score) t)
-          (sym (ap (λ (u : PredictorCorrector). u .«basic_thresholder») state-of ∙ accepted-counts s (c .reading) (c .last) (c .lent) (by-distance _ d) (false-of _ z)))
+          (sym (ap (λ (u : PredictorCorrector). u .«basic_thresholder») state-of ∙ accepted-counts s (c .reading) (c .last) (c .lent) (by-distance _ d) (false-of _ z) ∙ primary-counted (s .«basic_thresholder») (counts-at a) (c .reading .score)))
           (primary-counts (s .«basic_thresholder») (c .reading .score))
 
       threshold-opens : shownBy s (c .reading) (outcomeAt s c) .threshold ≡ primaryThresholdAndGrade (s .«basic_thresholder») (c .reading .score) .threshold

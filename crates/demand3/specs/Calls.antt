@@ -20,7 +20,7 @@ use Rattle.descriptor.specs.declared.LastDescriptor.{LastDescriptor}
 use Rattle.predictorcorrector.specs.State as State
 use Rattle.predictorcorrector.specs.State.{zFactorSet, setHorizon, stateCountsOk}
 use Rattle.predictorcorrector.specs.declared.PredictorCorrector.{PredictorCorrector}
-use Rattle.predictorcorrector.specs.declared.Changed.{Changed}
+use Rattle.predictorcorrector.specs.declared.Updated.{Updated}
 use Rattle.detection.specs.Judging.{opening}
 use Rattle.detection.specs.Judged.{Judged}
 use Rattle.detection.specs.declared.Verdict.{Verdict}
@@ -46,9 +46,9 @@ pub record Judging : Type 0 where
 
 -- A call: what it took beside the state, and what it returned. `new` took the discount, auto adjust and the base dimension.
 pub data Call : Type 0 where
-  new : Float → Bool → ℕ → Changed → Call
+  new : Float → Bool → ℕ → Updated → Call
   set-z-factor : Float → PredictorCorrector → Call
-  set-horizon : Float → Changed → Call
+  set-horizon : Float → Updated → Call
   detect-and-modify : Judging → Call
 
 -- ---- calls in turn
@@ -77,7 +77,7 @@ SetInTurn s (set-horizon x r ∷ cs) = (r ≡ setHorizon s x) × SetInTurn (r .s
 SetInTurn s (detect-and-modify c ∷ cs) = JudgedInTurn s (detect-and-modify c ∷ cs)
 
 -- "Fresh here is a newly built state": a construction that was accepted, then settings, then judgments.
-pub record Made (d : Float) (auto : Bool) (base : ℕ) (r : Changed) : Type 0 where
+pub record Made (d : Float) (auto : Bool) (base : ℕ) (r : Updated) : Type 0 where
   pub discount : T (fits binary64 d)
   pub contract : r ≡ State.new d auto base
   pub accepted : r .answer ≡ Answers.Done

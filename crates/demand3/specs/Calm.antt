@@ -13,7 +13,7 @@ use Rattle.descriptor.specs.declared.Reading.{Reading}
 use Rattle.descriptor.specs.declared.LastDescriptor.{LastDescriptor}
 use Rattle.predictorcorrector.specs.State as State
 use Rattle.predictorcorrector.specs.declared.PredictorCorrector.{PredictorCorrector}
-use Rattle.predictorcorrector.specs.declared.Changed.{Changed}
+use Rattle.predictorcorrector.specs.declared.Updated.{Updated}
 use Rattle.detection.specs.Judging as Exits
 use Rattle.detection.specs.Judged.{outcome, stateAfter, indexAfter, written}
 use Rattle.detection.specs.declared.Outcome.{Outcome}
@@ -80,7 +80,7 @@ judgings zero s = []
 judgings (suc n) s = detect-and-modify (judging s) ∷ judgings n (judging s .judgment .state)
 
 -- Discount 0, no auto adjust, base 1; then eleven of them in turn.
-abbrev pub made : Changed
+abbrev pub made : Updated
 made = State.new nought false 1
 
 abbrev pub eleven : List Call

@@ -9,7 +9,7 @@ use Rattle.basicthresholder.specs.Const.{zero32}
 use Rattle.basicthresholder.specs.declared.Graded.{Graded}
 use Rattle.ledger.specs.Statement.{accepted, InBounds, Demand3}
 use Rattle.predictorcorrector.specs.declared.PredictorCorrector.{PredictorCorrector}
-use Rattle.predictorcorrector.specs.declared.Changed.{Changed}
+use Rattle.predictorcorrector.specs.declared.Updated.{Updated}
 use Rattle.detection.specs.declared.Verdict.{Verdict}
 use Rattle.detection.specs.declared.Verdict.the-variants.{Quiet, Corrected, Raised, Skipped}
 use Rattle.detection.specs.declared.Outcome.{Outcome}
@@ -54,7 +54,7 @@ pub record Demand3OfCalls : Type 0 where
   -- Of each judgment, whatever its strategy.
   pub returned : (s : PredictorCorrector) (c : Judging) → Contract s c → Returned s c (c .judgment .outcome)
   -- "A single statement about the list of readings": a list of calls that begins with `new`.
-  pub demand-3 : (d : Float) (auto : Bool) (base : ℕ) (r : Changed) (cs : List Call)
+  pub demand-3 : (d : Float) (auto : Bool) (base : ℕ) (r : Updated) (cs : List Call)
       → InTurn (new d auto base r ∷ cs) → InBounds (zOf cs) (toldOf (r .state) cs)
       → Demand3 d (zOf cs) (toldOf (r .state) cs) (shownOf (r .state) cs)
   -- Such lists exist: the entry checks accept eleven calm readings, and the last has ten counted before it.

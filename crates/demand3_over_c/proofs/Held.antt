@@ -15,17 +15,20 @@ use lib.Ieee.Fits.{round-fits, cond-fits, nan-fits, inf-fits, add-fits, sub-fits
 use Rattle.ieee.specs.Round.{narrow}
 use Rattle.util.specs.Util.{minf32, maxf32}
 use Rattle.types.specs.Codes.{isHeight}
+use Rattle.types.specs.declared.Refusal.the-variants as Refusals
+use Rattle.types.specs.declared.Answer.the-variants as Answers
 use Rattle.types.specs.declared.ScoringStrategy.{ScoringStrategy}
 use Rattle.types.specs.declared.CorrectionMode.{CorrectionMode}
 use Rattle.types.specs.declared.CorrectionMode.the-variants as Modes
 use Rattle.deviation.specs.Const.{zero64, one64}
+use Rattle.deviation.specs.Statistics as Statistics
 use Rattle.deviation.specs.Statistics.{fresh, reset, mean, counted, next, countable, oneMore}
 use Rattle.deviation.specs.declared.Deviation.{Deviation}
 use Rattle.basicthresholder.specs.Const.{zero32, two32, two64}
-use Rattle.basicthresholder.specs.Updates.{freshThresholder, withCounted, countedGap, countedOver, primaryCounted, bothCounted, cappedCounted, withZFactor, horizonSet, isHorizon, withScoreDifferencing}
+use Rattle.basicthresholder.specs.Updates.{freshThresholder, withCounted, countedGap, countedOver, primaryCounted, bothCounted, countsOk, done, refused, updated, updatePrimary, updateBoth, update, withZFactor, withScoreDifferencing}
 use Rattle.basicthresholder.specs.declared.BasicThresholder.{BasicThresholder}
 use Rattle.predictorcorrector.specs.Lists.{changed, stepped, rowCounted, rowReset}
-use Rattle.predictorcorrector.specs.State.{existing, freshList, freshState, withRun, withThresholder, longerRun, runEnded, autoAdjusted, candidateCounted, runGrown, scoreCounted}
+use Rattle.predictorcorrector.specs.State.{existing, freshList, freshState, withRun, withThresholder, longerRun, runEnded, autoAdjusted, candidateCounted, runGrown, heightScore, updateScore}
 use Rattle.predictorcorrector.specs.declared.PredictorCorrector.{PredictorCorrector}
 use Rattle.descriptor.specs.Lent.{Lent}
 use Rattle.descriptor.specs.declared.Reading.{Reading}
@@ -86,10 +89,10 @@ unfolding reset
 reset-fits d f = fresh-fits (d .discount) (f .discount)
 
 counted-fits : (d : Deviation) (x : Float) → DeviationFits d → DeviationFits (counted d x)
-unfolding counted next
+unfolding Statistics.update next
 counted-fits d x f = go (countable (d .count)) refl
   where
-    go : (c : Bool) → countable (d .count) ≡ c → DeviationFits (cond c (next d x) d)
+    go : (c : Bool) → countable (d .count) ≡ c → DeviationFits (cond c (record { answer = Answers.Done; deviation = next d x }) (record { answer = Answers.Refused Refusals.Count; deviation = d }) .deviation)
     go true e = record {
       discount = f .discount;
       weight = add-fits binary64 _ _;
@@ -138,17 +141,29 @@ both-fits t x y h f =
     with-counted t _ _ _ _ _ f h (counted-fits (t .«primary_deviation») x (f .primary))
     (counted-fits (t .«secondary_deviation») y (f .secondary)) (over-fits (t .«threshold_deviation») _ _ (f .third)) (one-more-small (t .count) (f .count))
 
-capped-fits : (t : BasicThresholder) (x y z : Float) → T (fits binary32 x) → ThresholderFits t → ThresholderFits (cappedCounted t x y z)
-unfolding cappedCounted
-capped-fits t x y z h f = both-fits t (minf32 two32 x) (Ieee.sub binary32 y z) (min-fits two32 x (ofBits-fits binary32 0x4000_0000) h) f
+updated-fits : (t after : BasicThresholder) → ThresholderFits t → ThresholderFits after → ThresholderFits (updated t after .thresholder)
+unfolding updated
+updated-fits t after f g = go (countsOk t)
+  where
+    go : (c : Bool) → ThresholderFits (cond c (done after) (refused Refusals.Count t) .thresholder)
+    go true = g
+    go false = f
 
-score-fits : (t : BasicThresholder) (k : ScoringStrategy) (x y : Float) (o : ScoringStrategy) (z : Float) → T (fits binary32 x) → ThresholderFits t → ThresholderFits (scoreCounted t k x y o z)
-unfolding scoreCounted
+capped-fits : (t : BasicThresholder) (x y z : Float) → T (fits binary32 x) → ThresholderFits t → ThresholderFits (update t x y z .thresholder)
+unfolding update updateBoth
+capped-fits t x y z h f = updated-fits t _ f (both-fits t (minf32 two32 x) (Ieee.sub binary32 y z) (min-fits two32 x (ofBits-fits binary32 0x4000_0000) h) f)
+
+distance-fits : (t : BasicThresholder) (x : Float) → ThresholderFits t → ThresholderFits (updatePrimary t x .thresholder)
+unfolding updatePrimary
+distance-fits t x f = updated-fits t _ f (primary-fits t x f)
+
+score-fits : (t : BasicThresholder) (k : ScoringStrategy) (x y : Float) (o : ScoringStrategy) (z : Float) → T (fits binary32 x) → ThresholderFits t → ThresholderFits (updateScore t k x y o z)
+unfolding updateScore
 score-fits t k x y o z h f = go (isHeight k)
   where
-    go : (c : Bool) → ThresholderFits (cond c (cappedCounted t x y (cond (isHeight o) z zero32)) (primaryCounted t x))
-    go true = capped-fits t x y (cond (isHeight o) z zero32) h f
-    go false = primary-fits t x f
+    go : (c : Bool) → ThresholderFits (cond c (update t x y (heightScore o z) .thresholder) (updatePrimary t x .thresholder))
+    go true = capped-fits t x y (heightScore o z) h f
+    go false = distance-fits t x f
 
 pub z-fits : (t : BasicThresholder) (x : Float) → T (fits binary32 x) → ThresholderFits t → ThresholderFits (withZFactor t x)
 z-fits t x h f = record {
@@ -167,27 +182,22 @@ z-fits t x h f = record {
   factor = h;
 }
 
-pub horizon-fits : (t : BasicThresholder) (x : Float) → T (fits binary32 x) → ThresholderFits t → ThresholderFits (horizonSet t x)
-unfolding horizonSet
-horizon-fits t x h f = go (isHorizon x)
-  where
-    go : (c : Bool) → ThresholderFits (cond c (withScoreDifferencing t x) t)
-    go true = record {
-      elasticity = f .elasticity;
-      count = f .count;
-      differencing = h;
-      last = f .last;
-      primary = f .primary;
-      secondary = f .secondary;
-      third = f .third;
-      absolute = f .absolute;
-      fraction = f .fraction;
-      lower = f .lower;
-      adjustment = f .adjustment;
-      initial = f .initial;
-      factor = f .factor;
-    }
-    go false = f
+pub differencing-fits : (t : BasicThresholder) (x : Float) → T (fits binary32 x) → ThresholderFits t → ThresholderFits (withScoreDifferencing t x)
+differencing-fits t x h f = record {
+  elasticity = f .elasticity;
+  count = f .count;
+  differencing = h;
+  last = f .last;
+  primary = f .primary;
+  secondary = f .secondary;
+  third = f .third;
+  absolute = f .absolute;
+  fraction = f .fraction;
+  lower = f .lower;
+  adjustment = f .adjustment;
+  initial = f .initial;
+  factor = f .factor;
+}
 
 -- ---- lists
 module _ (z : Deviation) where

@@ -29,7 +29,7 @@ use Rattle.descriptor.specs.Lent.{Lent}
 use Rattle.descriptor.specs.declared.Reading.{Reading}
 use Rattle.descriptor.specs.declared.LastDescriptor.{LastDescriptor}
 use Rattle.deviation.specs.Statistics.{isDiscount}
-use Rattle.predictorcorrector.specs.State.{new, zFactorSet, horizonSetTo}
+use Rattle.predictorcorrector.specs.State.{new, zFactorSet, setHorizon}
 use Rattle.predictorcorrector.specs.declared.PredictorCorrector.{PredictorCorrector}
 use Rattle.divector.specs.DiVector.{normalized}
 use Rattle.detection.specs.Judging.{expected}
@@ -269,13 +269,17 @@ module _ (d : Float) (f : T (fits binary64 d)) (i : T (isDiscount d)) where
   z-stays (krcf-chain-set-horizon x n ys ∷ cs) xs z t = absurd t
   z-stays (krcf-detect-and-modify c ∷ cs) xs z t = z-stays cs (c .state′) z (t .1)
 
+  horizon-new : {z : Float} (s : PredictorCorrector) (x : Float) → New d z (s .«basic_thresholder») → New d z (setHorizon s x .state .«basic_thresholder»)
+  unfolding setHorizon
+  horizon-new {z} s x n = new-horizon d z x (s .«basic_thresholder») n
+
   set : (cs : List Call) (z : Float) (s : PredictorCorrector) (xs : List ℕ) → New d z (s .«basic_thresholder») → Holds s xs → SetInTurn xs cs
       → InBounds (zAfter z cs) (toldOf cs) → Demand3 d (zAfter z cs) (toldOf cs) (shownOf cs)
   set [] z s xs n h t b = tt
   set (krcf-new e auto base out k ys ∷ cs) z s xs n h t b = absurd t
   set (krcf-chain-set-z-factor x k ys ∷ cs) z s xs n h t b = set cs x (zFactorSet s x) ys (new-z d z x (s .«basic_thresholder») n) (z-holds s xs h x k ys (t .0) (t .1)) (t .2) b
   set (krcf-chain-set-horizon x k ys ∷ cs) z s xs n h t b =
-      set cs z (horizonSetTo s x) ys (new-horizon d z x (s .«basic_thresholder») n) (horizon-holds s xs h x k ys (t .0) (t .1)) (t .2) b
+      set cs z (setHorizon s x .state) ys (horizon-new s x n) (horizon-holds s xs h x k ys (t .0) (t .1)) (t .2) b
   set (krcf-detect-and-modify c ∷ cs) z s xs n h t b =
       let l = krcf-detect-and-modify c ∷ cs in
       let e = z-stays l xs z t in

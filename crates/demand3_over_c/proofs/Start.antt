@@ -21,12 +21,12 @@ use Rattle.deviation.specs.Const.{zero64}
 use Rattle.deviation.specs.Statistics.{fresh, isDiscount}
 use Rattle.deviation.specs.declared.Deviation.{Deviation}
 use Rattle.basicthresholder.specs.Const.{two64}
-use Rattle.basicthresholder.specs.Updates.{freshThresholder, horizonSet, horizonAnswer, isHorizon, withScoreDifferencing}
+use Rattle.basicthresholder.specs.Updates.{freshThresholder, done, refused, isHorizon, withScoreDifferencing, setScoreDifferencing}
 use Rattle.basicthresholder.specs.declared.BasicThresholder.{BasicThresholder}
 use Rattle.predictorcorrector.specs.Lists.{changed}
-use Rattle.predictorcorrector.specs.State.{new, freshState, freshList, refusedNew, existing, zFactorSet, horizonSetTo, horizonNumber, withThresholder}
+use Rattle.predictorcorrector.specs.State.{new, freshState, freshList, refusedNew, existing, zFactorSet, setHorizon, updated, withThresholder}
 use Rattle.predictorcorrector.specs.declared.PredictorCorrector.{PredictorCorrector}
-use Rattle.predictorcorrector.specs.declared.Changed.{Changed}
+use Rattle.predictorcorrector.specs.declared.Updated.{Updated}
 use Rattle.layout.specs.Numbers.{flagByte, f32Bytes, f64Bytes, i32Bytes, flagBytes, bytes4, bytes8}
 use Rattle.layout.specs.States.{joined, encodeDeviation, encodeThresholder}
 use Rattle.layout.specs.Chain.{entries, decodeState, encodeHead, encodeStateOver}
@@ -36,7 +36,7 @@ use Rattle.c_chain.specs.States.{chainRefusal, chainSet, horizonSetIn, chainMad
 use Rattle.stored_state.specs.Fits.{ListFits, StateFits}
 use Rattle.stored_state.proofs.Windows.{part, first}
 use Rattle.stored_state.proofs.Back.{state-back, state-length, head-put}
-use Rattle.demand3_over_c.proofs.Held.{fresh-fits, z-fits, horizon-fits, with-thresholder, changed-length, changed-other, changed-held}
+use Rattle.demand3_over_c.proofs.Held.{fresh-fits, z-fits, differencing-fits, with-thresholder, changed-length, changed-other, changed-held}
 
 -- ---- bytes that hold a state, and whose two yes/no bytes no call refuses
 pub record Holds (s : PredictorCorrector) (xs : List ℕ) : Type 0 where
@@ -138,12 +138,12 @@ number-above (Answers.Refused Refusals.Horizon) e = absurd (omega arith)
 number-above (Answers.Refused Refusals.Blocks) e = absurd (omega arith)
 
 -- `krcf_new` answered 0.
-pub record MadeOver (made : Changed) (out xs : List ℕ) : Type 0 where
+pub record MadeOver (made : Updated) (out xs : List ℕ) : Type 0 where
   pub done : made .answer ≡ Answers.Done
   pub size : length out ≡ 1310
   pub bytes : xs ≡ encodeStateOver (replicate (length out) 0) (made .state)
 
-pub made-over : (made : Changed) (adjust : ℕ) (out xs : List ℕ) → left 0 xs ≡ chainMade made adjust out → MadeOver made out xs
+pub made-over : (made : Updated) (adjust : ℕ) (out xs : List ℕ) → left 0 xs ≡ chainMade made adjust out → MadeOver made out xs
 unfolding chainMade
 made-over made adjust out xs = go (eqb (answered (made .answer)) 0) (leb adjust 1) (eqb (length out) 1310) refl refl
   where
@@ -183,18 +183,21 @@ module _ (s : PredictorCorrector) (xs : List ℕ) (k : Holds s xs) where
   z-holds x n ys h e =
       set-done (λ (u : PredictorCorrector). zFactorSet u x) n ys (with-thresholder s _ (k .fits) (z-fits (s .«basic_thresholder») x h (k .fits .thresholder))) (e ∙ rw (no-refusal s xs k))
 
-  kept-set : (x : Float) → isHorizon x ≡ false → horizonSetTo s x ≡ s
-  unfolding horizonSet
-  kept-set x e = rw e refl
-
-  pub horizon-holds : (x : Float) (n : ℕ) (ys : List ℕ) → T (fits binary32 x) → left n ys ≡ horizonSetIn x xs → Holds (horizonSetTo s x) ys
-  unfolding horizonSetIn horizonAnswer
-  horizon-holds x n ys h e = go (isHorizon x) refl (e ∙ rw (no-refusal s xs k))
+  pub horizon-holds : (x : Float) (n : ℕ) (ys : List ℕ) → T (fits binary32 x) → left n ys ≡ horizonSetIn x xs → Holds (setHorizon s x .state) ys
+  unfolding horizonSetIn setHorizon setScoreDifferencing
+  horizon-holds x n ys h e = go (isHorizon x) (e ∙ rw (no-refusal s xs k) ∙ ap (λ (u : PredictorCorrector). stored (setHorizon u x)) (k .state))
     where
-      go : (c : Bool) → isHorizon x ≡ c
-          → left n ys ≡ cond (eqb (answered (cond c Answers.Done (Answers.Refused Refusals.Horizon))) 0) (left 0 (encodeStateOver xs (horizonSetTo (decodeState xs) x))) (left (answered (cond c Answers.Done (Answers.Refused Refusals.Horizon))) xs)
-          → Holds (horizonSetTo s x) ys
-      go true i q =
-          set-done (λ (u : PredictorCorrector). horizonSetTo u x) n ys (with-thresholder s _ (k .fits) (horizon-fits (s .«basic_thresholder») x h (k .fits .thresholder))) q
-      go false i q =
-          subst (λ (u : PredictorCorrector). Holds u ys) (sym (kept-set x i)) (subst (Holds s) (sym (ap (λ (l : Left). l .bytes) q)) k)
+      stored : Updated → Left
+      stored u = cond (eqb (answered (u .answer)) 0) (left 0 (encodeStateOver xs (u .state))) (left (answered (u .answer)) xs)
+
+      by : Bool → Updated
+      by c =
+          let t = s .«basic_thresholder» in
+          let u = cond c (done (withScoreDifferencing t x)) (refused Refusals.Horizon t) in
+          updated (u .answer) (withThresholder s (u .thresholder))
+
+      go : (c : Bool) → left n ys ≡ stored (by c) → Holds (by c .state) ys
+      go true q =
+          subst (Holds (by true .state)) (sym (ap (λ (l : Left). l .bytes) q))
+          (put-holds xs (by true .state) (k .size) (with-thresholder s _ (k .fits) (differencing-fits (s .«basic_thresholder») x h (k .fits .thresholder))))
+      go false q = subst (Holds s) (sym (ap (λ (l : Left). l .bytes) q)) k

@@ -14,17 +14,18 @@ use Rattle.ieee.specs.Round.{narrow}
 use Rattle.util.specs.Util.{minf32}
 use Rattle.types.specs.declared.Answer.{Answer}
 use Rattle.types.specs.declared.Answer.the-variants as Answers
-use Rattle.deviation.specs.Statistics.{countable, counted, next, oneMore}
+use Rattle.deviation.specs.Statistics.{countable, next, oneMore}
 use Rattle.deviation.specs.Statistics as Statistics
 use Rattle.basicthresholder.specs.Const.{zero32, sixteen32}
-use Rattle.basicthresholder.specs.Updates.{countsOk, primaryCounted, countedOver, countedGap}
+use Rattle.basicthresholder.specs.Updates.{countsOk, updated, updatePrimary, primaryCounted, countedOver, countedGap}
 use Rattle.basicthresholder.specs.Grades.{primaryThresholdAndGrade, threshold, thresholdBy, primaryGrade, gradeOver, isDeviationReady, countsReady}
 use Rattle.ledger.specs.Statement.{mostReadings, accepted, Sized, Sizes, InBounds}
 use Rattle.descriptor.specs.Lent.{Lent}
 use Rattle.descriptor.specs.Checks.{every, sizesOk, dimension, rangeOk, pointsOk, rowsOk, neighboursOk, lastPointsOk, lengthsOk, numbersFinite, lastFinite, finiteOk, isLater, seenOk, answerOf}
 use Rattle.descriptor.specs.declared.Reading.{Reading}
 use Rattle.descriptor.specs.declared.LastDescriptor.{LastDescriptor}
-use Rattle.predictorcorrector.specs.State.{new, freshState, freshList, stateCountsOk, runEnded, scoreCounted}
+use Rattle.predictorcorrector.specs.State as State
+use Rattle.predictorcorrector.specs.State.{new, freshState, freshList, stateCountsOk, runEnded}
 use Rattle.predictorcorrector.specs.Lists.{listCountable, firstCountable, changed}
 use Rattle.predictorcorrector.specs.declared.PredictorCorrector.{PredictorCorrector}
 use Rattle.detection.specs.Judging.{verdict, opening, after, entered}
@@ -128,8 +129,8 @@ unfolding answerOf rangeOk sizesOk lengthsOk dimension pointsOk rowsOk neighbour
     stateCountsOk countsOk countable listCountable firstCountable new freshState freshList
     lt le eq ne ofBits round add sub mul div ofInt
     readReading decodeReading readLast decodeLast decodeAnomaly f32At i32At signed le4 flagAt strategyFrom methodFrom
-    verdict opening after entered runEnded scoreCounted
-    primaryCounted countedOver countedGap counted next oneMore Statistics.factor Statistics.mean Statistics.deviation Statistics.isEmpty Statistics.positiveRoot narrow
+    verdict opening after entered runEnded State.updateScore
+    updatePrimary updated primaryCounted countedOver countedGap Statistics.update next oneMore Statistics.factor Statistics.mean Statistics.deviation Statistics.isEmpty Statistics.positiveRoot narrow
     primaryThresholdAndGrade threshold thresholdBy primaryGrade gradeOver isDeviationReady countsReady minf32
 eleven-done = (refl, (refl, (refl, (refl, (refl, (refl, (refl, (refl, (refl, (refl, (refl, tt)))))))))))
 

@@ -157,6 +157,14 @@ impl Deviation {
         }
     }
 
+    // A step: the record that `update` hands back, which is this one where refusal 6 applies.
+    pub fn counted(self, score: f64) -> Deviation
+        ensures { λ r. ⌜ r ≡ Statistics.counted self score ⌝ }
+    {
+        let after = self.update(score);
+        after.deviation
+    }
+
     pub fn deviation(self) -> f64
         ensures { λ r. ⌜ r ≡ Statistics.deviation self ⌝ }
     {

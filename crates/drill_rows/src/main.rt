@@ -56,7 +56,7 @@ fn statistics() {
 }
 
 fn fresh() -> BasicThresholder {
-    BasicThresholder::fresh(0.01, false)
+    BasicThresholder::default()
 }
 
 // Absolute and initial threshold both 1.
@@ -176,7 +176,8 @@ fn sizes() {
     io::write_all(1, b"shingle 64, base 17:");
     sized(&[0.0f32; 1088], 64, 17);
     io::write_all(1, b"horizon 1:");
-    let answer = basicthresholder::horizon_answer(1.0);
+    let set = fresh().set_score_differencing(1.0);
+    let answer = set.answer;
     whole(answer.number() as u64);
     end();
 }

@@ -7,9 +7,9 @@ use lib.Ieee.{Float, ofBits, ofInt, sub, mul, div, le}
 use Rattle.util.specs.Util.{maxf32, minf32, absf32}
 use Rattle.ieee.specs.Round.{floor, sqrt}
 use Rattle.types.specs.declared.TransformMethod.{TransformMethod}
-use Rattle.deviation.specs.Statistics.{counted, countable, next, factor, isEmpty, mean, deviation, positiveRoot}
+use Rattle.deviation.specs.Statistics.{update, countable, next, factor, isEmpty, mean, deviation, positiveRoot}
 use Rattle.basicthresholder.specs.Grades.{thresholdAndGrade, thresholdAndGradeWithFactor, isDeviationReady, countsReady, thresholdFrom, absoluteOf, easedAbsolute, intermediateFraction, surpriseIndex, gradeAgainst, gradedOr, sixteenths}
-use Rattle.basicthresholder.specs.Updates.{horizonAnswer, isHorizon}
+use Rattle.basicthresholder.specs.Updates.{setScoreDifferencing, isHorizon}
 use Rattle.divector.specs.DiVector.{maxGapContribution, badBlocks, firstBlock, winner, bestFrom, blockSum, pairSum, normalized, totalOf, sumFrom, share}
 use Rattle.corrector.specs.Corrector.{applyBasicCorrector, amended, amendedRow, shifted, forUpTo, pointRefusal}
 use Rattle.uncertainty_box.specs.Box.{pathDeviation, pathLoop, pathMean, pathStep}
@@ -36,9 +36,9 @@ computed :
     (discount : Float) (adjust : Bool) (method : TransformMethod) (shingle : ℕ) (timed : Bool)
     → givens (sheet discount adjust method shingle timed) ≡ saids (sheet discount adjust method shingle timed)
 unfolding ofBits ofInt sub mul div le floor sqrt maxf32 minf32 absf32
-    counted countable next factor isEmpty mean deviation positiveRoot
+    update countable next factor isEmpty mean deviation positiveRoot
     thresholdAndGrade thresholdAndGradeWithFactor isDeviationReady countsReady thresholdFrom absoluteOf easedAbsolute intermediateFraction surpriseIndex gradeAgainst gradedOr sixteenths
-    horizonAnswer isHorizon
+    setScoreDifferencing isHorizon
     maxGapContribution badBlocks firstBlock winner bestFrom blockSum pairSum normalized totalOf sumFrom share
     applyBasicCorrector amended amendedRow shifted forUpTo pointRefusal
     pathDeviation pathLoop pathMean pathStep

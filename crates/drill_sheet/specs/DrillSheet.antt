@@ -13,7 +13,7 @@ use Rattle.deviation.specs.declared.Deviation.{Deviation}
 use Rattle.deviation.specs.Statistics.{fresh, counted, mean, deviation, factor}
 use Rattle.basicthresholder.specs.declared.BasicThresholder.{BasicThresholder}
 use Rattle.basicthresholder.specs.Grades.{graded, thresholdAndGrade}
-use Rattle.basicthresholder.specs.Updates.{freshThresholder, withAbsoluteThreshold, withInitialThreshold, horizonAnswer}
+use Rattle.basicthresholder.specs.Updates.{freshThresholder, withAbsoluteThreshold, withInitialThreshold, setScoreDifferencing}
 use Rattle.divector.specs.declared.Block.{Block}
 use Rattle.divector.specs.declared.Block.the-variants.{At}
 use Rattle.divector.specs.DiVector.{maxGapContribution, normalized}
@@ -115,7 +115,7 @@ sheet discount adjust method shingle timed =
     ∷ (pointRefusal 64 16 1024 gives 0)
     ∷ (pointRefusal 65 16 1040 gives 2)
     ∷ (pointRefusal 64 17 1088 gives 2)
-    ∷ (answered (horizonAnswer (f32 1 1)) gives 0)
+    ∷ (answered (setScoreDifferencing (freshThresholder discount adjust) (f32 1 1) .answer) gives 0)
     ∷ []
 
 -- The statement: whatever document 01 leaves open, every row is right.

@@ -155,7 +155,7 @@ pub fn read_thresholder(bytes: &[u8]) -> BasicThresholder
     if bytes.len() == 149 {
         return thresholder_of(bytes);
     }
-    BasicThresholder::fresh(0.0, false)
+    BasicThresholder::default()
 }
 
 fn put4(out: &mut [u8], at: usize, n: u32)

@@ -15,7 +15,7 @@ use Rattle.basicthresholder.specs.declared.BasicThresholder.{BasicThresholder}
 use Rattle.basicthresholder.specs.Grades.{threshold, primaryGrade, primaryThresholdAndGrade, thresholdBy, gradeOver, isDeviationReady, countsReady}
 use Rattle.basicthresholder.specs.Updates.{freshThresholder, primaryCounted, countedOver, countedGap}
 use Rattle.deviation.specs.Statistics as Statistics
-use Rattle.deviation.specs.Statistics.{counted, countable, next, oneMore, mean, deviation, isEmpty, positiveRoot}
+use Rattle.deviation.specs.Statistics.{countable, next, oneMore, mean, deviation, isEmpty, positiveRoot}
 use Rattle.ieee.specs.Round.{narrow}
 use Rattle.util.specs.Util.{minf32}
 use Rattle.ledger.specs.Fractions.{over, fractionOf, plusZero}
@@ -104,7 +104,7 @@ takes t [] = t
 takes t (x ∷ xs) = takes (raisedOnly t x) xs
 
 still-one : (adjust : Bool) → threshold (takes (freshThresholder plusZero adjust) (ones 10 (half ∷ []))) ≡ plusOne
-unfolding threshold thresholdBy primaryGrade gradeOver isDeviationReady countsReady primaryCounted countedOver countedGap minf32 narrow counted countable next oneMore Statistics.factor mean deviation isEmpty positiveRoot ofBits round add sub mul div lt le eq ne ofInt
+unfolding threshold thresholdBy primaryGrade gradeOver isDeviationReady countsReady primaryCounted countedOver countedGap minf32 narrow Statistics.update countable next oneMore Statistics.factor mean deviation isEmpty positiveRoot ofBits round add sub mul div lt le eq ne ofInt
 still-one adjust = refl
 
 -- a threshold of 1 is not the ledger's by then, whatever the grades

@@ -2,9 +2,10 @@
 use mathlib.Core.Path.{refl}
 use mathlib.Core.Bool.{Bool, true, false, cond}
 use lib.Ieee.{Float}
+use Rattle.types.specs.declared.Refusal.the-variants.{Horizon}
 use Rattle.basicthresholder.specs.Const.{zFactorDefault}
 use Rattle.basicthresholder.specs.declared.BasicThresholder.{BasicThresholder}
-use Rattle.basicthresholder.specs.Updates.{freshThresholder, primaryCounted, withZFactor, horizonSet, isHorizon, withScoreDifferencing}
+use Rattle.basicthresholder.specs.Updates.{freshThresholder, primaryCounted, withZFactor, done, refused, isHorizon, withScoreDifferencing, setScoreDifferencing}
 use Rattle.ledger.specs.Theorem.{Counts, New}
 
 pub primary-counts : (t : BasicThresholder) (x : Float) → Counts t x (primaryCounted t x)
@@ -17,10 +18,10 @@ new-fresh d adjust = record { primary = refl; count = refl; z-factor = refl }
 pub new-z : (d z x : Float) (t : BasicThresholder) → New d z t → New d x (withZFactor t x)
 new-z d z x t n = record { primary = n .primary; count = n .count; z-factor = refl }
 
-pub new-horizon : (d z x : Float) (t : BasicThresholder) → New d z t → New d z (horizonSet t x)
-unfolding horizonSet
+pub new-horizon : (d z x : Float) (t : BasicThresholder) → New d z t → New d z (setScoreDifferencing t x .thresholder)
+unfolding setScoreDifferencing
 new-horizon d z x t n = go (isHorizon x)
   where
-    go : (b : Bool) → New d z (cond b (withScoreDifferencing t x) t)
+    go : (b : Bool) → New d z (cond b (done (withScoreDifferencing t x)) (refused Horizon t) .thresholder)
     go true = record { primary = n .primary; count = n .count; z-factor = n .z-factor }
     go false = n

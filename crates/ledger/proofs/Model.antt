@@ -11,7 +11,7 @@ use Rattle.basicthresholder.specs.declared.BasicThresholder.{BasicThresholder}
 use Rattle.basicthresholder.specs.Grades.{primaryThresholdAndGrade, threshold, thresholdBy}
 use Rattle.basicthresholder.specs.Updates.{primaryCounted, freshThresholder, countedOver, countedGap}
 use Rattle.deviation.specs.Statistics as Statistics
-use Rattle.deviation.specs.Statistics.{counted, countable, next, oneMore, deviation, isEmpty, positiveRoot}
+use Rattle.deviation.specs.Statistics.{countable, next, oneMore, deviation, isEmpty, positiveRoot}
 use Rattle.ieee.specs.Round.{narrow, sqrt, isqrt}
 use Rattle.ledger.specs.Fractions.{Fraction, over, Same, plusZero}
 use Rattle.ledger.specs.Ledger.{Ledger, blank, enter, factor, mean, At}
@@ -103,5 +103,5 @@ takes t [] = t
 takes t (x ∷ xs) = takes (everyScore t x) xs
 
 pub worked-watch : (adjust : Bool) → threshold (takes (freshThresholder plusZero adjust) (inTurn 5)) ≡ fin false 3 (pos 0)
-unfolding threshold thresholdBy primaryCounted countedOver countedGap narrow sqrt isqrt counted countable next oneMore Statistics.factor Statistics.mean deviation isEmpty positiveRoot ofBits round add sub mul div lt le eq ofInt
+unfolding threshold thresholdBy primaryCounted countedOver countedGap narrow sqrt isqrt Statistics.update countable next oneMore Statistics.factor Statistics.mean deviation isEmpty positiveRoot ofBits round add sub mul div lt le eq ofInt
 worked-watch adjust = refl

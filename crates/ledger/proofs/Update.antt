@@ -7,7 +7,7 @@ use native.Mathlib.Omega.{arith}
 use lib.Dec.{T, lit≤}
 use lib.Arith.{le-zero}
 use lib.Pow.{pow-add}
-use lib.Ieee.{Float, binary64, mul, ofBits}
+use lib.Ieee.{Float, binary64, add, mul, ofBits}
 use lib.Ieee.Positive.{num as numOf, den as denOf, den-pos}
 use lib.IntN.{ℤ, pos, _+ℤ_}
 use native.Mathlib.Numerals.{add-one}
@@ -68,14 +68,14 @@ small-steps k n h l = le-trans (x k n h l) (lit≤ tt)
     x k n h l = omega arith
 
 pub moved-about : (n e : ℕ) (S f x : Float) (s r v : Fraction) → n ≤ 65536 → e ≤ 60 → About (6 * n) S s → Held n e s → About 4 f r → 0 < r .den → Range 53 0 r → About 1 x v → 0 < v .den → Range e e v
-    → About (6 * suc n) (Statistics.moved S f x) (moved r s v) × Held (suc n) e (moved r s v)
+    → About (6 * suc n) (add binary64 (mul binary64 S f) x) (moved r s v) × Held (suc n) e (moved r s v)
 moved-about n e S f x s r v N E a h b R q c D t =
     let k = 6 * n in
     let small : 2 * suc (k + 4) ≤ P53 = small-steps k n (le-refl k) N in
     let m = mul-about k 4 S f s r (le-trans (x2 (k + 4)) small) (h .apart) R a b (times-fine n e s r (le-trans N (lit≤ tt)) E h q) in
     let g = held-step n e s r v h R q D t in
     let p = add-about (suc (k + 4)) (mul binary64 S f) x (times s r) v small (mul-pos (h .apart) R) D m (about-weaken 1 (suc (k + 4)) x v (omega arith) c) (plus-fine (suc n) e (moved r s v) (omega arith) E g) in
-    (about-weaken (suc (suc (k + 4))) (6 * suc n) (Statistics.moved S f x) (moved r s v) (omega arith) p, g)
+    (about-weaken (suc (suc (k + 4))) (6 * suc n) (add binary64 (mul binary64 S f) x) (moved r s v) (omega arith) p, g)
   where
     x2 : (k : ℕ) → 2 * k ≤ 2 * suc k
     x2 k = omega arith

@@ -12,6 +12,7 @@ use lib.Dec.{T, leb, ltb, eqb, lit≤, leb→le, nleb→lt, eqb→eq, le→leb, 
 use lib.Ieee.{Float, nan, inf, fin, up, down, eq, lt, le, ne, ofBits}
 use lib.Ieee.Positive.{num as numOf, den as denOf, den-pos, positive, le→cross}
 use Rattle.deviation.specs.declared.Deviation.{Deviation}
+use Rattle.deviation.specs.Const.{countLimit}
 use Rattle.deviation.specs.Statistics as Statistics
 use Rattle.basicthresholder.specs.Const.{zero32, sixteen32}
 use Rattle.basicthresholder.specs.declared.BasicThresholder.{BasicThresholder}
@@ -108,13 +109,17 @@ larger-is M x hM hx m r = go (leb (M .num * x .den) (x .num * M .den)) (leb→le
     go false h k = record { M-le = le-refl (M .num * M .den); x-le = le-of-lt (k tt); den = hM; range = some m (k tt) }
 
 -- ---- counts up to 65,536
+countable-is : (n : ℕ) (c : ℤ) → n ≤ 65536 → c ≡ pos n → Statistics.countable c ≡ true
+unfolding Statistics.countable
+countable-is n c l e = ap Statistics.countable e ∙ true-of (leb n countLimit) (le→leb n countLimit (le-trans l (lit≤ tt)))
+
 counted-is : (n : ℕ) (s : Deviation) (x : Float) → n ≤ 65536 → s .count ≡ pos n → Statistics.counted s x ≡ Statistics.next s x
-unfolding Statistics.counted Statistics.countable
-counted-is n s x l e = rw (e, true-of (leb n 16777215) (le→leb n 16777215 (le-trans l (lit≤ tt)))) refl
+unfolding Statistics.update
+counted-is n s x l e = rw (Statistics.counted, countable-is n (s .count) l e) refl
 
 more-is : (n : ℕ) (c : ℤ) → n ≤ 65536 → c ≡ pos n → Statistics.oneMore c ≡ pos (suc n)
-unfolding Statistics.oneMore Statistics.countable
-more-is n c l e = rw (e, true-of (leb n 16777215) (le→leb n 16777215 (le-trans l (lit≤ tt)))) (ap pos (add-one n))
+unfolding Statistics.oneMore
+more-is n c l e = rw (countable-is n c l e, e) (ap pos (add-one n))
 
 -- both counts are n, and n is ten or more: ready, whatever the horizon
 ready : (n : ℕ) (t : BasicThresholder) → 10 ≤ n → t .count ≡ pos n → t .«primary_deviation» .count ≡ pos n → isDeviationReady t ≡ true

@@ -11,10 +11,13 @@ use lib.ListN.{length, getD, set, drop}
 use borrow.Author.Tests.{leb-true}
 use lib.Seq.{drop-cons}
 use lib.Ieee.{Float}
+use Rattle.deviation.specs.Const.{countLimit}
 use Rattle.deviation.specs.Statistics.{countable}
 use Rattle.deviation.specs.declared.Deviation.{Deviation}
+use Rattle.basicthresholder.specs.Updates.{countsOk}
 use Rattle.predictorcorrector.specs.Lists.{stepped, changed, firstCountable}
-use Rattle.predictorcorrector.specs.State.{existing}
+use Rattle.predictorcorrector.specs.State.{existing, stateCountsOk}
+use Rattle.predictorcorrector.specs.declared.PredictorCorrector.{PredictorCorrector}
 
 module _ {A : Type 0} (f : A → Float → A) where
   pub stepped-length : (n : ℕ) (ds : List A) (xs : List Float) → length (stepped f n ds xs) ≡ length ds
@@ -82,6 +85,11 @@ existing-most false base h = zero-le
 pub both : (a b : Bool) → (a && b) ≡ true → (a ≡ true) × (b ≡ true)
 both true b e = (refl, e)
 both false b e = absurd (true≢false (sym e))
+
+-- The thresholder's part of refusal 6's test.
+pub thresholder-ok : (s : PredictorCorrector) → stateCountsOk s ≡ true → countsOk (s .«basic_thresholder») ≡ true
+unfolding stateCountsOk
+thresholder-ok s e = both (countsOk (s .«basic_thresholder»)) _ (both (leb (s .«run_length») countLimit) _ e .1) .0
 
 pub base-most : (n : ℕ) → (leb 1 n && leb n 16) ≡ true → n ≤ 16
 base-most n e = leb-true n 16 (both (leb 1 n) (leb n 16) e .1)

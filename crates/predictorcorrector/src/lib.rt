@@ -35,14 +35,6 @@ pub struct Updated {
 // The longest run that refusal 6 lets pass.
 const RUN_LIMIT: u32 = 16777215;
 
-// The statistic that `update` hands back.
-fn counted(d: Deviation, x: f32) -> Deviation
-    ensures { λ r. ⌜ r ≡ Statistics.counted d x ⌝ }
-{
-    let after = d.update(std::num::f32_to_f64_with_nan(x));
-    after.deviation
-}
-
 fn count_row(list: [Deviation; 16], row: &[f32], n: usize) -> [Deviation; 16]
     requires { ⌜ n ≤ 16 ⌝ ∗ ⌜ n ≤ length (now row) ⌝ }
     ensures { λ r. ⌜ r ≡ Lists.stepped Statistics.counted n list (now (row .entry)) ⌝ }
@@ -50,7 +42,8 @@ fn count_row(list: [Deviation; 16], row: &[f32], n: usize) -> [Deviation; 16]
     let mut out = list;
     let mut i = 0usize;
     while i < n {
-        out[i] = counted(out[i], row[i]);
+        let d = out[i];
+        out[i] = d.counted(std::num::f32_to_f64_with_nan(row[i]));
         i += 1;
     }
     out

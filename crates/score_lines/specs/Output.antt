@@ -12,7 +12,7 @@ use lib.Ieee.Scale.{finite}
 use Rattle.io.specs.Digits.{glyph, digits}
 use Rattle.basicthresholder.specs.Const.{zero32}
 use Rattle.basicthresholder.specs.Grades.{graded, primaryThresholdAndGrade}
-use Rattle.basicthresholder.specs.Updates.{freshThresholder, withZFactor, primaryCounted}
+use Rattle.basicthresholder.specs.Updates.{freshThresholder, withZFactor, updatePrimary}
 use Rattle.basicthresholder.specs.declared.BasicThresholder.{BasicThresholder}
 use Rattle.basicthresholder.specs.declared.Graded.{Graded}
 use Rattle.score_lines.specs.declared.Line.{Line}
@@ -63,7 +63,7 @@ shown s x = cond (Ieee.eq x zero32) (graded zero32 zero32) (primaryThresholdAndG
 
 -- The statistics with the score; a zero score is not counted.
 unfoldable pub counted : BasicThresholder → Float → BasicThresholder
-counted s x = cond (Ieee.eq x zero32) s (primaryCounted s x)
+counted s x = cond (Ieee.eq x zero32) s (updatePrimary s x .thresholder)
 
 unfoldable pub isQuiet : Float → Bool
 isQuiet grade = Ieee.eq grade zero32

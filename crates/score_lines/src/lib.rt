@@ -127,7 +127,8 @@ fn counted(thresholder: BasicThresholder, x: f32) -> BasicThresholder
     if x == 0.0 {
         return thresholder;
     }
-    thresholder.primary_counted(ieee::widen(x))
+    let after = thresholder.update_primary(ieee::widen(x));
+    after.thresholder
 }
 
 // The run after a sound line of that grade.
@@ -336,7 +337,7 @@ fn close(run: Run, out: &mut [u8]) -> Fed
 pub fn begin() -> Run
     ensures { λ r. ⌜ r ≡ Feeding.begin ⌝ }
 {
-    let thresholder = BasicThresholder::fresh(0.0, false).set_z_factor(Z_FACTOR);
+    let thresholder = BasicThresholder::default().set_z_factor(Z_FACTOR);
     Run {
         thresholder,
         quiet: 0,

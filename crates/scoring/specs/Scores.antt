@@ -16,7 +16,8 @@ use Rattle.divector.specs.declared.Block.{Block}
 use Rattle.divector.specs.declared.Block.the-variants as Blocks
 use Rattle.descriptor.specs.declared.Reading.{Reading}
 use Rattle.descriptor.specs.declared.LastDescriptor.{LastDescriptor}
-use Rattle.predictorcorrector.specs.State.{withThresholder, scoreCounted}
+use Rattle.predictorcorrector.specs.State as State
+use Rattle.predictorcorrector.specs.State.{withThresholder}
 use Rattle.predictorcorrector.specs.declared.PredictorCorrector.{PredictorCorrector}
 
 -- Readings since the last anomaly; without one, since the start.
@@ -45,7 +46,7 @@ correctedScore r l =
 
 -- `update_score` of a reading: the thresholder with its scores counted.
 unfoldable pub updateScore : BasicThresholder → Reading → LastDescriptor → Float → BasicThresholder
-updateScore t r l corrected = scoreCounted t (r .«scoring_strategy») (r .score) corrected (l .«scoring_strategy») (l .score)
+updateScore t r l corrected = State.updateScore t (r .«scoring_strategy») (r .score) corrected (l .«scoring_strategy») (l .score)
 
 -- Every accepted reading but one of score 0 enters the statistics, once.
 unfoldable pub entered : PredictorCorrector → Reading → LastDescriptor → Float → PredictorCorrector

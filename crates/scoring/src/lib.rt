@@ -101,7 +101,7 @@ pub fn update_score(
 {
     let strategy = r.scoring_strategy;
     let last_strategy = l.scoring_strategy;
-    predictorcorrector::score_counted(t, strategy, r.score, corrected, last_strategy, l.score)
+    predictorcorrector::update_score(t, strategy, r.score, corrected, last_strategy, l.score)
 }
 
 // The state after a quiet reading: the run ends, and the score enters.

@@ -8,14 +8,14 @@ use Rattle.c_chain.proofs.krcf_chain_set_horizon.Tie as tie
 chain-refusal-requires : tie.Need-chain-refusal-requires
 chain-refusal-requires c κs = search needs
 
-horizon-number-requires : tie.Need-horizon-number-requires
-horizon-number-requires c κs = search needs
-
 read-state-requires : tie.Need-read-state-requires
 read-state-requires c κs = search needs
 
-horizon-set-requires : tie.Need-horizon-set-requires
-horizon-set-requires c κs = search needs
+with-horizon-requires : tie.Need-with-horizon-requires
+with-horizon-requires c κs = search needs
+
+number-requires : tie.Need-number-requires
+number-requires c κs = search needs
 
 write-state-requires : tie.Need-write-state-requires
 write-state-requires c κs = search needs
@@ -24,28 +24,28 @@ same-length : tie.Need-same-length
 same-length c = search needs
 
 returns : tie.Need-returns
-returns c = horizon-set (now (c .before .before .before .before .before .before .before .before .before .before .before .before .before .args .state)) _ (c .before .before .before .before .before .before .before .before .before .before .chain-refusal .ensures) (c .before .before .before .before .before .before .before .before .before .if1 .taken) _ (c .before .before .before .before .before .read-state .ensures) (c .before .before .before .before .before .before .before .before .before .before .before .before .before .args .horizon) _ _ _ (c .before .before .before .before .before .before .before .before .horizon-number .ensures) (c .before .before .before .before .before .before .before .if2 .taken) (c .before .before .before .horizon-set .ensures) (c .before .before .write-state .ensures)
+returns c = horizon-set (now (@args .state)) _ (@chain-refusal .ensures) (@if1 .taken) _ (@read-state .ensures) (@args .horizon) _ _ (@with-horizon .ensures) (@number .ensures) _ (@if2 .taken) (@write-state .ensures)
 
 same-length-2 : tie.Need-same-length-2
 same-length-2 c = search needs
 
 returns-2 : tie.Need-returns-2
-returns-2 c = horizon-refused (now (c .before .before .before .before .before .before .args .state)) _ (c .before .before .before .chain-refusal .ensures) (c .before .before .if1 .taken) (c .before .before .before .before .before .before .args .horizon) _ (c .before .horizon-number .ensures) (ne-eqb _ _ (c .if2 .left))
+returns-2 c = horizon-refused (now (@args .state)) _ (@chain-refusal .ensures) (@if1 .taken) _ (@read-state .ensures) (@args .horizon) _ _ (@with-horizon .ensures) (@number .ensures) (ne-eqb _ _ (@if2 .left))
 
 same-length-3 : tie.Need-same-length-3
 same-length-3 c = search needs
 
 returns-3 : tie.Need-returns-3
-returns-3 c = horizon-kept (now (c .before .before .before .before .args .state)) _ (c .before .chain-refusal .ensures) (ne-eqb _ _ (c .if1 .left)) (c .before .before .before .before .args .horizon)
+returns-3 c = horizon-kept (now (@args .state)) _ (@chain-refusal .ensures) (ne-eqb _ _ (@if1 .left)) (@args .horizon)
 
 pub krcf-chain-set-horizon-spec : {M : Type 1} → statement M
 krcf-chain-set-horizon-spec =
     tie.close
     (tie.spec
     chain-refusal-requires
-    horizon-number-requires
     read-state-requires
-    horizon-set-requires
+    with-horizon-requires
+    number-requires
     write-state-requires
     same-length
     returns

@@ -22,17 +22,21 @@ loop-holds : tie.Need-loop-holds Inv-loop μ-loop
 unfolding stepped
 loop-holds c = (search needs, c .before .pre .0, c .before .pre .1, refl)
 
-mul-counted : tie.Need-mul-counted Inv-loop μ-loop
-mul-counted c = search needs
+mul-d : tie.Need-mul-d Inv-loop μ-loop
+mul-d c = search needs
 
-array-copy-out-counted : tie.Need-array-copy-out-counted Inv-loop μ-loop
-array-copy-out-counted c = search needs
+array-copy-out-d : tie.Need-array-copy-out-d Inv-loop μ-loop
+array-copy-out-d c = search needs
 
-mul-counted-2 : tie.Need-mul-counted-2 Inv-loop μ-loop
-mul-counted-2 c = search needs
+mul-f32-to-f64-with-nan : tie.Need-mul-f32-to-f64-with-nan Inv-loop μ-loop
+mul-f32-to-f64-with-nan c = search needs
 
-shared-slice-read-counted : tie.Need-shared-slice-read-counted Inv-loop μ-loop
-shared-slice-read-counted c = search needs
+shared-slice-read-f32-to-f64-with-nan :
+    tie.Need-shared-slice-read-f32-to-f64-with-nan Inv-loop μ-loop
+shared-slice-read-f32-to-f64-with-nan c = search needs
+
+f32-to-f64-with-nan-requires : tie.Need-f32-to-f64-with-nan-requires Inv-loop μ-loop
+f32-to-f64-with-nan-requires c κs = search needs
 
 counted-requires : tie.Need-counted-requires Inv-loop μ-loop
 counted-requires c κs = search needs
@@ -51,12 +55,12 @@ loop-less c = search needs
 
 loop-again : tie.Need-loop-again Inv-loop μ-loop
 loop-again c =
-    let i = c .before .before .before .before .loop .i in
-    let long : length (c .before .before .before .before .before .before .args .list) ≡ 16 = search needs in (
+    let i = c .before .before .before .before .before .loop .i in
+    let long : length (c .before .before .before .before .before .before .before .args .list) ≡ 16 = search needs in (
       omega arith,
-      c .before .before .before .before .loop .inv .1,
-      c .before .before .before .before .loop .inv .2,
-      stepped-more counted i (c .before .before .before .before .before .before .args .list) (c .before .before .before .before .loop .out) (now (c .before .before .before .before .before .before .args .row)) _ _ _ nan (c .before .before .before .before .loop .inv .3) refl (c .counted .ensures) (omega arith) (omega arith),
+      c .before .before .before .before .before .loop .inv .1,
+      c .before .before .before .before .before .loop .inv .2,
+      stepped-more counted i (c .before .before .before .before .before .before .before .args .list) (c .before .before .before .before .before .loop .out) (now (c .before .before .before .before .before .before .before .args .row)) _ _ _ nan (c .before .before .before .before .before .loop .inv .3) (c .before .f32-to-f64-with-nan .ensures) (c .counted .ensures) (omega arith) (omega arith),
     )
 
 returns : tie.Need-returns Inv-loop μ-loop
@@ -69,10 +73,11 @@ count-row-spec =
     Inv-loop
     μ-loop
     loop-holds
-    mul-counted
-    array-copy-out-counted
-    mul-counted-2
-    shared-slice-read-counted
+    mul-d
+    array-copy-out-d
+    mul-f32-to-f64-with-nan
+    shared-slice-read-f32-to-f64-with-nan
+    f32-to-f64-with-nan-requires
     counted-requires
     mul-out
     array-set-from-out

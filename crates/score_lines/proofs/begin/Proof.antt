@@ -4,15 +4,15 @@ use Rattle.score_lines.specs.Feeding.{begin}
 use Rattle.score_lines.proofs.begin.Statement.{statement}
 use Rattle.score_lines.proofs.begin.Tie as tie
 
-fresh-requires : tie.Need-fresh-requires
-fresh-requires c κs = search needs
+default-requires : tie.Need-default-requires
+default-requires c κs = search needs
 
 set-z-factor-requires : tie.Need-set-z-factor-requires
 set-z-factor-requires c κs = search needs
 
 returns : tie.Need-returns
 unfolding begin settings three32
-returns c = simp (c .set-z-factor .ensures, c .before .fresh .ensures)
+returns c = simp (c .set-z-factor .ensures, c .before .default .ensures)
 
 pub begin-spec : {M : Type 1} → statement M
-begin-spec = tie.close (tie.spec fresh-requires set-z-factor-requires returns)
+begin-spec = tie.close (tie.spec default-requires set-z-factor-requires returns)

@@ -1,5 +1,7 @@
-use borrow.Author.Needs.{needs}
+use mathlib.Core.Path.{ap}
+use Rattle.basicthresholder.specs.declared.Updated.{Updated}
 use Rattle.score_lines.specs.Output.{counted}
+use borrow.Author.Needs.{needs}
 use Rattle.score_lines.proofs.counted.Statement.{statement}
 use Rattle.score_lines.proofs.counted.Tie as tie
 
@@ -10,12 +12,12 @@ returns c = simp (c .if1 .taken)
 widen-requires : tie.Need-widen-requires
 widen-requires c κs = search needs
 
-primary-counted-requires : tie.Need-primary-counted-requires
-primary-counted-requires c κs = search needs
+update-primary-requires : tie.Need-update-primary-requires
+update-primary-requires c κs = search needs
 
 returns-2 : tie.Need-returns-2
 unfolding counted
-returns-2 c = simp (c .before .before .if1 .left, c .primary-counted .ensures, c .before .widen .ensures)
+returns-2 c = simp (c .before .before .before .if1 .left, ap (λ (u : Updated). u .thresholder) (c .before .update-primary .ensures), c .before .before .widen .ensures)
 
 pub counted-spec : {M : Type 1} → statement M
-counted-spec = tie.close (tie.spec returns widen-requires primary-counted-requires returns-2)
+counted-spec = tie.close (tie.spec returns widen-requires update-primary-requires returns-2)

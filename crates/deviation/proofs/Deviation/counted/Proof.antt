@@ -1,8 +1,8 @@
 use mathlib.Core.Path.{ap}
 use Rattle.deviation.specs.declared.Updated.{Updated}
 use borrow.Author.Needs.{needs}
-use Rattle.basicthresholder.proofs.counted.Statement.{statement}
-use Rattle.basicthresholder.proofs.counted.Tie as tie
+use Rattle.deviation.proofs.Deviation.counted.Statement.{statement}
+use Rattle.deviation.proofs.Deviation.counted.Tie as tie
 
 update-requires : tie.Need-update-requires
 update-requires c κs = search needs
