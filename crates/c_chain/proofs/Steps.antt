@@ -10,7 +10,7 @@ use lib.Ieee.{Float}
 use Rattle.types.specs.Refusals.{number, answered}
 use Rattle.types.specs.declared.Refusal.{Refusal}
 use Rattle.types.specs.declared.Answer.{Answer}
-use Rattle.divector.specs.DiVector.{Updated}
+use Rattle.divector.specs.DiVector.{Updated as PairUpdated}
 use Rattle.divector.specs.declared.Number.{Number}
 use Rattle.divector.specs.declared.Number.the-variants as Numbers
 use Rattle.divector.specs.declared.Block.{Block}
@@ -35,7 +35,7 @@ module _ (n : ℕ) (xs ys : List ℕ) where
   put-refused h = simp h
 
 -- ---- vectors.
-pub pair-changed : (fits : Bool) (n : ℕ) (a : Answer) (h w hs ls hs′ ls′ : List Float) → n ≡ answered a → Updated fits hs ls hs′ ls′ a h w
+pub pair-changed : (fits : Bool) (n : ℕ) (a : Answer) (h w hs ls hs′ ls′ : List Float) → n ≡ answered a → PairUpdated fits hs ls hs′ ls′ a h w
     → pair n h w ≡ pairChanged fits hs ls hs′ ls′
 unfolding pairChanged
 pair-changed true n a h w hs ls hs′ ls′ e u = λ i. record { answer = (e ∙ ap answered (u .answer)) i; highs = u .highs i; lows = u .lows i }

@@ -24,19 +24,19 @@ same-length : tie.Need-same-length
 same-length c = search needs
 
 returns : tie.Need-returns
-returns c = horizon-set (now (@args .state)) _ (@chain-refusal .ensures) (@if1 .taken) _ (@read-state .ensures) (@args .horizon) _ _ (@with-horizon .ensures) (@number .ensures) _ (@if2 .taken) (@write-state .ensures)
+returns c = horizon-set (now (c .before .before .before .before .before .before .before .before .before .before .before .before .before .args .state)) _ (c .before .before .before .before .before .before .before .before .before .before .chain-refusal .ensures) (c .before .before .before .before .before .before .before .before .before .if1 .taken) _ (c .before .before .before .before .before .before .before .read-state .ensures) (c .before .before .before .before .before .before .before .before .before .before .before .before .before .args .horizon) _ _ (c .before .before .before .before .before .before .with-horizon .ensures) (c .before .before .before .before .before .number .ensures) _ (c .before .before .before .before .if2 .taken) (c .before .before .write-state .ensures)
 
 same-length-2 : tie.Need-same-length-2
 same-length-2 c = search needs
 
 returns-2 : tie.Need-returns-2
-returns-2 c = horizon-refused (now (@args .state)) _ (@chain-refusal .ensures) (@if1 .taken) _ (@read-state .ensures) (@args .horizon) _ _ (@with-horizon .ensures) (@number .ensures) (ne-eqb _ _ (@if2 .left))
+returns-2 c = horizon-refused (now (c .before .before .before .before .before .before .before .before .before .args .state)) _ (c .before .before .before .before .before .before .chain-refusal .ensures) (c .before .before .before .before .before .if1 .taken) _ (c .before .before .before .read-state .ensures) (c .before .before .before .before .before .before .before .before .before .args .horizon) _ _ (c .before .before .with-horizon .ensures) (c .before .number .ensures) (ne-eqb _ _ (c .if2 .left))
 
 same-length-3 : tie.Need-same-length-3
 same-length-3 c = search needs
 
 returns-3 : tie.Need-returns-3
-returns-3 c = horizon-kept (now (@args .state)) _ (@chain-refusal .ensures) (ne-eqb _ _ (@if1 .left)) (@args .horizon)
+returns-3 c = horizon-kept (now (c .before .before .before .before .args .state)) _ (c .before .chain-refusal .ensures) (ne-eqb _ _ (c .if1 .left)) (c .before .before .before .before .args .horizon)
 
 pub krcf-chain-set-horizon-spec : {M : Type 1} → statement M
 krcf-chain-set-horizon-spec =

@@ -11,13 +11,13 @@ returns : tie.Need-returns
 unfolding readThresholder
 returns c = simp (eq-eqb _ _ (c .before .if1 .taken), c .thresholder-of .ensures)
 
-fresh-requires : tie.Need-fresh-requires
-fresh-requires c κs = search needs
+default-requires : tie.Need-default-requires
+default-requires c κs = search needs
 
 returns-2 : tie.Need-returns-2
 unfolding readThresholder
-returns-2 c = simp (ne-eqb _ _ (c .before .if1 .left), c .fresh .ensures)
+returns-2 c = simp (ne-eqb _ _ (c .before .if1 .left), c .default .ensures)
 
 pub read-thresholder-spec : {M : Type 1} → statement M
 read-thresholder-spec =
-    tie.close (tie.spec thresholder-of-requires returns fresh-requires returns-2)
+    tie.close (tie.spec thresholder-of-requires returns default-requires returns-2)
