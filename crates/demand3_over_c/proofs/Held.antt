@@ -18,8 +18,6 @@ use Rattle.types.specs.Codes.{isHeight}
 use Rattle.types.specs.declared.Refusal.the-variants as Refusals
 use Rattle.types.specs.declared.Answer.the-variants as Answers
 use Rattle.types.specs.declared.ScoringStrategy.{ScoringStrategy}
-use Rattle.types.specs.declared.CorrectionMode.{CorrectionMode}
-use Rattle.types.specs.declared.CorrectionMode.the-variants as Modes
 use Rattle.deviation.specs.Const.{zero64, one64}
 use Rattle.deviation.specs.Statistics as Statistics
 use Rattle.deviation.specs.Statistics.{fresh, reset, mean, counted, next, countable, oneMore}
@@ -33,7 +31,8 @@ use Rattle.predictorcorrector.specs.declared.PredictorCorrector.{PredictorCorre
 use Rattle.descriptor.specs.Lent.{Lent}
 use Rattle.descriptor.specs.declared.Reading.{Reading}
 use Rattle.descriptor.specs.declared.LastDescriptor.{LastDescriptor}
-use Rattle.detection.specs.Judging.{entered, candidateWith, candidateState, runAfterMode, correctedScore, after}
+use Rattle.detection.specs.Judging as Exits
+use Rattle.detection.specs.Judging.{entered, candidateWith, candidateState, isDriftMode, correctedScore, after}
 use Rattle.detection.specs.declared.Verdict.{Verdict}
 use Rattle.detection.specs.declared.Verdict.the-variants.{Quiet, Corrected, Raised, Skipped}
 use Rattle.layout.specs.Chain.{entries}
@@ -322,27 +321,21 @@ grown-fits s f = with-run s _ _ _ f (longer-small (s .«run_length») (f .run)) 
 
 module _ (r : Reading) (l : LastDescriptor) (b : Lent) (h : T (fits binary32 (r .score))) where
   entered-fits : (s : PredictorCorrector) (x : Float) → StateFits s → StateFits (entered s r l x)
-  unfolding entered
+  unfolding entered Exits.updateScore
   entered-fits s x f = with-thresholder s _ f (score-fits (s .«basic_thresholder») (r .«scoring_strategy») (r .score) x (l .«scoring_strategy») (l .score) h (f .thresholder))
 
   branch-fits : (s : PredictorCorrector) (x : Float) → StateFits s → StateFits (candidateState r l b s x)
   unfolding candidateState
   branch-fits s x f = with-fits _ s _ _ f
 
-  mode-fits : (s : PredictorCorrector) (x : Float) (m : CorrectionMode) → StateFits s → StateFits (runAfterMode r l b s x m)
-  unfolding runAfterMode
-  mode-fits s x Modes.NONE f = adjusted-fits s (b .point) f
-  mode-fits s x Modes.NOISE f = adjusted-fits s (b .point) f
-  mode-fits s x Modes.«MULTI_MODE» f = adjusted-fits s (b .point) f
-  mode-fits s x Modes.«ANOMALY_IN_SHINGLE» f = adjusted-fits s (b .point) f
-  mode-fits s x Modes.«CONDITIONAL_FORECAST» f = adjusted-fits s (b .point) f
-  mode-fits s x Modes.FORECAST f = adjusted-fits s (b .point) f
-  mode-fits s x Modes.«DATA_DRIFT» f = branch-fits s x f
+  mode-fits : (s : PredictorCorrector) (x : Float) (drift : Bool) → StateFits s → StateFits (cond drift (candidateState r l b s x) (autoAdjusted s (b .point)))
+  mode-fits s x true f = branch-fits s x f
+  mode-fits s x false f = adjusted-fits s (b .point) f
 
   -- The state after any verdict.
   pub after-fits : (s : PredictorCorrector) (v : Verdict) → StateFits s → StateFits (after r l b s v)
   unfolding after
   after-fits s (Quiet t) f = entered-fits (runEnded s) _ (ended-fits s f)
-  after-fits s (Corrected t m) f = entered-fits (runAfterMode r l b s t m) _ (mode-fits s t m f)
+  after-fits s (Corrected t m) f = entered-fits (cond (isDriftMode m) (candidateState r l b s t) (autoAdjusted s (b .point))) _ (mode-fits s t (isDriftMode m) f)
   after-fits s (Raised t g) f = entered-fits (runGrown (candidateState r l b s t)) _ (grown-fits (candidateState r l b s t) (branch-fits s t f))
   after-fits s Skipped f = f

@@ -28,7 +28,7 @@ use Rattle.predictorcorrector.specs.State as State
 use Rattle.predictorcorrector.specs.State.{new, freshState, freshList, stateCountsOk, runEnded}
 use Rattle.predictorcorrector.specs.Lists.{listCountable, firstCountable, changed}
 use Rattle.predictorcorrector.specs.declared.PredictorCorrector.{PredictorCorrector}
-use Rattle.detection.specs.Judging.{verdict, opening, after, entered}
+use Rattle.detection.specs.Judging.{verdict, decided, opening, after, entered, updateScore}
 use Rattle.detection.specs.Judged.{outcomeNumber, stateAfter}
 use Rattle.detection.specs.declared.Verdict.{Verdict}
 use Rattle.detection.specs.declared.Verdict.the-variants.{Quiet, Corrected, Raised, Skipped}
@@ -129,7 +129,7 @@ unfolding answerOf rangeOk sizesOk lengthsOk dimension pointsOk rowsOk neighbour
     stateCountsOk countsOk countable listCountable firstCountable new freshState freshList
     lt le eq ne ofBits round add sub mul div ofInt
     readReading decodeReading readLast decodeLast decodeAnomaly f32At i32At signed le4 flagAt strategyFrom methodFrom
-    verdict opening after entered runEnded State.updateScore
+    verdict decided opening after entered updateScore runEnded State.updateScore
     updatePrimary updated primaryCounted countedOver countedGap Statistics.update next oneMore Statistics.factor Statistics.mean Statistics.deviation Statistics.isEmpty Statistics.positiveRoot narrow
     primaryThresholdAndGrade threshold thresholdBy primaryGrade gradeOver isDeviationReady countsReady minf32
 eleven-done = (refl, (refl, (refl, (refl, (refl, (refl, (refl, (refl, (refl, (refl, (refl, tt)))))))))))
