@@ -70,6 +70,7 @@ pub fn said(verdict: &[u8; VERDICT]) -> Said {
 mod tests {
     use super::*;
     use crate::reading::LastAnomaly;
+    use crate::state::{STATE_BYTES, THRESHOLDER_BYTES};
     use crate::types::{ScoringStrategy, TransformMethod};
 
     #[test]
@@ -115,6 +116,22 @@ mod tests {
         assert_eq!(made[..9], start);
         assert_eq!(made[9..14], [1, 0xfe, 0xff, 0xff, 0xff]);
         assert_eq!(made[14..], [4, 3, 2, 1, 1, 0, 0, 0, 0xc0]);
+    }
+
+    /// The header for C names the same lengths.
+    #[test]
+    fn lengths_in_the_header() {
+        let header = include_str!("../include/withdrawal_watch.h");
+        for (name, length) in [
+            ("THRESHOLDER", THRESHOLDER_BYTES),
+            ("STATE", STATE_BYTES),
+            ("READING", READING),
+            ("LAST", LAST),
+            ("VERDICT", VERDICT),
+        ] {
+            let line = format!("\n#define KRCF_{name}_BYTES {length}\n");
+            assert!(header.contains(&line), "{line}");
+        }
     }
 
     #[test]
