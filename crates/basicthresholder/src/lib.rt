@@ -117,6 +117,22 @@ fn counted_over(third: Deviation, primary: Deviation, score: f32) -> Deviation
     counted_gap(third, score - narrow(primary.mean()))
 }
 
+// An update's answer by the counts before it: refusal 6 hands the state back as it came.
+fn by_counts(before: BasicThresholder, after: BasicThresholder) -> Updated
+    ensures { λ r. ⌜ r ≡ Updates.updated before after ⌝ }
+{
+    if before.counts_ok() {
+        return Updated {
+            answer: Answer::Done,
+            thresholder: after,
+        };
+    }
+    Updated {
+        answer: Answer::Refused(Refusal::Count),
+        thresholder: before,
+    }
+}
+
 impl BasicThresholder {
     pub fn new_adjustible(discount: f64, adjust: bool) -> Made
         ensures { λ r. ⌜ r ≡ Updates.newAdjustible discount adjust ⌝ }
@@ -350,38 +366,22 @@ impl BasicThresholder {
                 & (deviation::countable(secondary.count) & deviation::countable(third.count)))
     }
 
-    // Refusal 6 hands the state back as it came.
-    fn updated(self, after: BasicThresholder) -> Updated
-        ensures { λ r. ⌜ r ≡ Updates.updated self after ⌝ }
-    {
-        if self.counts_ok() {
-            return Updated {
-                answer: Answer::Done,
-                thresholder: after,
-            };
-        }
-        Updated {
-            answer: Answer::Refused(Refusal::Count),
-            thresholder: self,
-        }
-    }
-
     pub fn update_threshold(self, score: f32) -> Updated
         ensures { λ r. ⌜ r ≡ Updates.updateThreshold self score ⌝ }
     {
-        self.updated(self.threshold_counted(score))
+        by_counts(self, self.threshold_counted(score))
     }
 
     pub fn update_primary(self, score: f64) -> Updated
         ensures { λ r. ⌜ r ≡ Updates.updatePrimary self score ⌝ }
     {
-        self.updated(self.primary_counted(score))
+        by_counts(self, self.primary_counted(score))
     }
 
     pub fn update_both(self, primary: f32, secondary: f32) -> Updated
         ensures { λ r. ⌜ r ≡ Updates.updateBoth self primary secondary ⌝ }
     {
-        self.updated(self.both_counted(primary, secondary))
+        by_counts(self, self.both_counted(primary, secondary))
     }
 
     // The primary is capped at 2.

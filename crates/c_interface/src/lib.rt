@@ -1,5 +1,5 @@
 // The library's functions for a host that calls over C: numbers, and byte slices (a pointer, then a length). A state is its bytes, as the crate layout has them.
-// A call that can refuse answers document 01's number, 0 where it is done, and then has written nothing.
+// A call that can refuse answers document 01's number, or 0 where it is done; a refused call has written nothing.
 use basicthresholder::BasicThresholder;
 use basicthresholder::Graded;
 use deviation::Deviation;
@@ -16,11 +16,13 @@ ghost use Rattle.util.specs.Util as Util;
 ghost use Rattle.types.specs.Codes.{methodOf};
 ghost use Rattle.deviation.specs.Statistics as Statistics;
 ghost use Rattle.basicthresholder.specs.Grades as Grades;
+ghost use Rattle.basicthresholder.specs.Grades.{thresholdAndGradeWithFactor};
 ghost use Rattle.basicthresholder.specs.Updates as Updates;
 ghost use Rattle.layout.specs.Numbers.{f32Bytes, f64Bytes, flagBytes};
 ghost use Rattle.layout.specs.States.{encodeDeviation, encodeThresholder, encodeGraded};
 ghost use Rattle.layout.specs.Left.{left, putInto};
-ghost use Rattle.c_interface.specs.Calls.{deviationMade, deviationStored, deviationChanged, deviationDone, deviationRead, stateRefusal, thresholderMade, thresholderStored, thresholderChanged, thresholderDone, thresholderRead, gradedBy};
+ghost use Rattle.c_interface.specs.Calls.{deviationMade, deviationStored, deviationChanged, deviationDone, deviationRead};
+ghost use Rattle.c_interface.specs.Calls.{stateRefusal, thresholderMade, thresholderStored, thresholderChanged, thresholderDone, thresholderRead, gradedBy};
 ghost use Rattle.c_interface.specs.Steps.{unless, lengthRefusal, firstOf, flagRefusal};
 
 // Document 01's refusals of a yes/no byte or a code, and of a length.
@@ -400,7 +402,7 @@ pub extern "C" fn krcf_threshold_and_grade_with_factor(
     shingle_size: usize,
     out: &mut [u8],
 ) -> u8
-    ensures { λ r. ⌜ left r (now (out .exit)) ≡ gradedBy (λ s m. Grades.thresholdAndGradeWithFactor s score factor m «shingle_size») (methodOf method) (now (state .entry)) (now (out .entry)) ⌝ }
+    ensures { λ r. ⌜ left r (now (out .exit)) ≡ gradedBy (λ s m. thresholdAndGradeWithFactor s score factor m «shingle_size») (methodOf method) (now (state .entry)) (now (out .entry)) ⌝ }
 {
     match TransformMethod::of_code(method) {
         MethodCode::Known(m) => {

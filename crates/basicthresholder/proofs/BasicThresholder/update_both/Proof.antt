@@ -7,12 +7,12 @@ use Rattle.basicthresholder.proofs.BasicThresholder.update_both.Tie as 
 both-counted-requires : tie.Need-both-counted-requires
 both-counted-requires c κs = search needs
 
-updated-requires : tie.Need-updated-requires
-updated-requires c κs = search needs
+by-counts-requires : tie.Need-by-counts-requires
+by-counts-requires c κs = search needs
 
 returns : tie.Need-returns
 unfolding updateBoth
-returns c = c .updated .ensures ∙ ap (updated (c .before .before .args .self)) (c .before .both-counted .ensures)
+returns c = c .by-counts .ensures ∙ ap (updated (c .before .before .args .self)) (c .before .both-counted .ensures)
 
 pub update-both-spec : {M : Type 1} → statement M
-update-both-spec = tie.close (tie.spec both-counted-requires updated-requires returns)
+update-both-spec = tie.close (tie.spec both-counted-requires by-counts-requires returns)

@@ -1,8 +1,8 @@
 use Rattle.deviation.proofs.Laws.{picked, passed}
 use Rattle.basicthresholder.specs.Updates.{updated}
 use borrow.Author.Needs.{needs}
-use Rattle.basicthresholder.proofs.BasicThresholder.updated.Statement.{statement}
-use Rattle.basicthresholder.proofs.BasicThresholder.updated.Tie as tie
+use Rattle.basicthresholder.proofs.by_counts.Statement.{statement}
+use Rattle.basicthresholder.proofs.by_counts.Tie as tie
 
 counts-ok-requires : tie.Need-counts-ok-requires
 counts-ok-requires c κs = search needs
@@ -15,5 +15,5 @@ returns-2 : tie.Need-returns-2
 unfolding updated
 returns-2 c = passed _ _ (c .before .counts-ok .ensures) (c .if1 .left)
 
-pub updated-spec : {M : Type 1} → statement M
-updated-spec = tie.close (tie.spec counts-ok-requires returns returns-2)
+pub by-counts-spec : {M : Type 1} → statement M
+by-counts-spec = tie.close (tie.spec counts-ok-requires returns returns-2)
