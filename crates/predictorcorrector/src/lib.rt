@@ -49,8 +49,8 @@ fn count_row(list: [Deviation; 16], row: &[f32], n: usize) -> [Deviation; 16]
     out
 }
 
-// The first n statistics count a row; the list itself where n is over 16 or the row is shorter.
-pub fn row_counted(list: [Deviation; 16], row: &[f32], n: usize) -> [Deviation; 16]
+// The first n statistics count a row; the list itself where n is over 16 or the row is shorter. An entry that refusal 6 is of stays.
+fn row_counted(list: [Deviation; 16], row: &[f32], n: usize) -> [Deviation; 16]
     ensures { λ r. ⌜ r ≡ Lists.rowCounted n list (now (row .entry)) ⌝ }
 {
     if (n <= 16) & (n <= row.len()) {
@@ -331,7 +331,8 @@ impl PredictorCorrector {
                 & (list_countable(actual, n) & list_countable(expected, n)))
     }
 
-    // Opening grade 0: with auto adjust the run ends, and both lists are reset.
+    // The steps of the judge, which refuses first.
+    // Opening grade 0: with auto adjust the run ends, and both lists are reset; a base over 16 leaves them alone.
     pub fn run_ended(self) -> PredictorCorrector
         ensures { λ r. ⌜ r ≡ State.runEnded self ⌝ }
     {
@@ -350,7 +351,8 @@ impl PredictorCorrector {
         self
     }
 
-    // `update_auto_adjust` for callers that tested the buffers: within a run the oldest row is counted.
+    // What `update_auto_adjust` leaves: within a run the oldest row is counted, and the run grows. A row shorter than the base, an entry or a run that refusal 6
+    // is of is left alone; `calls::update_auto_adjust` refuses.
     pub fn auto_adjusted(self, point: &[f32]) -> PredictorCorrector
         ensures { λ r. ⌜ r ≡ State.autoAdjusted self (now (point .entry)) ⌝ }
     {
@@ -370,7 +372,8 @@ impl PredictorCorrector {
         self
     }
 
-    // The candidate branch: the newest rows of the point and of the expected point are counted.
+    // The candidate branch: the newest rows of the point and of the expected point are counted. A row shorter than the base and an entry that refusal 6 is of are
+    // left alone.
     pub fn candidate_counted(self, newest: &[f32], expected: &[f32]) -> PredictorCorrector
         ensures { λ r. ⌜ r ≡ State.candidateCounted self (now (newest .entry)) (now (expected .entry)) ⌝ }
     {
@@ -388,7 +391,7 @@ impl PredictorCorrector {
         self
     }
 
-    // A raised reading is one more of the run.
+    // A raised reading is one more of the run; a run that refusal 6 is of stays.
     pub fn run_grown(self) -> PredictorCorrector
         ensures { λ r. ⌜ r ≡ State.runGrown self ⌝ }
     {
