@@ -21,51 +21,7 @@ use Rattle.util.specs.Util.{minf32}
 use Rattle.ledger.specs.Fractions.{over, fractionOf, plusZero}
 use Rattle.ledger.specs.Ledger.{blank, factor}
 use Rattle.ledger.specs.Statement.{mostReadings, Judged, Told, Shown, Demand3, accepted, Sized, Sizes, showed}
-use Rattle.ledger.proofs.Model.{Reading, watch}
-use Rattle.ledger.proofs.Schwarz.{after}
-use Rattle.ledger.proofs.Values.{plusOne}
-
-abbrev three : Float
-three = fin false 3 (pos 0)
-
-abbrev half : Float
-half = fin false 1 (negsuc 0)
-
-abbrev thousand : Float
-thousand = fin false 1 (pos 10)
-
--- n scores of 1, then others
-abbrev ones : ℕ → List Float → List Float
-ones zero xs = xs
-ones (suc n) xs = plusOne ∷ ones n xs
-
--- ten scores of 1, then 1024 and 1; ten scores of 1, then 0.5 and 1
-abbrev pub jump : List Float
-jump = ones 10 (thousand ∷ plusOne ∷ [])
-
-abbrev pub dip : List Float
-dip = ones 10 (half ∷ plusOne ∷ [])
-
-abbrev pub accepts : List Float → List Told
-accepts [] = []
-accepts (x ∷ xs) = record { refused = false; score = x } ∷ accepts xs
-
-abbrev readings : List Float → List Reading
-readings [] = []
-readings (x ∷ xs) = record { refused = false; score = x } ∷ readings xs
-
--- what a watch shows at n readings, counted down: thresholds t, opening grades g and final grades e
-abbrev pub shows : (ℕ → Float) → (ℕ → Float) → (ℕ → Float) → ℕ → List Shown
-shows t g e zero = []
-shows t g e (suc n) = record { threshold = t n; opening = g n; ends = e n } ∷ shows t g e n
-
--- the statement is false of these scores and what was shown at them
-abbrev pub Broken : List Float → List Shown → Type 0
-Broken xs vs = Demand3 plusZero three (accepts xs) vs → ⊥
-
--- the statement is false of a watch that updates so, from the thresholder t
-abbrev pub Breaks : (BasicThresholder → Float → BasicThresholder) → BasicThresholder → List Float → Type 0
-Breaks update t xs = Broken xs (showed (watch update) t (readings xs))
+use Rattle.ledger.specs.Faithful.{after, raisedOnly, one, three, half, thousand, ones, jump, dip, takes, accepts, shows, Broken, Breaks}
 
 -- ---- grades all 0, whatever its thresholds: the 1024 has to be raised
 pub all-zero-is-out : (t e : ℕ → Float) → Broken jump (shows t (λ n. plusZero) e 12)
@@ -91,37 +47,30 @@ unfolding primaryThresholdAndGrade
 never-updating-is-out t h = fixed-is-out (threshold t) (λ n. primaryGrade t (score n)) (λ n. primaryGrade t (score n)) h
   where
     score : ℕ → Float
-    score zero = plusOne
+    score zero = one
     score (suc zero) = thousand
-    score (suc (suc n)) = plusOne
+    score (suc (suc n)) = one
 
 -- ---- updating on raised readings only, once ten are counted: the 0.5 is not raised, and the ledger's threshold goes up to 1.38
-abbrev pub raisedOnly : BasicThresholder → Float → BasicThresholder
-raisedOnly t x = cond (ltZ (t .count) (pos 10)) (primaryCounted t x) (cond (lt zero32 (primaryGrade t x)) (primaryCounted t x) t)
-
-abbrev takes : BasicThresholder → List Float → BasicThresholder
-takes t [] = t
-takes t (x ∷ xs) = takes (raisedOnly t x) xs
-
-still-one : (adjust : Bool) → threshold (takes (freshThresholder plusZero adjust) (ones 10 (half ∷ []))) ≡ plusOne
+still-one : (adjust : Bool) → threshold (takes raisedOnly (freshThresholder plusZero adjust) (ones 10 (half ∷ []))) ≡ one
 unfolding threshold thresholdBy primaryGrade gradeOver isDeviationReady countsReady primaryCounted countedOver countedGap minf32 narrow Statistics.update countable next oneMore Statistics.factor mean deviation isEmpty positiveRoot ofBits round add sub mul div lt le eq ne ofInt
 still-one adjust = refl
 
 -- a threshold of 1 is not the ledger's by then, whatever the grades
-one-is-off : (g e : Float) → Judged (fractionOf three) (over 1 1) (after plusZero blank (ones 10 (half ∷ []))) plusOne (record { threshold = plusOne; opening = g; ends = e }) → ⊥
+one-is-off : (g e : Float) → Judged (fractionOf three) (over 1 1) (after plusZero blank (ones 10 (half ∷ []))) one (record { threshold = one; opening = g; ends = e }) → ⊥
 unfolding factor
 one-is-off g e h = (let i = h .not-under .1 in omega arith)
 
 pub raised-only-is-out : (adjust : Bool) → Breaks raisedOnly (freshThresholder plusZero adjust) dip
 unfolding factor primaryThresholdAndGrade
 raised-only-is-out adjust h =
-    let g = primaryGrade (takes (freshThresholder plusZero adjust) (ones 10 (half ∷ []))) plusOne in
+    let g = primaryGrade (takes raisedOnly (freshThresholder plusZero adjust) (ones 10 (half ∷ []))) one in
     one-is-off g g
-    (subst (λ (w : Float). Judged (fractionOf three) (over 1 1) (after plusZero blank (ones 10 (half ∷ []))) plusOne (record { threshold = w; opening = g; ends = g })) (still-one adjust)
+    (subst (λ (w : Float). Judged (fractionOf three) (over 1 1) (after plusZero blank (ones 10 (half ∷ []))) one (record { threshold = w; opening = g; ends = g })) (still-one adjust)
     (h .1 .1 .1 .1 .1 .1 .1 .1 .1 .1 .1 .0 (lit≤ tt)))
 
 -- ---- both lists are within demand 3's bounds
-sized-one : Sized plusOne
+sized-one : Sized one
 sized-one = record { plain = tt; least = lit≤ tt; most = lit≤ tt }
 
 pub in-bounds : (accepted (accepts jump) ≤ mostReadings) × Sizes (accepts jump) × (accepted (accepts dip) ≤ mostReadings) × Sizes (accepts dip)
@@ -131,5 +80,5 @@ in-bounds = (lit≤ tt, ten thousand (record { plain = tt; least = lit≤ tt; mo
     more zero xs h = h
     more (suc n) xs h = ((λ (t : Unit). inr sized-one), more n xs h)
 
-    ten : (x : Float) → Sized x → Sizes (accepts (ones 10 (x ∷ plusOne ∷ [])))
-    ten x w = more 10 (x ∷ plusOne ∷ []) ((λ (t : Unit). inr w), ((λ (t : Unit). inr sized-one), tt))
+    ten : (x : Float) → Sized x → Sizes (accepts (ones 10 (x ∷ one ∷ [])))
+    ten x w = more 10 (x ∷ one ∷ []) ((λ (t : Unit). inr w), ((λ (t : Unit). inr sized-one), tt))

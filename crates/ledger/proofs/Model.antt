@@ -1,48 +1,20 @@
--- A judge made of the definitions alone that keeps `Laws`, so that demand 3 is about something; and rows of the drill sheet and a worked list, on the ledger's definitions. Assumes nothing.
+-- A judge made of the definitions alone keeps `Laws`; rows of the drill sheet and the worked list, on the ledger's definitions. Assumes nothing.
 use mathlib.Core.Path.{_≡_, refl, sym, _∙_, subst}
 use mathlib.Core.Bool.{Bool, true, false, not, cond}
-use mathlib.Core.List.{List, [], _∷_}
-use Prim.Native.Nat.{ℕ, zero, suc}
-use lib.IntN.{pos}
 use lib.Dec.{T, lit≤}
-use lib.Ieee.{Float, fin, eq, round, add, sub, mul, div, lt, le, ofInt, ofBits}
+use lib.Ieee.{Float, eq, round, add, sub, mul, div, lt, le, ofInt, ofBits}
 use Rattle.basicthresholder.specs.Const.{zero32}
 use Rattle.basicthresholder.specs.declared.BasicThresholder.{BasicThresholder}
-use Rattle.basicthresholder.specs.Grades.{primaryThresholdAndGrade, threshold, thresholdBy}
+use Rattle.basicthresholder.specs.Grades.{threshold, thresholdBy}
 use Rattle.basicthresholder.specs.Updates.{primaryCounted, freshThresholder, countedOver, countedGap}
 use Rattle.deviation.specs.Statistics as Statistics
 use Rattle.deviation.specs.Statistics.{countable, next, oneMore, deviation, isEmpty, positiveRoot}
 use Rattle.ieee.specs.Round.{narrow, sqrt, isqrt}
-use Rattle.ledger.specs.Fractions.{Fraction, over, Same, plusZero}
+use Rattle.ledger.specs.Fractions.{Fraction, over, Same, fractionOf, plusZero}
 use Rattle.ledger.specs.Ledger.{Ledger, blank, enter, factor, mean, At}
-use Rattle.ledger.specs.Statement.{Judge}
+use Rattle.ledger.specs.Faithful.{watchBy, everyScore, three, inTurn, takes, after}
 use Rattle.ledger.specs.Theorem.{Counts, Laws}
 use Rattle.ledger.proofs.Laws.{primary-counts}
-use Rattle.ledger.proofs.Schwarz.{after}
-use Rattle.ledger.proofs.Values.{plusOne}
-
-pub record Reading : Type 0 where
-  pub refused : Bool
-  pub score : Float
-
--- a watch that opens by its thresholder, ends with the opening grade, and updates by `update`
-abbrev pub watch : (BasicThresholder → Float → BasicThresholder) → Judge
-watch update = record {
-  State = BasicThresholder;
-  Reading = Reading;
-  refused = λ t r. r .refused;
-  score = λ r. r .score;
-  next = λ t r. cond (r .refused) t (update t (r .score));
-  shown = λ t r. record {
-    threshold = primaryThresholdAndGrade t (r .score) .threshold;
-    opening = primaryThresholdAndGrade t (r .score) .grade;
-    ends = primaryThresholdAndGrade t (r .score) .grade;
-  };
-}
-
--- the model: every score but 0 is counted
-abbrev pub everyScore : BasicThresholder → Float → BasicThresholder
-everyScore t x = cond (eq x zero32) t (primaryCounted t x)
 
 cond-true : {A : Type 0} (b : Bool) (x y : A) → T b → cond b x y ≡ x
 cond-true true x y t = refl
@@ -52,7 +24,7 @@ cond-false : {A : Type 0} (b : Bool) (x y : A) → T (not b) → cond b x y ≡ 
 cond-false true x y t = absurd t
 cond-false false x y t = refl
 
-pub model-keeps : Laws (watch everyScore) (λ t. t)
+pub model-keeps : Laws (watchBy everyScore) (λ t. t)
 model-keeps = record {
   refused-keeps = λ t r h. cond-true (r .refused) t (everyScore t (r .score)) h;
   zero-keeps = λ t r h k. cond-false (r .refused) t (everyScore t (r .score)) h ∙ cond-true (eq (r .score) zero32) t (primaryCounted t (r .score)) k;
@@ -86,22 +58,11 @@ pub row-factor : Same (factor (over 1 4) 0) (over 1 2)
 unfolding factor
 row-factor = refl
 
--- ---- the worked list of docs/LEDGER.md: 1 and 2 in turn, ten scores, discount 0, z 3: the ledger's threshold and the watch's are both 3
-abbrev two : Float
-two = fin false 1 (pos 1)
-
-abbrev inTurn : ℕ → List Float
-inTurn zero = []
-inTurn (suc n) = plusOne ∷ two ∷ inTurn n
-
-pub worked-ledger : At (over 3 1) (after plusZero blank (inTurn 5)) (over 3 1)
+-- ---- the worked list of docs/LEDGER.md
+pub worked-ledger : At (fractionOf three) (after plusZero blank (inTurn 5)) (fractionOf three)
 unfolding factor
 worked-ledger = (lit≤ tt, refl)
 
-abbrev takes : BasicThresholder → List Float → BasicThresholder
-takes t [] = t
-takes t (x ∷ xs) = takes (everyScore t x) xs
-
-pub worked-watch : (adjust : Bool) → threshold (takes (freshThresholder plusZero adjust) (inTurn 5)) ≡ fin false 3 (pos 0)
+pub worked-watch : (adjust : Bool) → threshold (takes everyScore (freshThresholder plusZero adjust) (inTurn 5)) ≡ three
 unfolding threshold thresholdBy primaryCounted countedOver countedGap narrow sqrt isqrt Statistics.update countable next oneMore Statistics.factor Statistics.mean deviation isEmpty positiveRoot ofBits round add sub mul div lt le eq ofInt
 worked-watch adjust = refl

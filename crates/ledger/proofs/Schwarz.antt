@@ -10,6 +10,7 @@ use lib.Ieee.{Float}
 use lib.Ieee.Positive.{den-pos}
 use Rattle.ledger.specs.Fractions.{Fraction, times, Le, unit, dividedBy, fractionOf}
 use Rattle.ledger.specs.Ledger.{moved, factor, Ledger, blank, enter, mean}
+use Rattle.ledger.specs.Faithful.{after}
 use Rattle.ledger.proofs.Absolute.{sq-le}
 use Rattle.ledger.proofs.CommonUnit.{Parts, at-le, le-at, at-scale, at-times, at-plus, unitOf, In, here, there, share, share-at}
 use Rattle.ledger.proofs.Factor.{factor-den}
@@ -87,10 +88,6 @@ module _ (s q w f v : Fraction) (hs : 0 < s .den) (hq : 0 < q .den) (hw : 0 < w 
       (step-in D (share is) (share iq) (share iw) (share if') (share iv) k)
 
 -- ---- the ledger after any scores
-abbrev pub after : Float → Ledger → List Float → Ledger
-after d b [] = b
-after d b (x ∷ xs) = after d (enter (fractionOf d) b (fractionOf x)) xs
-
 pub record Sound (b : Ledger) : Type 0 where
   pub sum-den : 0 < b .sum .den
   pub squares-den : 0 < b .squares .den

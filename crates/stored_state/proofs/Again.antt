@@ -18,7 +18,7 @@ use Rattle.layout.proofs.Pasting.{pasted-length, pasted-next, deviation-pasted}
 use Rattle.deviation.specs.declared.Deviation.{Deviation}
 use Rattle.layout.specs.States.{deviationAt, encodeDeviation}
 use Rattle.layout.specs.Parts.{doubles}
-use Rattle.stored_state.specs.Canonical.{calm4, calm8, calmFlag, calmStatistic}
+use Rattle.stored_state.specs.Canonical.{canonical4, canonical8, canonicalFlag, canonicalStatistic}
 use Rattle.stored_state.proofs.Windows.{Alike, part, front, then, first, le4-alike, le8-alike, put, before, behind}
 
 -- ---- bytes
@@ -179,7 +179,7 @@ module _ (xs : List ℕ) (b : (i : ℕ) → getD xs i 0 < 256) (cur : List ℕ) 
       let l = eight-long (le8 xs p) in
       same-put cur p (bytes8 (le8 xs p)) (omega arith) (front (then (eight-again xs b p) (back w)) (length (bytes8 (le8 xs p))) (omega arith))
 
-  pub single-put : p + 4 ≤ length cur → Alike cur p xs p 4 → pasted cur p (f32Bytes (f32At xs p)) ≡ calm4 cur p
+  pub single-put : p + 4 ≤ length cur → Alike cur p xs p 4 → pasted cur p (f32Bytes (f32At xs p)) ≡ canonical4 cur p
   unfolding f32Bytes f32At
   single-put h w =
       ap (λ (n : ℕ). pasted cur p (bytes4 n)) (bits32-again (le4 xs p) (le4-small xs b p)) ∙ go (nanBits binary32 (le4 xs p))
@@ -189,7 +189,7 @@ module _ (xs : List ℕ) (b : (i : ℕ) → getD xs i 0 < 256) (cur : List ℕ) 
       go true = refl
       go false = same4 h w
 
-  pub double-put : p + 8 ≤ length cur → Alike cur p xs p 8 → pasted cur p (f64Bytes (f64At xs p)) ≡ calm8 cur p
+  pub double-put : p + 8 ≤ length cur → Alike cur p xs p 8 → pasted cur p (f64Bytes (f64At xs p)) ≡ canonical8 cur p
   unfolding f64Bytes f64At
   double-put h w =
       ap (λ (n : ℕ). pasted cur p (bytes8 n)) (bits64-again (le8 xs p) (le8-small xs b p)) ∙ go (nanBits binary64 (le8 xs p))
@@ -206,7 +206,7 @@ module _ (xs : List ℕ) (b : (i : ℕ) → getD xs i 0 < 256) (cur : List ℕ) 
   unfolding i32Bytes i32At
   count-put h w = ap (λ (n : ℕ). pasted cur p (bytes4 n)) (signed-again (le4 xs p) (le4-small xs b p)) ∙ same4 h w
 
-  pub flag-put : p + 1 ≤ length cur → Alike cur p xs p 1 → pasted cur p (flagBytes (flagAt xs p)) ≡ calmFlag cur p
+  pub flag-put : p + 1 ≤ length cur → Alike cur p xs p 1 → pasted cur p (flagBytes (flagAt xs p)) ≡ canonicalFlag cur p
   unfolding flagBytes flagAt
   flag-put h w =
       ap (λ (n : ℕ). pasted cur p (flagByte (not (eqb n 0)) ∷ [])) (sym (first (omega arith) w)) ∙ go (getD cur p 0) refl
@@ -276,13 +276,13 @@ module _ (xs : List ℕ) (b : (i : ℕ) → getD xs i 0 < 256) (cur : List ℕ) 
       ap (λ (l : List ℕ). pasted l (p + 32) (i32Bytes (i32At xs (p + 32)))) (c4-is ∙ ap (λ (l : List ℕ). pasted l (p + 16) (doubles (d .«sum_squared») (d .sum))) c2-is)
       ∙ deviation-pasted cur p d h
 
-  calmed : c4 ≡ calmStatistic cur p
-  calmed =
-      let k1 : c1 ≡ calm8 cur p = double-put xs b cur p (omega arith) (front w 8 (omega arith)) in
-      let k2 : c2 ≡ calm8 c1 (p + 8) = double-put xs b c1 (p + 8) (omega (arith, l1 .0)) (front (l1 .1) 8 (omega arith)) in
-      let k3 : c3 ≡ calm8 c2 (p + 16) = double-put xs b c2 (p + 16) (omega (arith, l2 .0)) (front (l2 .1) 8 (omega arith)) in
-      let k4 : c4 ≡ calm8 c3 (p + 24) = double-put xs b c3 (p + 24) (omega (arith, l3 .0)) (front (l3 .1) 8 (omega arith)) in
-      k4 ∙ ap (λ (l : List ℕ). calm8 l (p + 24)) (k3 ∙ ap (λ (l : List ℕ). calm8 l (p + 16)) (k2 ∙ ap (λ (l : List ℕ). calm8 l (p + 8)) k1))
+  written-out : c4 ≡ canonicalStatistic cur p
+  written-out =
+      let k1 : c1 ≡ canonical8 cur p = double-put xs b cur p (omega arith) (front w 8 (omega arith)) in
+      let k2 : c2 ≡ canonical8 c1 (p + 8) = double-put xs b c1 (p + 8) (omega (arith, l1 .0)) (front (l1 .1) 8 (omega arith)) in
+      let k3 : c3 ≡ canonical8 c2 (p + 16) = double-put xs b c2 (p + 16) (omega (arith, l2 .0)) (front (l2 .1) 8 (omega arith)) in
+      let k4 : c4 ≡ canonical8 c3 (p + 24) = double-put xs b c3 (p + 24) (omega (arith, l3 .0)) (front (l3 .1) 8 (omega arith)) in
+      k4 ∙ ap (λ (l : List ℕ). canonical8 l (p + 24)) (k3 ∙ ap (λ (l : List ℕ). canonical8 l (p + 16)) (k2 ∙ ap (λ (l : List ℕ). canonical8 l (p + 8)) k1))
 
-  pub statistic-put : pasted cur p (encodeDeviation d) ≡ calmStatistic cur p
-  statistic-put = sym whole-is ∙ count-put xs b c4 (p + 32) (omega (arith, l4 .0)) (l4 .1) ∙ calmed
+  pub statistic-put : pasted cur p (encodeDeviation d) ≡ canonicalStatistic cur p
+  statistic-put = sym whole-is ∙ count-put xs b c4 (p + 32) (omega (arith, l4 .0)) (l4 .1) ∙ written-out

@@ -14,7 +14,7 @@ use Rattle.layout.specs.States.{joined, deviationAt, encodeDeviation, decodeThr
 use Rattle.layout.specs.Chain.{entries, filled, emptyList, listAt, decodeState, listOver, encodeHead, encodeStateOver}
 use Rattle.layout.proofs.Laws.{deviation-length}
 use Rattle.layout.proofs.Pasting.{pasted-length, pastedAll, pasted-all}
-use Rattle.stored_state.specs.Canonical.{Field, single, count, number, flag, statistic, width, calm, calmAll, headFields, calmStatistic, calmList, canonical, PlainStatistic, PlainField, PlainAll, Plain}
+use Rattle.stored_state.specs.Canonical.{Field, single, count, number, flag, statistic, width, canonicalField, canonicalFields, headFields, canonicalStatistic, canonicalList, canonical, PlainStatistic, PlainField, PlainAll, Plain}
 use Rattle.stored_state.proofs.Windows.{Alike, part, front, then, before, behind}
 use Rattle.stored_state.proofs.Back.{entries-most, filled-held, over-length, over-before, over-behind, head-length}
 use Rattle.stored_state.proofs.Again.{later, put-on, single-put, number-put, count-put, flag-put, statistic-put}
@@ -49,14 +49,14 @@ all-long xs [] p = refl
 all-long xs (f ∷ fs) p = length-append (bytesOf xs p f) (joined (allOf xs (p + width f) fs)) ∙ ap₂ (λ (a b : ℕ). a + b) (field-long xs p f) (all-long xs fs (p + width f))
 
 module _ (xs : List ℕ) (b : (i : ℕ) → getD xs i 0 < 256) where
-  field-put : (cur : List ℕ) (p : ℕ) (f : Field) → p + width f ≤ length cur → Alike cur p xs p (width f) → pasted cur p (bytesOf xs p f) ≡ calm f cur p
+  field-put : (cur : List ℕ) (p : ℕ) (f : Field) → p + width f ≤ length cur → Alike cur p xs p (width f) → pasted cur p (bytesOf xs p f) ≡ canonicalField f cur p
   field-put cur p single h w = single-put xs b cur p h w
   field-put cur p count h w = count-put xs b cur p h w
   field-put cur p number h w = number-put xs b cur p h w
   field-put cur p flag h w = flag-put xs b cur p h w
   field-put cur p statistic h w = statistic-put xs b cur p h w
 
-  fields-put : (fs : List Field) (cur : List ℕ) (p : ℕ) → p + span fs ≤ length cur → Alike cur p xs p (span fs) → pastedAll cur p (allOf xs p fs) ≡ calmAll cur p fs
+  fields-put : (fs : List Field) (cur : List ℕ) (p : ℕ) → p + span fs ≤ length cur → Alike cur p xs p (span fs) → pastedAll cur p (allOf xs p fs) ≡ canonicalFields cur p fs
   fields-put [] cur p h w = refl
   fields-put (f ∷ fs) cur p h w =
       let c = bytesOf xs p f in
@@ -65,10 +65,10 @@ module _ (xs : List ℕ) (b : (i : ℕ) → getD xs i 0 < 256) where
       let size : length (pasted cur p c) ≡ length cur = m .0 in
       ap (λ (q : ℕ). pastedAll (pasted cur p c) q (allOf xs (p + width f) fs)) (omega arith)
       ∙ fields-put fs (pasted cur p c) (p + width f) (omega arith) (m .1)
-      ∙ ap (λ (o : List ℕ). calmAll o (p + width f) fs) (field-put cur p f (omega arith) (front w (width f) (omega arith)))
+      ∙ ap (λ (o : List ℕ). canonicalFields o (p + width f) fs) (field-put cur p f (omega arith) (front w (width f) (omega arith)))
 
   list-put : (cur : List ℕ) (at : ℕ) (ds : List Deviation) (n : ℕ) → ((k : ℕ) → k < n → getD ds k (fresh zero64) ≡ deviationAt xs (at + 36 * k))
-      → at + 36 * n ≤ length cur → Alike cur at xs at (36 * n) → listOver cur at ds n ≡ calmList cur at n
+      → at + 36 * n ≤ length cur → Alike cur at xs at (36 * n) → listOver cur at ds n ≡ canonicalList cur at n
   unfolding listOver
   list-put cur at ds zero e h w = refl
   list-put cur at ds (suc n) e h w =
@@ -78,7 +78,7 @@ module _ (xs : List ℕ) (b : (i : ℕ) → getD xs i 0 < 256) where
       then (over-behind cur at ds n (omega arith) (at + 36 * n) 36 (omega arith)) (part w (36 * n) 36 (omega arith)) in
       ap (λ (d : Deviation). pasted l (at + 36 * n) (encodeDeviation d)) (e n (omega arith))
       ∙ statistic-put xs b l (at + 36 * n) (omega arith) ahead
-      ∙ ap (λ (o : List ℕ). calmStatistic o (at + 36 * n)) (list-put cur at ds n (λ (k : ℕ) (m : k < n). e k (omega arith)) (omega arith) (front w (36 * n) (omega arith)))
+      ∙ ap (λ (o : List ℕ). canonicalStatistic o (at + 36 * n)) (list-put cur at ds n (λ (k : ℕ) (m : k < n). e k (omega arith)) (omega arith) (front w (36 * n) (omega arith)))
 
 head-is : (xs : List ℕ) → encodeHead (decodeState xs) ≡ joined (allOf xs 0 headFields)
 unfolding encodeHead decodeState decodeThresholder encodeThresholder encodeDeviation joined f32Bytes f64Bytes i32Bytes flagBytes bytes8 bytes4
@@ -97,43 +97,43 @@ state-again xs size b =
     let head = pasted xs 0 (encodeHead (decodeState xs)) in
     let long : length (encodeHead (decodeState xs)) ≡ 158 = head-length (decodeState xs) in
     let head-size : length head ≡ 1310 = pasted-length xs 0 (encodeHead (decodeState xs)) (omega arith) ∙ size in
-    let head-calm : head ≡ calmAll xs 0 headFields =
+    let head-canonical : head ≡ canonicalFields xs 0 headFields =
     ap (pasted xs 0) (head-is xs) ∙ sym (pasted-all xs 0 (allOf xs 0 headFields) (omega (arith, all-long xs headFields 0)))
     ∙ fields-put xs b headFields xs 0 (omega arith) (record { at = λ (k : ℕ) (l : k < 158). refl }) in
     let rest : (i m : ℕ) → 158 ≤ i → Alike head i xs i m = λ (i m : ℕ) (h : 158 ≤ i). behind xs 0 (encodeHead (decodeState xs)) (omega arith) i m (omega arith) in
     let one = listOver head 158 (listAt xs 158 n) n in
     let one-size : length one ≡ 1310 = over-length head 158 (listAt xs 158 n) n (omega arith) ∙ head-size in
-    let one-calm : one ≡ calmList head 158 n = list-put xs b head 158 (listAt xs 158 n) n (held xs 158 n few) (omega arith) (rest 158 (36 * n) (omega arith)) in
+    let one-canonical : one ≡ canonicalList head 158 n = list-put xs b head 158 (listAt xs 158 n) n (held xs 158 n few) (omega arith) (rest 158 (36 * n) (omega arith)) in
     let further : Alike one 734 xs 734 (36 * n) = then (over-behind head 158 (listAt xs 158 n) n (omega arith) 734 (36 * n) (omega arith)) (rest 734 (36 * n) (omega arith)) in
     list-put xs b one 734 (listAt xs 734 n) n (held xs 734 n few) (omega arith) further
-    ∙ ap (λ (o : List ℕ). calmList o 734 n) (one-calm ∙ ap (λ (o : List ℕ). calmList o 158 n) head-calm)
+    ∙ ap (λ (o : List ℕ). canonicalList o 734 n) (one-canonical ∙ ap (λ (o : List ℕ). canonicalList o 158 n) head-canonical)
 
 -- ---- nothing to change
-plain-statistic : (xs : List ℕ) (p : ℕ) → PlainStatistic xs p → calmStatistic xs p ≡ xs
+plain-statistic : (xs : List ℕ) (p : ℕ) → PlainStatistic xs p → canonicalStatistic xs p ≡ xs
 plain-statistic xs p h = rw (h .0, h .1 .0, h .1 .1 .0, h .1 .1 .1) refl
 
-plain-field : (f : Field) (xs : List ℕ) (p : ℕ) → PlainField f xs p → calm f xs p ≡ xs
+plain-field : (f : Field) (xs : List ℕ) (p : ℕ) → PlainField f xs p → canonicalField f xs p ≡ xs
 plain-field single xs p h = rw h refl
 plain-field count xs p h = refl
 plain-field number xs p h = refl
 plain-field flag xs p h = rw h refl
 plain-field statistic xs p h = plain-statistic xs p h
 
-plain-all : (fs : List Field) (xs : List ℕ) (p : ℕ) → PlainAll xs p fs → calmAll xs p fs ≡ xs
+plain-all : (fs : List Field) (xs : List ℕ) (p : ℕ) → PlainAll xs p fs → canonicalFields xs p fs ≡ xs
 plain-all [] xs p h = refl
-plain-all (f ∷ fs) xs p h = ap (λ (o : List ℕ). calmAll o (p + width f) fs) (plain-field f xs p (h .0)) ∙ plain-all fs xs (p + width f) (h .1)
+plain-all (f ∷ fs) xs p h = ap (λ (o : List ℕ). canonicalFields o (p + width f) fs) (plain-field f xs p (h .0)) ∙ plain-all fs xs (p + width f) (h .1)
 
-plain-list : (n : ℕ) (xs : List ℕ) (at : ℕ) → ((k : ℕ) → k < n → PlainStatistic xs (at + 36 * k)) → calmList xs at n ≡ xs
+plain-list : (n : ℕ) (xs : List ℕ) (at : ℕ) → ((k : ℕ) → k < n → PlainStatistic xs (at + 36 * k)) → canonicalList xs at n ≡ xs
 plain-list zero xs at h = refl
 plain-list (suc n) xs at h =
-    ap (λ (o : List ℕ). calmStatistic o (at + 36 * n)) (plain-list n xs at (λ (k : ℕ) (l : k < n). h k (omega arith))) ∙ plain-statistic xs (at + 36 * n) (h n (omega arith))
+    ap (λ (o : List ℕ). canonicalStatistic o (at + 36 * n)) (plain-list n xs at (λ (k : ℕ) (l : k < n). h k (omega arith))) ∙ plain-statistic xs (at + 36 * n) (h n (omega arith))
 
 pub plain-kept : (xs : List ℕ) → Plain xs → canonical xs ≡ xs
 unfolding canonical
 plain-kept xs h =
     let n = entries (flagAt xs 149) (le4 xs 154) in
-    ap (λ (o : List ℕ). calmList (calmList o 158 n) 734 n) (plain-all headFields xs 0 (h .head))
-    ∙ ap (λ (o : List ℕ). calmList o 734 n) (plain-list n xs 158 (h .actual)) ∙ plain-list n xs 734 (h .expected)
+    ap (λ (o : List ℕ). canonicalList (canonicalList o 158 n) 734 n) (plain-all headFields xs 0 (h .head))
+    ∙ ap (λ (o : List ℕ). canonicalList o 734 n) (plain-list n xs 158 (h .actual)) ∙ plain-list n xs 734 (h .expected)
 
 -- Without a NaN no byte changes.
 pub state-kept : (xs : List ℕ) → length xs ≡ 1310 → ((i : ℕ) → getD xs i 0 < 256) → Plain xs → encodeStateOver xs (decodeState xs) ≡ xs
