@@ -7,7 +7,11 @@ use lib.IntN.{ℤ, pos, negsuc}
 use lib.Ieee as Ieee
 use lib.Ieee.{Float, binary32, binary64}
 use Rattle.corrector.specs.Corrector as Corrector
-use Rattle.corrector.specs.Corrector.{applyBasicCorrector, expectedPoint, trigger, pointRefusal, newestRow}
+use Rattle.types.specs.declared.Refusal.the-variants.{Length}
+use Rattle.types.specs.declared.Answer.the-variants.{Refused}
+use Rattle.descriptor.specs.Checks.{sizesOk, dimension}
+use Rattle.attributors.specs.Attributors as Attributors
+use Rattle.corrector.specs.Corrector.{applyBasicCorrector, expectedPoint, trigger, pointFits, newestRowAnswer, newestRow}
 use Rattle.ieee.specs.Round as Round
 use Rattle.util.specs.Util as Util
 
@@ -45,7 +49,7 @@ expectations :
     ∷ (1 ∷ 9 ∷ 3 ∷ [])
     ∷ (1 ∷ 2 ∷ [])
     ∷ [])
-unfolding expectedPoint Corrector.fewEnough Corrector.attributionLimit Corrector.attributionSum Corrector.attributors Corrector.predicted Corrector.forUpTo Ieee.ofInt Ieee.ofBits Ieee.add Ieee.mul Ieee.div Ieee.le
+unfolding expectedPoint Corrector.predicted Attributors.askedIndices Attributors.likelyMissingIndices Attributors.reaching Attributors.attributionLimit Attributors.attributionSum Attributors.forUpTo Ieee.ofInt Ieee.ofBits Ieee.add Ieee.mul Ieee.div Ieee.le
 expectations = refl
 
 abbrev triggered : ℕ → Bool → ℕ → Bool
@@ -61,10 +65,10 @@ unfolding trigger Corrector.triggerFits Corrector.exceeds Corrector.differential
 triggers = refl
 
 -- A point of another length.
-refusal : pointRefusal 3 2 5 ≡ 3
-unfolding pointRefusal
+refusal : newestRowAnswer 3 2 5 ≡ Refused Length
+unfolding newestRowAnswer sizesOk dimension
 refusal = refl
 
 newest : newestRow (numbers (1 ∷ 2 ∷ 3 ∷ 4 ∷ 5 ∷ 6 ∷ [])) 3 2 ≡ numbers (5 ∷ 6 ∷ [])
-unfolding newestRow pointRefusal
+unfolding newestRow pointFits sizesOk dimension
 newest = refl

@@ -1,8 +1,8 @@
 -- For callers: what the expected and the corrected point keep of the point, and that sizes which fit are taken. Assumes nothing.
-use mathlib.Core.Path.{_≡_, refl, _∙_}
+use mathlib.Core.Path.{_≡_, refl, sym, _∙_}
 use mathlib.Core.Bool.{Bool, true, false, cond, not, _||_}
 use mathlib.Core.Logic.{_⊎_, inl, inr}
-use mathlib.Core.List.{List}
+use mathlib.Core.List.{List, [], _∷_}
 use Prim.Native.Nat.{ℕ, zero, suc, _+_, _*_, _<_, _≤_, _-_}
 use native.Mathlib.Nat.{mul-le-mul-right, le-of-lt}
 use native.Mathlib.Omega.{arith}
@@ -12,7 +12,11 @@ use lib.Dec.{ltb, eqb}
 use lib.IntN.{ℤ}
 use borrow.Author.Tests.{eqb-true, eq-eqb, le-leb, lt-ltb, ltb-true}
 use lib.Ieee.{Float, nan}
-use Rattle.corrector.specs.Corrector.{forUpTo, reaches, attributors, attributionLimit, fewEnough, predicted, expectedPoint, expectedFits, triggerFits, pointRefusal, correctorFits, shifted, amendedRow, amended, isZero, applyBasicCorrector}
+use Rattle.types.specs.declared.Answer.the-variants.{Done}
+use Rattle.descriptor.specs.Checks.{sizesOk, dimension, lastPointsOk}
+use Rattle.attributors.specs.Attributors.{askedIndices, asked, missing}
+use Rattle.attributors.proofs.Laws.{Within, asked-within, Row, row-fits, asked-row, both}
+use Rattle.corrector.specs.Corrector.{forUpTo, predicted, expectedPoint, expectedFits, triggerFits, pointFits, correctorFits, shifted, amendedRow, amended, isZero, applyBasicCorrector, newestRowAnswer}
 use Rattle.corrector.specs.Steps.{Expecting, Triggering, Accepted, Correcting}
 
 -- What every step keeps, the loop keeps.
@@ -30,16 +34,15 @@ module _ (high low : List Float) (position base : ℕ) (point median : List Floa
   -- Whatever stores in the row at position keep is the point's in the expected point.
   pub expected-keeps : {B : Type 0} (f : List Float → B) → ((l : List Float) (i : ℕ) (x : Float) → i < base → f (set l (position + i) x) ≡ f l) → f (expectedPoint high low position base point median) ≡ f point
   unfolding expectedPoint predicted
-  expected-keeps f h = by-base (eqb base 1) refl
+  expected-keeps f h = over (askedIndices high low position base) point (asked-within high low position base)
     where
-      by-base : (t : Bool) → eqb base 1 ≡ t → f (cond t (cond (fewEnough 1 (length point)) (set point position (getD median position nan)) point) (cond (fewEnough (attributors high low (attributionLimit high low position base) position base) (length point)) (predicted high low (attributionLimit high low position base) position base point median) point)) ≡ f point
-      by-base true e =
-          let one = eqb-true base 1 e in
-          let here : position + 0 ≡ position = omega arith in
-          cond-keeps f (fewEnough 1 (length point)) _ _ (rw here at (h point 0 (getD median position nan) (omega arith)))
-      by-base false e =
-          cond-keeps f (fewEnough (attributors high low (attributionLimit high low position base) position base) (length point)) _ _
-          (for-keeps f _ point base (λ s i l. cond-keeps f (reaches high low (attributionLimit high low position base) (position + i)) _ _ (h s i _ l)))
+      over : (indices : List ℕ) (answer : List Float) → Within indices position (position + base) → f (predicted indices median answer) ≡ f answer
+      over [] answer w = refl
+      over (i ∷ indices) answer w =
+          let here = w 0 (omega arith) in
+          let x : Float = getD median i nan in
+          let at : position + (i - position) ≡ i = omega arith in
+          over indices (set answer i x) (λ k l. w (suc k) (omega arith)) ∙ rw at at (h answer (i - position) x (omega arith))
 
   pub expected-length : length (expectedPoint high low position base point median) ≡ length point
   expected-length = expected-keeps length (λ l i x h. length-set l (position + i) x)
@@ -78,24 +81,45 @@ module _ (point expected anomalous : List Float) (gap shingle base : ℕ) (z : �
           cond-keeps length (isZero z) _ (cond (ltb gap shingle) (shifted point expected (gap * base)) point) (amended-length _ expected anomalous gap base u t)
           ∙ started (ltb gap shingle) refl (e refl)
 
+row-in : (high low position base point median out : ℕ) → Expecting high low position base point median out → Row high low position base
+row-in high low position base point median out f =
+    let p = f .high-long in
+    let l = f .low-long in
+    record { low-long = l ∙ sym p; some = f .some; few = f .few; inside = omega arith }
+
+-- What was asked for, of a row that fits.
+pub asked-in : (high low : List Float) (position base point median out : ℕ) → Expecting (length high) (length low) position base point median out
+    → asked high low position base ≡ missing (askedIndices high low position base)
+asked-in high low position base point median out f = asked-row high low position base (row-in (length high) (length low) position base point median out f)
+
 -- Sizes with these facts fit.
 pub expects : (high low position base point median out : ℕ) → Expecting high low position base point median out → expectedFits high low position base point median out ≡ true
 unfolding expectedFits
 expects high low position base point median out f =
-    simp (eq-eqb _ _ (f .high-long), eq-eqb _ _ (f .low-long), eq-eqb _ _ (f .median-long), eq-eqb _ _ (f .out-long), lt-ltb _ _ (f .some), le-leb _ _ (f .few), le-leb _ _ (f .inside))
+    let p = f .high-long in
+    let m = f .median-long in
+    let o = f .out-long in
+    simp (row-fits high low position base (row-in high low position base point median out f), eq-eqb _ _ (sym p), eq-eqb _ _ (m ∙ sym p), eq-eqb _ _ (o ∙ sym p))
 
 pub triggers : (high low base idealHigh idealLow : ℕ) → Triggering high low base idealHigh idealLow → triggerFits high low base idealHigh idealLow ≡ true
 unfolding triggerFits
 triggers high low base idealHigh idealLow f =
     simp (eq-eqb _ _ (f .low-long), eq-eqb _ _ (f .ideal-high-long), eq-eqb _ _ (f .ideal-low-long), le-leb _ _ (f .short), lt-ltb _ _ (f .some), le-leb _ _ (f .few))
 
-pub accepts : (shingle base len : ℕ) → Accepted shingle base len → pointRefusal shingle base len ≡ 0
-unfolding pointRefusal
+pub accepts : (shingle base len : ℕ) → Accepted shingle base len → pointFits shingle base len ≡ true
+unfolding pointFits sizesOk dimension
 accepts shingle base len f =
-    simp (lt-ltb _ _ (f .some), le-leb _ _ (f .few), lt-ltb _ _ (f .wide), le-leb _ _ (f .narrow), eq-eqb _ _ (f .long))
+    simp (le-leb _ _ (f .some), le-leb _ _ (f .few), le-leb _ _ (f .wide), le-leb _ _ (f .narrow), eq-eqb _ _ (f .long))
 
 pub corrects : (point gap shingle base : ℕ) (h : Bool) (expected anomalous out : ℕ) → Correcting point gap shingle base h expected anomalous out → correctorFits point gap shingle base h expected anomalous out ≡ true
-unfolding correctorFits
+unfolding correctorFits lastPointsOk
 corrects point gap shingle base true expected anomalous out f =
     simp (accepts _ _ _ (f .sizes), lt-ltb _ _ (f .later), eq-eqb _ _ (f .out-long), eq-eqb _ _ (f .expected-long refl), eq-eqb _ _ (f .anomalous-long refl))
 corrects point gap shingle base false expected anomalous out f = simp (accepts _ _ _ (f .sizes), lt-ltb _ _ (f .later), eq-eqb _ _ (f .out-long))
+
+-- A point that fits is accepted.
+pub accepted-row : (shingle base len : ℕ) → pointFits shingle base len ≡ true → newestRowAnswer shingle base len ≡ Done
+unfolding pointFits newestRowAnswer
+accepted-row shingle base len h =
+    let a = both (sizesOk shingle base) (eqb len (dimension shingle base)) h in
+    simp (a .0, a .1)

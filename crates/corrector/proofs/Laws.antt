@@ -16,24 +16,13 @@ use lib.Ieee.{Float, nan}
 use mir.Syntax.{w32}
 use mir.Val.{SFits, toZ, ofZ}
 use mir.ValLaws.{toZ-ofZ}
-use Rattle.corrector.specs.Corrector.{forUpTo, reaches, predicted, isZero, expectedFits, triggerFits, pointRefusal, correctorFits, shifted, newestRow}
+use Rattle.descriptor.specs.Checks.{sizesOk, dimension}
+use Rattle.descriptor.proofs.Bounds.{sizes, dimension-is, base-inside, last-points}
+use Rattle.attributors.proofs.Laws.{both, row-of}
+use Rattle.corrector.specs.Corrector.{isZero, expectedFits, triggerFits, pointFits, correctorFits, shifted, newestRow}
 use Rattle.corrector.specs.Steps.{Expecting, Triggering, Accepted, Correcting}
 
--- A turn of a loop that counts from 0.
-pub for-more : {A : Type 0} (step : A → ℕ → A) (a s : A) (n : ℕ) → s ≡ forUpTo step a n → step s n ≡ forUpTo step a (n + 1)
-unfolding forUpTo
-for-more {A = A} step a s n e = ap (λ (x : A). step x n) e ∙ ap (forUpTo step a) (sym (add-one n))
-
--- The end of a loop that counts to n.
-pub at-end : {A : Type 0} (f : ℕ → A) (s : A) (i n : ℕ) → s ≡ f i → i ≤ n → n ≤ i → s ≡ f n
-at-end f s i n e h k = e ∙ ap f (le-antisymm h k)
-
 module _ {A : Type 0} where
-  -- A store of what was chosen between a new element and the old.
-  pub set-chosen : (t : Bool) (l : List A) (i : ℕ) (x d : A) → set l i (cond t x (getD l i d)) ≡ cond t (set l i x) l
-  set-chosen true l i x d = refl
-  set-chosen false l i x d = set-getD l i d
-
   -- A turn of the loop that copies from `from` on.
   pub paste-more : (out d : List A) (at : ℕ) (s : List A) (from k : ℕ) (z : A) → at + k < length d → from + k < length s
       → out ≡ paste d at (drop from s) k → set out (at + k) (getD s (from + k) z) ≡ paste d at (drop from s) (k + 1)
@@ -45,16 +34,6 @@ module _ {A : Type 0} where
   -- A whole list copied over one of its length.
   pub copied : (out s : List A) → length out ≡ length s → paste out 0 (drop 0 s) (length s) ≡ s
   copied out s e = simp (take-length, zero-add, drop-of-length-le out {i = length s} (omega arith), append-nil)
-
--- A turn of the loop that predicts.
-pub predicted-more : (high low : List Float) (limit : Float) (position : ℕ) (point prediction s : List Float) (i : ℕ) (r : Float)
-    → r ≡ cond (reaches high low limit (position + i)) (getD prediction (position + i) nan) (getD s (position + i) nan)
-    → s ≡ predicted high low limit position i point prediction → set s (position + i) r ≡ predicted high low limit position (i + 1) point prediction
-unfolding predicted
-predicted-more high low limit position point prediction s i r e h =
-    ap (set s (position + i)) e
-    ∙ set-chosen (reaches high low limit (position + i)) s (position + i) (getD prediction (position + i) nan) nan
-    ∙ for-more _ _ _ _ h
 
 -- A row's width, and the rows before the last of `gap`, within all of them.
 pub rows : (gap base : ℕ) → 0 < gap → (gap - 1) * base + base ≡ gap * base
@@ -73,28 +52,24 @@ pub or-true : (t : Bool) → (t || true) ≡ true
 or-true true = refl
 or-true false = refl
 
--- Both halves of a test that held.
-both : (a b : Bool) → (a && b) ≡ true → (a ≡ true) × (b ≡ true)
-both true b e = (refl, e)
-both false b e = (e, cc)
-
 pub expecting : (high low position base point median out : ℕ) → expectedFits high low position base point median out ≡ true → Expecting high low position base point median out
 unfolding expectedFits
 expecting high low position base point median out e =
     let a = both _ _ e in
+    let r = row-of high low position base (a .0) in
     let b = both _ _ (a .1) in
     let c = both _ _ (b .1) in
-    let d = both _ _ (c .1) in
-    let f = both _ _ (d .1) in
-    let g = both _ _ (f .1) in
+    let p = eqb-true _ _ (b .0) in
+    let m = eqb-true _ _ (c .0) in
+    let o = eqb-true _ _ (c .1) in
     record {
-      high-long = eqb-true _ _ (a .0);
-      low-long = eqb-true _ _ (b .0);
-      median-long = eqb-true _ _ (c .0);
-      out-long = eqb-true _ _ (d .0);
-      some = ltb-true _ _ (f .0);
-      few = leb-true _ _ (g .0);
-      inside = leb-true _ _ (g .1);
+      high-long = sym p;
+      low-long = r .low-long ∙ sym p;
+      median-long = m ∙ sym p;
+      out-long = o ∙ sym p;
+      some = r .some;
+      few = r .few;
+      inside = omega arith;
     }
 
 pub triggering : (high low base idealHigh idealLow : ℕ) → triggerFits high low base idealHigh idealLow ≡ true → Triggering high low base idealHigh idealLow
@@ -114,26 +89,22 @@ triggering high low base idealHigh idealLow e =
       few = leb-true _ _ (f .1);
     }
 
-by-tests : (s b n : ℕ) (t₁ t₂ : Bool) → (ltb 0 s && (leb s 64 && (ltb 0 b && leb b 16))) ≡ t₁ → eqb n (s * b) ≡ t₂ → _≡_ {A = ℕ} (cond t₁ (cond t₂ 0 3) 2) 0 → Accepted s b n
-by-tests s b n true true e₁ e₂ h =
-    let a = both _ _ e₁ in
-    let c = both _ _ (a .1) in
-    let d = both _ _ (c .1) in
-    record { some = ltb-true _ _ (a .0); few = leb-true _ _ (c .0); wide = ltb-true _ _ (d .0); narrow = leb-true _ _ (d .1); long = eqb-true _ _ e₂ }
-by-tests s b n true false e₁ e₂ h = absurd (omega arith)
-by-tests s b n false t₂ e₁ e₂ h = absurd (omega arith)
-
--- What an accepted point says of its sizes.
-pub accepted : (shingle base len : ℕ) → pointRefusal shingle base len ≡ 0 → Accepted shingle base len
-unfolding pointRefusal
-accepted s b n h = by-tests s b n _ _ refl refl h
+-- What a point that fits says of its sizes.
+pub accepted : (shingle base len : ℕ) → pointFits shingle base len ≡ true → Accepted shingle base len
+unfolding pointFits
+accepted s b n h =
+    let a = both (sizesOk s b) (eqb n (dimension s b)) h in
+    let z = sizes s b (a .0) in
+    record {
+      some = z .shingle-least;
+      few = z .shingle-most;
+      wide = z .base-least;
+      narrow = z .base-most;
+      long = eqb-true n (dimension s b) (a .1) ∙ dimension-is s b (a .0);
+    }
 
 pub base-within : (s b n : ℕ) → Accepted s b n → b ≤ n
-base-within s b n a = rw (a .long) (rw one-mul at (mul-le-mul-right b (a .some)))
-
-behind : (t a b : Bool) → (not t || (a && b)) ≡ true → t ≡ true → (a ≡ true) × (b ≡ true)
-behind true a b e h = both a b e
-behind false a b e h = (cc, cc)
+base-within s b n a = rw (a .long) (base-inside s b (a .some))
 
 pub correcting : (point gap shingle base : ℕ) (h : Bool) (expected anomalous out : ℕ) → correctorFits point gap shingle base h expected anomalous out ≡ true → Correcting point gap shingle base h expected anomalous out
 unfolding correctorFits
@@ -142,11 +113,11 @@ correcting point gap shingle base h expected anomalous out e =
     let b = both _ _ (a .1) in
     let c = both _ _ (b .1) in
     record {
-      sizes = accepted shingle base point (eqb-true _ _ (a .0));
+      sizes = accepted shingle base point (a .0);
       later = ltb-true _ _ (b .0);
       out-long = eqb-true _ _ (c .0);
-      expected-long = λ t. eqb-true _ _ (behind h (eqb expected point) (eqb anomalous point) (c .1) t .0);
-      anomalous-long = λ t. eqb-true _ _ (behind h (eqb expected point) (eqb anomalous point) (c .1) t .1);
+      expected-long = λ t. last-points h point expected anomalous (c .1) t .0;
+      anomalous-long = λ t. last-points h point expected anomalous (c .1) t .1;
     }
 
 module _ (point expected : List Float) (shift : ℕ) (within : shift ≤ length point) (same : length expected ≡ length point) where
@@ -179,12 +150,12 @@ start-is point expected gap shingle base same long h =
 
 module _ (point : List Float) (shingle base : ℕ) where
   -- The part that is the newest row, and the one that is nothing.
-  pub row-is : (n : ℕ) → n ≡ pointRefusal shingle base (length point) → n ≡ 0
+  pub row-is : pointFits shingle base (length point) ≡ true
       → take (length point - (length point - base)) (drop (length point - base) point) ≡ newestRow point shingle base
   unfolding newestRow
-  row-is n e z = simp (sym e ∙ z) (take-all (length point - (length point - base)) (drop (length point - base) point) (simp length-drop (omega arith)))
+  row-is h = simp h (take-all (length point - (length point - base)) (drop (length point - base) point) (simp length-drop (omega arith)))
 
-  pub none-is : (n : ℕ) → n ≡ pointRefusal shingle base (length point) → (n ≡ 0 → ⊥)
+  pub none-is : pointFits shingle base (length point) ≡ false
       → take (length point - length point) (drop (length point) point) ≡ newestRow point shingle base
   unfolding newestRow
-  none-is n e z = simp (drop-length, take-nil, ne-eqb (pointRefusal shingle base (length point)) 0 (λ h. z (e ∙ h)))
+  none-is h = simp (drop-length, take-nil, h)

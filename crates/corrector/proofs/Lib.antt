@@ -1,4 +1,4 @@
 pub mod Laws
 pub mod Kept
-pub mod Cutoff
+pub mod Rows
 mod Cases

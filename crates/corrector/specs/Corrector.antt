@@ -2,69 +2,60 @@
 -- Each `..Fits` says where a call can be carried out; elsewhere a buffer stays as it was. Behind a no, its slices are not looked at.
 use Prim.Native.Nat.{ℕ, zero, suc, _+_, _-_, _*_}
 use mathlib.Core.Bool.{Bool, true, false, cond, not, _&&_, _||_}
-use mathlib.Core.List.{List, [], _++_}
-use lib.ListN.{length, getD, set, drop}
+use mathlib.Core.List.{List, [], _∷_, _++_}
+use lib.ListN.{length, getD, set, take, drop}
+use lib.Seq.{paste}
 use lib.Dec.{leb, ltb, eqb}
 use lib.IntN.{ℤ, pos, negsuc}
 use lib.Ieee as Ieee
-use lib.Ieee.{Float, nan, binary32, binary64}
+use lib.Ieee.{Float, nan, binary32}
 use Rattle.util.specs.Util.{absf32}
+use Rattle.ieee.specs.F32.{zero32, _>_, _+_ as _+₃₂_, _-_ as _-₃₂_, _*_ as _*₃₂_, _/_ as _/₃₂_}
+use Rattle.ieee.specs.F64.{_-_ as _-₆₄_}
 use Rattle.ieee.specs.Round.{narrow}
-use Rattle.types.specs.Refusals.{number}
 use Rattle.types.specs.declared.Refusal.the-variants.{Range, Length}
-use Rattle.corrector.specs.Const.{zero32, zero64, half64, five64, factor32, maxAttributors}
+use Rattle.types.specs.declared.Answer.{Answer}
+use Rattle.types.specs.declared.Answer.the-variants.{Done, Refused}
+use Rattle.descriptor.specs.Checks.{sizesOk, dimension, lastPointsOk}
+use Rattle.attributors.specs.Attributors.{askedIndices, padded, rowFits}
+use Rattle.corrector.specs.Const.{factor32}
+unfoldable pub use Rattle.attributors.specs.Attributors.{forUpTo}
 
--- What `for i in 0..n` makes of a, step by step.
-unfoldable pub forUpTo : {A : Type 0} → (A → ℕ → A) → A → ℕ → A
-forUpTo step a zero = a
-forUpTo step a (suc n) = step (forUpTo step a n) n
+-- for i in indices { answer[i] = prediction[i] }
+unfoldable pub predicted : List ℕ → List Float → List Float → List Float
+predicted [] prediction answer = answer
+predicted (i ∷ indices) prediction answer = predicted indices prediction (set answer i (getD prediction i nan))
 
--- high_low_sum: high and low at an index, added.
-abbrev pub highLowSum : List Float → List Float → ℕ → Float
-highLowSum high low i = Ieee.add binary64 (getD high i nan) (getD low i nan)
-
--- The n sums from position on, added up from 0.
-unfoldable pub attributionSum : List Float → List Float → ℕ → ℕ → Float
-attributionSum high low position n = forUpTo (λ sum i. Ieee.add binary64 sum (highLowSum high low (position + i))) zero64 n
-
--- The total × 0.5 / 5 that a sum must reach.
-unfoldable pub attributionLimit : List Float → List Float → ℕ → ℕ → Float
-attributionLimit high low position base = Ieee.div binary64 (Ieee.mul binary64 (attributionSum high low position base) half64) five64
-
--- Whether the sum at an index reaches the limit.
-abbrev pub reaches : List Float → List Float → Float → ℕ → Bool
-reaches high low limit i = Ieee.le limit (highLowSum high low i)
-
--- How many of the n sums from position on reach the limit.
-unfoldable pub attributors : List Float → List Float → Float → ℕ → ℕ → ℕ
-attributors high low limit position n = forUpTo (λ count i. cond (reaches high low limit (position + i)) (count + 1) count) 0 n
-
--- 1 to 5 attributors, and fewer than half of the dimensions.
-unfoldable pub fewEnough : ℕ → ℕ → Bool
-fewEnough count dimensions = ltb 0 count && (leb count maxAttributors && ltb (2 * count) dimensions)
-
--- The point with the prediction at each of the n coordinates from position on that reaches the limit.
-unfoldable pub predicted : List Float → List Float → Float → ℕ → ℕ → List Float → List Float → List Float
-predicted high low limit position n point prediction =
-    forUpTo (λ answer i. cond (reaches high low limit (position + i)) (set answer (position + i) (getD prediction (position + i) nan)) answer) point n
-
--- expected_point: with base 1 the coordinate at position is the one attributor; otherwise those of the row whose sum reaches the limit are, if they are few enough.
--- The attributors' coordinates are taken from the conditional median, all others from the point.
+-- expected_point: the point with the conditional median at the indices for which the forest is asked.
 unfoldable pub expectedPoint : List Float → List Float → ℕ → ℕ → List Float → List Float → List Float
-expectedPoint high low position base point median =
-    cond (eqb base 1)
-    (cond (fewEnough 1 (length point)) (set point position (getD median position nan)) point)
-    (let limit = attributionLimit high low position base in
-    cond (fewEnough (attributors high low limit position base) (length point)) (predicted high low limit position base point median) point)
+expectedPoint high low position base point median = predicted (askedIndices high low position base) median point
 
--- All four as long as the point, and the row of 1 to 16 coordinates from position on lies in it.
+-- The row from position on lies in the attribution, and all others are as long as this.
 unfoldable pub expectedFits : (high low position base point median out : ℕ) → Bool
-expectedFits high low position base point median out =
-    eqb high point && (eqb low point && (eqb median point && (eqb out point && (ltb 0 base && (leb base 16 && leb (position + base) point)))))
+expectedFits high low position base point median out = rowFits high low position base && (eqb point high && (eqb median high && eqb out high))
+
+-- The row of the expected point from position on, of 16 coordinates, zero where there are none; zeros where the row does not fit.
+unfoldable pub expectedRow : List Float → List Float → ℕ → ℕ → List Float → List Float → List Float
+expectedRow high low position base point median =
+    padded zero32 16
+    (cond (expectedFits (length high) (length low) position base (length point) (length median) (length point))
+    (take base (drop position (expectedPoint high low position base point median)))
+    [])
+
+-- The buffer after a row was written: the point with the row's first coordinates from start on, or as it was where something does not fit.
+unfoldable pub writeRow : List Float → ℕ → ℕ → List Float → List Float → List Float
+writeRow point start base row out = cond (rowFits (length point) (length out) start base) (paste point start row base) out
+
+-- The buffer after the step: the expected point, or as it was where something does not fit.
+abbrev pub writeExpectedPoint : List Float → List Float → ℕ → ℕ → List Float → List Float → List Float → List Float
+writeExpectedPoint high low position base point median out =
+    cond (expectedFits (length high) (length low) position base (length point) (length median) (length out))
+    (expectedPoint high low position base point median)
+    out
 
 -- sum + |a - b|, the difference narrowed.
 unfoldable pub plusDifference : Float → Float → Float → Float
-plusDifference sum a b = Ieee.add binary32 sum (absf32 (narrow (Ieee.sub binary64 a b)))
+plusDifference sum a b = sum +₃₂ absf32 (narrow (a -₆₄ b))
 
 -- How far candidate and ideal are apart in the n coordinates from start on: low, then high, of each coordinate.
 unfoldable pub differentialRemainder : List Float → List Float → List Float → List Float → ℕ → ℕ → Float
@@ -77,8 +68,8 @@ differentialRemainder high low idealHigh idealLow start n =
 -- The trigger's two tests of a remainder, for a difference below the dimensions.
 unfoldable pub exceeds : Float → ℕ → ℕ → Float → Float → Bool
 exceeds remainder dimensions difference lastScore threshold =
-    Ieee.lt (Ieee.mul binary32 factor32 lastScore) remainder
-    && Ieee.lt threshold (Ieee.div binary32 (Ieee.mul binary32 remainder (Ieee.ofInt binary32 (pos dimensions))) (Ieee.ofInt binary32 (pos difference)))
+    (remainder > factor32 *₃₂ lastScore)
+    && (remainder *₃₂ Ieee.ofInt binary32 (pos dimensions) /₃₂ Ieee.ofInt binary32 (pos difference) > threshold)
 
 -- The four slices equally long, at most 65,536, and base 1 to 65,536.
 unfoldable pub triggerFits : (high low base idealHigh idealLow : ℕ) → Bool
@@ -97,7 +88,7 @@ trigger high low gap base idealHigh idealLow hasAnomaly hasAttribution lastScore
 -- corrected[i] += anomalous[j] - expected[j]
 abbrev pub amendedAt : List Float → ℕ → List Float → List Float → ℕ → List Float
 amendedAt corrected i anomalous expected j =
-    set corrected i (Ieee.add binary32 (getD corrected i nan) (Ieee.sub binary32 (getD anomalous j nan) (getD expected j nan)))
+    set corrected i (getD corrected i nan +₃₂ (getD anomalous j nan -₃₂ getD expected j nan))
 
 -- The same for the n coordinates from `at` on, each by its fellow from `from` on.
 unfoldable pub amendedRow : List Float → ℕ → List Float → List Float → ℕ → ℕ → List Float
@@ -127,16 +118,26 @@ applyBasicCorrector point gap shingle base hasAnomaly expected anomalous relativ
     cond (ltb shingle gap || not hasAnomaly) point
     (cond (isZero relativeIndex) (amended corrected expected anomalous gap base useDifference timeAugmented) corrected)
 
--- The refusal of a point of this length: 2 for a shingle size or base out of range, then 3 for another length than their product, 0 for none.
-unfoldable pub pointRefusal : (shingle base len : ℕ) → ℕ
-pointRefusal shingle base len =
-    cond (ltb 0 shingle && (leb shingle 64 && (ltb 0 base && leb base 16))) (cond (eqb len (shingle * base)) 0 (number Length)) (number Range)
+-- Sizes in range, and a point as long as they say.
+unfoldable pub pointFits : (shingle base len : ℕ) → Bool
+pointFits shingle base len = sizesOk shingle base && eqb len (dimension shingle base)
 
--- A gap from 1 on, the point accepted, the buffer as long; behind a last anomaly its two points as well.
+-- A gap from 1 on, a point that fits, the buffer as long; behind a last anomaly its two points as well.
 unfoldable pub correctorFits : (point gap shingle base : ℕ) → Bool → (expected anomalous out : ℕ) → Bool
 correctorFits point gap shingle base hasAnomaly expected anomalous out =
-    eqb (pointRefusal shingle base point) 0 && (ltb 0 gap && (eqb out point && (not hasAnomaly || (eqb expected point && eqb anomalous point))))
+    pointFits shingle base point && (ltb 0 gap && (eqb out point && lastPointsOk hasAnomaly point expected anomalous))
+
+-- The buffer after the step: the corrected point, or as it was where something does not fit.
+abbrev pub writeCorrectedPoint : List Float → ℕ → ℕ → ℕ → Bool → List Float → List Float → ℤ → Bool → Bool → List Float → List Float
+writeCorrectedPoint point gap shingle base hasAnomaly expected anomalous relativeIndex useDifference timeAugmented out =
+    cond (correctorFits (length point) gap shingle base hasAnomaly (length expected) (length anomalous) (length out))
+    (applyBasicCorrector point gap shingle base hasAnomaly expected anomalous relativeIndex useDifference timeAugmented)
+    out
+
+-- The answer to a point of this length: refusal 2 for a size out of range, then 3 for another length.
+unfoldable pub newestRowAnswer : (shingle base len : ℕ) → Answer
+newestRowAnswer shingle base len = cond (sizesOk shingle base) (cond (eqb len (dimension shingle base)) Done (Refused Length)) (Refused Range)
 
 -- The newest row of a point, the part from dimension - base on; nothing where the point is refused.
 unfoldable pub newestRow : List Float → ℕ → ℕ → List Float
-newestRow point shingle base = cond (eqb (pointRefusal shingle base (length point)) 0) (drop (length point - base) point) []
+newestRow point shingle base = cond (pointFits shingle base (length point)) (drop (length point - base) point) []

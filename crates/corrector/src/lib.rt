@@ -1,33 +1,18 @@
 // expected_point, trigger and apply_basic_corrector of trcf/predictorcorrector.rs on lent slices, and the newest row of a point.
 // Each takes every input: where slices or sizes do not fit, a buffer stays as it was, and the trigger says true. NaN and infinities are taken as they come.
+use attributors::Missing;
+use types::Answer;
+use types::Refusal;
 ghost use mathlib.Core.Path.{_≡_};
-ghost use mathlib.Core.Bool.{true, cond};
+ghost use mathlib.Core.Bool.{true};
+ghost use mathlib.Core.List.{[]};
 ghost use Prim.Native.Nat.{_+_, _-_, _*_, _<_, _≤_};
-ghost use lib.ListN.{length, drop};
+ghost use lib.ListN.{length, take, drop};
 ghost use lib.Seq.{paste};
+ghost use Rattle.ieee.specs.F32.{zero32};
+ghost use Rattle.attributors.specs.Attributors.{padded};
 ghost use Rattle.corrector.specs.Corrector as Corrector;
 ghost use Rattle.corrector.specs.Steps as Steps;
-
-// One more where the test holds.
-fn bump(n: usize, test: bool) -> usize
-    requires { ⌜ n < 65536 ⌝ }
-    ensures { λ r. ⌜ r ≡ cond test (n + 1) n ⌝ ∗ ⌜ r ≤ n + 1 ⌝ }
-{
-    if test {
-        return n + 1;
-    }
-    n
-}
-
-// a where the test holds, else b.
-fn select(test: bool, a: f32, b: f32) -> f32
-    ensures { λ r. ⌜ r ≡ cond test a b ⌝ }
-{
-    if test {
-        return a;
-    }
-    b
-}
 
 // Writes n elements of source, from `from` on, over those of out from `at` on.
 fn copy_part(out: &mut [f32], at: usize, source: &[f32], from: usize, n: usize)
@@ -54,146 +39,92 @@ fn expected_fits(
 ) -> bool
     ensures { λ r. ⌜ r ≡ Corrector.expectedFits high low position base point median out ⌝ }
 {
-    if high == point {
-        if low == point {
-            if median == point {
-                if out == point {
-                    if 0 < base {
-                        if base <= 16 {
-                            if base <= point {
-                                if position <= point - base {
-                                    return true;
-                                }
-                                return false;
-                            }
-                            return false;
-                        }
-                        return false;
-                    }
-                    return false;
-                }
-                return false;
-            }
-            return false;
-        }
-        return false;
-    }
-    false
+    attributors::row_fits(high, low, position, base)
+        & ((point == high) & ((median == high) & (out == high)))
 }
 
-// The sum of high and low over the row.
-fn attribution_sum(high: &[f64], low: &[f64], position: usize, base: usize) -> f64
-    requires { ⌜ position + base ≤ length (now high) ⌝ }
-    requires { ⌜ position + base ≤ length (now low) ⌝ }
-    ensures { λ r. ⌜ r ≡ Corrector.attributionSum (now (high .entry)) (now (low .entry)) position base ⌝ }
+// No row.
+fn no_row() -> [f32; 16]
+    ensures { λ r. ⌜ r ≡ padded zero32 16 [] ⌝ }
 {
-    let mut sum = 0.0f64;
-    let mut i = 0usize;
-    while i < base {
-        let at = position + i;
-        sum = sum + (high[at] + low[at]);
-        i += 1;
-    }
-    sum
+    [0.0f32; 16]
 }
 
-// The tenth of it that an attributor must reach: half, over the most attributors.
-fn attribution_limit(high: &[f64], low: &[f64], position: usize, base: usize) -> f64
-    requires { ⌜ position + base ≤ length (now high) ⌝ }
-    requires { ⌜ position + base ≤ length (now low) ⌝ }
-    ensures { λ r. ⌜ r ≡ Corrector.attributionLimit (now (high .entry)) (now (low .entry)) position base ⌝ }
-{
-    attribution_sum(high, low, position, base) * 0.5 / 5.0
-}
-
-// How many coordinates of the row reach the limit.
-fn attributors(high: &[f64], low: &[f64], limit: f64, position: usize, base: usize) -> usize
-    requires { ⌜ position + base ≤ length (now high) ⌝ }
-    requires { ⌜ position + base ≤ length (now low) ⌝ }
+// The row of the point from `start` on.
+fn row_at(point: &[f32], start: usize, base: usize) -> [f32; 16]
+    requires { ⌜ start + base ≤ length (now point) ⌝ }
     requires { ⌜ base ≤ 16 ⌝ }
-    ensures { λ r. ⌜ r ≡ Corrector.attributors (now (high .entry)) (now (low .entry)) limit position base ⌝ ∗ ⌜ r ≤ base ⌝ }
+    ensures { λ r. ⌜ r ≡ padded zero32 16 (take base (drop start (now (point .entry)))) ⌝ }
 {
-    let mut count = 0usize;
+    let mut row = no_row();
     let mut i = 0usize;
     while i < base {
-        let at = position + i;
-        count = bump(count, high[at] + low[at] >= limit);
+        row[i] = point[start + i];
         i += 1;
     }
-    count
+    row
 }
 
-// Whether so many attributors are replaced by a prediction.
-fn few_enough(count: usize, dimensions: usize) -> bool
-    requires { ⌜ count ≤ 16 ⌝ }
-    ensures { λ r. ⌜ r ≡ Corrector.fewEnough count dimensions ⌝ }
+// The row that starts at `start`, with the prediction at each of the missing indices.
+fn predict(row: [f32; 16], start: usize, missing: Missing, prediction: &[f32]) -> [f32; 16]
+    requires { ⌜ Steps.Missed missing start (length (now prediction)) ⌝ }
+    ensures { λ r. ⌜ r ≡ Steps.predictedRow start (take (missing .count) (missing .indices)) (now (prediction .entry)) row ⌝ }
 {
-    if 0 < count {
-        if count <= 5 {
-            return 2 * count < dimensions;
-        }
-        return false;
+    let indices = missing.indices;
+    let mut out = row;
+    let mut k = 0usize;
+    while k < missing.count {
+        let at = indices[k];
+        out[at - start] = prediction[at];
+        k += 1;
     }
-    false
+    out
 }
 
-// Writes the prediction over each coordinate of the row that reaches the limit.
-fn predict(
+// The row of the expected point from `start` on, zeros behind it: what is expected there where few of its coordinates account for the score. Zeros where
+// something does not fit.
+pub fn expected_row(
     high: &[f64],
     low: &[f64],
-    limit: f64,
-    position: usize,
-    base: usize,
-    prediction: &[f32],
-    answer: &mut [f32],
-)
-    requires { ⌜ position + base ≤ length (now high) ⌝ }
-    requires { ⌜ position + base ≤ length (now low) ⌝ }
-    requires { ⌜ position + base ≤ length (now prediction) ⌝ }
-    requires { ⌜ position + base ≤ length (now answer) ⌝ }
-    ensures { λ _. ⌜ now (answer .exit) ≡ Corrector.predicted (now (high .entry)) (now (low .entry)) limit position base (now (answer .entry)) (now (prediction .entry)) ⌝ }
-{
-    let mut i = 0usize;
-    while i < base {
-        let at = position + i;
-        answer[at] = select(high[at] + low[at] >= limit, prediction[at], answer[at]);
-        i += 1;
-    }
-}
-
-// The expected point, for slices that fit.
-fn expect(
-    high: &[f64],
-    low: &[f64],
-    position: usize,
+    start: usize,
     base_dimension: usize,
     point: &[f32],
     median: &[f32],
-    out: &mut [f32],
-)
-    requires { ⌜ Steps.Expecting (length (now high)) (length (now low)) position «base_dimension» (length (now point)) (length (now median)) (length (now out)) ⌝ }
-    ensures { λ _. ⌜ now (out .exit) ≡ Corrector.expectedPoint (now (high .entry)) (now (low .entry)) position «base_dimension» (now (point .entry)) (now (median .entry)) ⌝ }
+) -> [f32; 16]
+    ensures { λ r. ⌜ r ≡ Corrector.expectedRow (now (high .entry)) (now (low .entry)) start «base_dimension» (now (point .entry)) (now (median .entry)) ⌝ }
 {
-    copy_part(out, 0, point, 0, point.len());
-    if base_dimension == 1 {
-        if few_enough(1, point.len()) {
-            out[position] = median[position];
-            return;
-        }
-        return;
-    }
-    let limit = attribution_limit(high, low, position, base_dimension);
-    if few_enough(
-        attributors(high, low, limit, position, base_dimension),
-        point.len(),
+    let d = point.len();
+    if expected_fits(
+        high.len(),
+        low.len(),
+        start,
+        base_dimension,
+        d,
+        median.len(),
+        d,
     ) {
-        predict(high, low, limit, position, base_dimension, median, out);
+        let missing = attributors::asked_indices(high, low, start, base_dimension);
+        let row = row_at(point, start, base_dimension);
+        return predict(row, start, missing, median);
+    }
+    no_row()
+}
+
+// Writes the point with a row of it, from `start` on, replaced by the first `base` coordinates of another. Leaves `out` alone unless it is as long as the
+// point, and 1 to 16 coordinates from `start` on lie in it.
+pub fn write_row(point: &[f32], start: usize, base: usize, row: [f32; 16], out: &mut [f32])
+    ensures { λ _. ⌜ now (out .exit) ≡ Corrector.writeRow (now (point .entry)) start base row (now (out .entry)) ⌝ }
+{
+    if attributors::row_fits(point.len(), out.len(), start, base) {
+        copy_part(out, 0, point, 0, point.len());
+        copy_part(out, start, &row, 0, base);
         return;
     }
 }
 
-// The point that was expected: where few coordinates of the row at position account for the score, the conditional median there.
-pub fn expected_point(
+// Writes the point that was expected: where few coordinates of the row at position account for the score, the conditional median there.
+// Leaves `out` alone where something does not fit.
+pub fn write_expected_point(
     high: &[f64],
     low: &[f64],
     position: usize,
@@ -202,7 +133,9 @@ pub fn expected_point(
     median: &[f32],
     out: &mut [f32],
 )
-    ensures { λ _. ⌜ now (out .exit) ≡ cond (Corrector.expectedFits (length (now (high .entry))) (length (now (low .entry))) position «base_dimension» (length (now (point .entry))) (length (now (median .entry))) (length (now (out .entry)))) (Corrector.expectedPoint (now (high .entry)) (now (low .entry)) position «base_dimension» (now (point .entry)) (now (median .entry))) (now (out .entry)) ⌝ }
+    ensures { λ _. ⌜ now (out .exit) ≡ Corrector.writeExpectedPoint
+        (now (high .entry)) (now (low .entry)) position «base_dimension»
+        (now (point .entry)) (now (median .entry)) (now (out .entry)) ⌝ }
 {
     if expected_fits(
         high.len(),
@@ -213,38 +146,19 @@ pub fn expected_point(
         median.len(),
         out.len(),
     ) {
-        expect(high, low, position, base_dimension, point, median, out);
+        let row = expected_row(high, low, position, base_dimension, point, median);
+        write_row(point, position, base_dimension, row, out);
         return;
     }
 }
 
-// Whether the trigger's slices fit.
-fn trigger_fits(
-    high: &[f64],
-    low: &[f64],
-    base: usize,
-    ideal_high: &[f64],
-    ideal_low: &[f64],
-) -> bool
-    ensures { λ r. ⌜ r ≡ Corrector.triggerFits (length (now (high .entry))) (length (now (low .entry))) base (length (now («ideal_high» .entry))) (length (now («ideal_low» .entry))) ⌝ }
+// Whether the trigger's slices, of these lengths, fit.
+fn trigger_fits(high: usize, low: usize, base: usize, ideal_high: usize, ideal_low: usize) -> bool
+    ensures { λ r. ⌜ r ≡ Corrector.triggerFits high low base «ideal_high» «ideal_low» ⌝ }
 {
-    let d = high.len();
-    if low.len() == d {
-        if ideal_high.len() == d {
-            if ideal_low.len() == d {
-                if d <= 65536 {
-                    if 0 < base {
-                        return base <= 65536;
-                    }
-                    return false;
-                }
-                return false;
-            }
-            return false;
-        }
-        return false;
-    }
-    false
+    (low == high)
+        & ((ideal_high == high)
+            & ((ideal_low == high) & ((high <= 65536) & ((0 < base) & (base <= 65536)))))
 }
 
 // sum + |a - b|, the difference narrowed first.
@@ -354,7 +268,10 @@ pub fn trigger(
 {
     if has_anomaly {
         if has_attribution {
-            if trigger_fits(high, low, base_dimension, ideal_high, ideal_low) {
+            let h = high.len();
+            let i = ideal_high.len();
+            let j = ideal_low.len();
+            if trigger_fits(h, low.len(), base_dimension, i, j) {
                 return compare(
                     high,
                     low,
@@ -373,26 +290,12 @@ pub fn trigger(
     true
 }
 
-// The refusal's number of a point so long, or 0.
-fn point_refusal(shingle_size: usize, base_dimension: usize, len: usize) -> u8
-    ensures { λ r. ⌜ r ≡ Corrector.pointRefusal «shingle_size» «base_dimension» len ⌝ }
+// Whether the sizes are in range, and a point so long is as long as they say.
+fn point_fits(shingle_size: usize, base_dimension: usize, len: usize) -> bool
+    ensures { λ r. ⌜ r ≡ Corrector.pointFits «shingle_size» «base_dimension» len ⌝ }
 {
-    if 0 < shingle_size {
-        if shingle_size <= 64 {
-            if 0 < base_dimension {
-                if base_dimension <= 16 {
-                    if len == shingle_size * base_dimension {
-                        return 0;
-                    }
-                    return 3;
-                }
-                return 2;
-            }
-            return 2;
-        }
-        return 2;
-    }
-    2
+    descriptor::sizes_ok(shingle_size, base_dimension)
+        & (len == descriptor::dimension(shingle_size, base_dimension))
 }
 
 // Whether the corrector's slices, of these lengths, fit.
@@ -408,22 +311,10 @@ fn corrector_fits(
 ) -> bool
     ensures { λ r. ⌜ r ≡ Corrector.correctorFits point gap «shingle_size» «base_dimension» «has_anomaly» expected anomalous out ⌝ }
 {
-    if point_refusal(shingle_size, base_dimension, point) == 0 {
-        if 0 < gap {
-            if out == point {
-                if has_anomaly {
-                    if expected == point {
-                        return anomalous == point;
-                    }
-                    return false;
-                }
-                return true;
-            }
-            return false;
-        }
-        return false;
-    }
-    false
+    point_fits(shingle_size, base_dimension, point)
+        & ((0 < gap)
+            & ((out == point)
+                & descriptor::last_points_ok(has_anomaly, point, expected, anomalous)))
 }
 
 // corrected[i] += anomalous[j] - expected[j] for the n coordinates from `at` and from `from` on.
@@ -538,8 +429,9 @@ fn correct(
     copy_part(out, 0, point, 0, point.len());
 }
 
-// The point as it would be had the last anomaly not been: its rows as they were expected, and what was differenced against it put right.
-pub fn apply_basic_corrector(
+// Writes the point as it would be had the last anomaly not been: its rows as they were expected, and what was differenced against it put right.
+// Leaves `out` alone where something does not fit or the gap is 0.
+pub fn write_corrected_point(
     point: &[f32],
     gap: usize,
     shingle_size: usize,
@@ -552,7 +444,10 @@ pub fn apply_basic_corrector(
     time_augmented: bool,
     out: &mut [f32],
 )
-    ensures { λ _. ⌜ now (out .exit) ≡ cond (Corrector.correctorFits (length (now (point .entry))) gap «shingle_size» «base_dimension» «has_anomaly» (length (now («last_expected» .entry))) (length (now («last_anomalous» .entry))) (length (now (out .entry)))) (Corrector.applyBasicCorrector (now (point .entry)) gap «shingle_size» «base_dimension» «has_anomaly» (now («last_expected» .entry)) (now («last_anomalous» .entry)) «relative_index» «use_difference» «time_augmented») (now (out .entry)) ⌝ }
+    ensures { λ _. ⌜ now (out .exit) ≡ Corrector.writeCorrectedPoint
+        (now (point .entry)) gap «shingle_size» «base_dimension» «has_anomaly»
+        (now («last_expected» .entry)) (now («last_anomalous» .entry))
+        «relative_index» «use_difference» «time_augmented» (now (out .entry)) ⌝ }
 {
     let d = point.len();
     let e = last_expected.len();
@@ -576,18 +471,24 @@ pub fn apply_basic_corrector(
     }
 }
 
-// The newest row, a part of the caller's own point; nothing where it is refused. The refusal's number, or 0, is written.
-pub fn newest_row<'a, 'b>(
-    point: &'a [f32],
-    shingle_size: usize,
-    base_dimension: usize,
-    refusal: &'b mut u8,
-) -> &'a [f32]
-    ensures { λ r. ⌜ now r ≡ Corrector.newestRow (now (point .entry)) «shingle_size» «base_dimension» ⌝ ∗ ⌜ now (refusal .exit) ≡ Corrector.pointRefusal «shingle_size» «base_dimension» (length (now (point .entry))) ⌝ }
+// How `newest_row` answers a point so long: refusal 2, then 3.
+pub fn newest_row_answer(shingle_size: usize, base_dimension: usize, len: usize) -> Answer
+    ensures { λ r. ⌜ r ≡ Corrector.newestRowAnswer «shingle_size» «base_dimension» len ⌝ }
 {
-    let n = point_refusal(shingle_size, base_dimension, point.len());
-    *refusal = n;
-    if n == 0 {
+    if descriptor::sizes_ok(shingle_size, base_dimension) {
+        if len == descriptor::dimension(shingle_size, base_dimension) {
+            return Answer::Done;
+        }
+        return Answer::Refused(Refusal::Length);
+    }
+    Answer::Refused(Refusal::Range)
+}
+
+// The newest row, a part of the caller's own point; empty where `newest_row_answer` refuses, which an accepted row never is.
+pub fn newest_row(point: &[f32], shingle_size: usize, base_dimension: usize) -> &[f32]
+    ensures { λ r. ⌜ now r ≡ Corrector.newestRow (now (point .entry)) «shingle_size» «base_dimension» ⌝ }
+{
+    if point_fits(shingle_size, base_dimension, point.len()) {
         let at = point.len() - base_dimension;
         return &point[at..];
     }

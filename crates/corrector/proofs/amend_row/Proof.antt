@@ -5,7 +5,7 @@ use lib.ListN.{length, length-set}
 use borrow.Author.Needs.{needs}
 use denote.Ref.{now}
 use Rattle.corrector.specs.Corrector.{amendedRow, forUpTo}
-use Rattle.corrector.proofs.Laws.{for-more, at-end}
+use Rattle.attributors.proofs.Laws.{for-more, at-end}
 use Rattle.corrector.proofs.amend_row.Statement.{statement}
 use Rattle.corrector.proofs.amend_row.Tie as tie
 

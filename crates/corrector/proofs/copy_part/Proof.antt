@@ -6,7 +6,8 @@ use lib.ListN.{length, drop, length-set}
 use lib.Seq.{paste, paste-zero}
 use borrow.Author.Needs.{needs}
 use denote.Ref.{now}
-use Rattle.corrector.proofs.Laws.{paste-more, at-end}
+use Rattle.attributors.proofs.Laws.{at-end}
+use Rattle.corrector.proofs.Laws.{paste-more}
 use Rattle.corrector.proofs.copy_part.Statement.{statement}
 use Rattle.corrector.proofs.copy_part.Tie as tie
 

@@ -4,7 +4,7 @@ use native.Mathlib.Omega.{arith}
 use borrow.Author.Needs.{needs}
 use denote.Ref.{now}
 use Rattle.corrector.specs.Corrector.{differentialRemainder, forUpTo}
-use Rattle.corrector.proofs.Laws.{for-more, at-end}
+use Rattle.attributors.proofs.Laws.{for-more, at-end}
 use Rattle.corrector.proofs.differential_remainder.Statement.{statement}
 use Rattle.corrector.proofs.differential_remainder.Tie as tie
 

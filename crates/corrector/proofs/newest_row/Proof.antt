@@ -6,13 +6,13 @@ use Rattle.corrector.proofs.Laws.{row-is, none-is, accepted, base-withi
 use Rattle.corrector.proofs.newest_row.Statement.{statement}
 use Rattle.corrector.proofs.newest_row.Tie as tie
 
-point-refusal-requires : tie.Need-point-refusal-requires
-point-refusal-requires c κs = search needs
+point-fits-requires : tie.Need-point-fits-requires
+point-fits-requires c κs = search needs
 
 sub-at : tie.Need-sub-at
 sub-at c =
     let a = c .before .before .before .args in
-    base-within (a .shingle-size) (a .base-dimension) _ (accepted (a .shingle-size) (a .base-dimension) (length (now (a .point))) (sym (c .before .point-refusal .ensures) ∙ c .if1 .taken))
+    base-within (a .shingle-size) (a .base-dimension) _ (accepted (a .shingle-size) (a .base-dimension) (length (now (a .point))) (sym (c .before .point-fits .ensures) ∙ c .if1 .taken))
 
 mul-result : tie.Need-mul-result
 mul-result c = search needs
@@ -29,7 +29,7 @@ part-result-end c = search needs
 returns : tie.Need-returns
 returns c =
     let a = c .before .before .before .before .args in
-    (row-is (now (a .point)) (a .shingle-size) (a .base-dimension) _ (c .before .before .point-refusal .ensures) (c .before .if1 .taken), c .before .before .point-refusal .ensures)
+    row-is (now (a .point)) (a .shingle-size) (a .base-dimension) (sym (c .before .before .point-fits .ensures) ∙ c .before .if1 .taken)
 
 mul-result-2 : tie.Need-mul-result-2
 mul-result-2 c = search needs
@@ -46,13 +46,13 @@ part-result-end-2 c = search needs
 returns-2 : tie.Need-returns-2
 returns-2 c =
     let a = c .before .before .before .before .args in
-    (none-is (now (a .point)) (a .shingle-size) (a .base-dimension) _ (c .before .before .point-refusal .ensures) (c .before .if1 .left), c .before .before .point-refusal .ensures)
+    none-is (now (a .point)) (a .shingle-size) (a .base-dimension) (sym (c .before .before .point-fits .ensures) ∙ c .before .if1 .left)
 
 pub newest-row-spec : {M : Type 1} → statement M
 newest-row-spec =
     tie.close
     (tie.spec
-    point-refusal-requires
+    point-fits-requires
     sub-at
     mul-result
     sub-result

@@ -1,7 +1,7 @@
 use borrow.Author.Needs.{needs}
-use Rattle.corrector.specs.Corrector.{attributionLimit}
-use Rattle.corrector.proofs.attribution_limit.Statement.{statement}
-use Rattle.corrector.proofs.attribution_limit.Tie as tie
+use Rattle.attributors.specs.Attributors.{attributionLimit}
+use Rattle.attributors.proofs.attribution_limit.Statement.{statement}
+use Rattle.attributors.proofs.attribution_limit.Tie as tie
 
 attribution-sum-requires : tie.Need-attribution-sum-requires
 attribution-sum-requires c κs = search needs

@@ -3,10 +3,10 @@ use Prim.Native.Nat.{_-_, _≤_}
 use native.Mathlib.Omega.{arith}
 use borrow.Author.Needs.{needs}
 use denote.Ref.{now}
-use Rattle.corrector.specs.Corrector.{attributionSum, forUpTo}
-use Rattle.corrector.proofs.Laws.{for-more, at-end}
-use Rattle.corrector.proofs.attribution_sum.Statement.{statement}
-use Rattle.corrector.proofs.attribution_sum.Tie as tie
+use Rattle.attributors.specs.Attributors.{attributionSum, forUpTo}
+use Rattle.attributors.proofs.Laws.{for-more, at-end}
+use Rattle.attributors.proofs.attribution_sum.Statement.{statement}
+use Rattle.attributors.proofs.attribution_sum.Tie as tie
 
 abbrev Inv-loop : tie.InvT-loop
 Inv-loop high low position base sum₀ i₀ sum i = (i ≤ base) × (sum ≡ attributionSum high low position i)

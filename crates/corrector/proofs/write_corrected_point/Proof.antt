@@ -3,8 +3,8 @@ use borrow.Author.Needs.{needs}
 use mir.Syntax.{w32}
 use mir.ValLaws.{toZ-ofZ}
 use Rattle.corrector.proofs.Laws.{correcting}
-use Rattle.corrector.proofs.apply_basic_corrector.Statement.{statement}
-use Rattle.corrector.proofs.apply_basic_corrector.Tie as tie
+use Rattle.corrector.proofs.write_corrected_point.Statement.{statement}
+use Rattle.corrector.proofs.write_corrected_point.Tie as tie
 
 corrector-fits-requires : tie.Need-corrector-fits-requires
 corrector-fits-requires c κs = search needs
@@ -21,6 +21,6 @@ returns c = simp (sym (c .before .before .before .before .before .corrector-fits
 returns-2 : tie.Need-returns-2
 returns-2 c = simp (sym (c .before .corrector-fits .ensures) ∙ c .if1 .left)
 
-pub apply-basic-corrector-spec : {M : Type 1} → statement M
-apply-basic-corrector-spec =
+pub write-corrected-point-spec : {M : Type 1} → statement M
+write-corrected-point-spec =
     tie.close (tie.spec corrector-fits-requires correct-requires same-length returns returns-2)

@@ -1,0 +1,2 @@
+pub mod Const
+pub mod Attributors
