@@ -8,7 +8,7 @@ use lib.Dec.{eqb, leb}
 use lib.IntN.{ℤ}
 use lib.ListN.{length, getD}
 use lib.Ieee.{Float}
-use Rattle.types.specs.Refusals.{number}
+use Rattle.types.specs.Refusals.{number, answered}
 use Rattle.types.specs.declared.Refusal.the-variants.{Range, Length}
 use Rattle.divector.specs.DiVector.{normalized}
 use Rattle.descriptor.specs.Checks.{sizesOk, rangeOk}
@@ -18,7 +18,7 @@ use Rattle.detection.specs.Judging.{expected}
 use Rattle.detection.specs.Judged.{outcome, outcomeNumber, stateAfter, indexAfter, written}
 use Rattle.detection.specs.declared.Outcome.{Outcome}
 use Rattle.detection.specs.declared.Outcome.the-variants.{Refused}
-use Rattle.corrector.specs.Corrector.{pointRefusal}
+use Rattle.corrector.specs.Corrector.{newestRowAnswer}
 use Rattle.layout.specs.Numbers.{le4, bytes8}
 use Rattle.layout.specs.Chain.{readState}
 use Rattle.layout.specs.Readings.{readReading, readLast}
@@ -78,7 +78,8 @@ module _ (state reading last : List ℕ) (b : Lent) where
 -- The newest row's place in the caller's own point: the sizes and the point's length are refused before the slice that takes the place.
 unfoldable pub newestAnswer : (shingle base point out : ℕ) → ℕ
 newestAnswer shingle base point out =
-    cond (eqb (pointRefusal shingle base point) 0) (cond (eqb out 8) 0 (number Length)) (pointRefusal shingle base point)
+    let n = answered (newestRowAnswer shingle base point) in
+    cond (eqb n 0) (cond (eqb out 8) 0 (number Length)) n
 
 unfoldable pub newestBytes : (shingle base point : ℕ) → List ℕ → List ℕ
 newestBytes shingle base point out = cond (eqb (newestAnswer shingle base point (length out)) 0) (bytes8 (point - base)) out

@@ -137,15 +137,14 @@ pub extern "C" fn krcf_newest_row(
 ) -> u8
     ensures { λ r. ⌜ (r ≡ Judging.newestAnswer «shingle_size» «base_dimension» (length (now (point .entry))) (length (now (out .entry)))) × (now (out .exit) ≡ Judging.newestBytes «shingle_size» «base_dimension» (length (now (point .entry))) (now (out .entry))) ⌝ }
 {
-    let mut refusal = 0u8;
-    let row = corrector::newest_row(point, shingle_size, base_dimension, &mut refusal);
-    let start = point.len() - row.len();
-    if refusal == 0 {
+    let number = corrector::newest_row_answer(shingle_size, base_dimension, point.len()).number();
+    if number == 0 {
         if out.len() == 8 {
-            layout::write_u64(out, start as u64);
+            let row = corrector::newest_row(point, shingle_size, base_dimension);
+            layout::write_u64(out, (point.len() - row.len()) as u64);
             return 0;
         }
         return LENGTH;
     }
-    refusal
+    number
 }

@@ -83,7 +83,7 @@ pub fn expected_point(
     );
     match answer {
         Answer::Done => {
-            corrector::expected_point(high, low, position, base, point, median, out);
+            corrector::write_expected_point(high, low, position, base, point, median, out);
             answer
         }
         Answer::Refused(_) => answer,
@@ -165,7 +165,7 @@ pub fn apply_basic_corrector(
     );
     match answer {
         Answer::Done => {
-            corrector::apply_basic_corrector(
+            corrector::write_corrected_point(
                 point,
                 gap,
                 shingle_size,

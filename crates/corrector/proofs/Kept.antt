@@ -1,6 +1,6 @@
 -- For callers: what the expected and the corrected point keep of the point, and that sizes which fit are taken. Assumes nothing.
 use mathlib.Core.Path.{_≡_, refl, sym, _∙_}
-use mathlib.Core.Bool.{Bool, true, false, cond, not, _||_}
+use mathlib.Core.Bool.{Bool, true, false, cond, not, _&&_, _||_}
 use mathlib.Core.Logic.{_⊎_, inl, inr}
 use mathlib.Core.List.{List, [], _∷_}
 use Prim.Native.Nat.{ℕ, zero, suc, _+_, _*_, _<_, _≤_, _-_}
@@ -12,10 +12,12 @@ use lib.Dec.{ltb, eqb}
 use lib.IntN.{ℤ}
 use borrow.Author.Tests.{eqb-true, eq-eqb, le-leb, lt-ltb, ltb-true}
 use lib.Ieee.{Float, nan}
-use Rattle.types.specs.declared.Answer.the-variants.{Done}
+use Rattle.types.specs.Refusals.{answered}
+use Rattle.types.specs.declared.Refusal.the-variants.{Range, Length}
+use Rattle.types.specs.declared.Answer.the-variants.{Done, Refused}
 use Rattle.descriptor.specs.Checks.{sizesOk, dimension, lastPointsOk}
 use Rattle.attributors.specs.Attributors.{askedIndices, asked, missing}
-use Rattle.attributors.proofs.Laws.{Within, asked-within, Row, row-fits, asked-row, both}
+use Rattle.attributors.proofs.Laws.{Within, asked-within, Row, row-fits, asked-row}
 use Rattle.corrector.specs.Corrector.{forUpTo, predicted, expectedPoint, expectedFits, triggerFits, pointFits, correctorFits, shifted, amendedRow, amended, isZero, applyBasicCorrector, newestRowAnswer}
 use Rattle.corrector.specs.Steps.{Expecting, Triggering, Accepted, Correcting}
 
@@ -117,9 +119,12 @@ corrects point gap shingle base true expected anomalous out f =
     simp (accepts _ _ _ (f .sizes), lt-ltb _ _ (f .later), eq-eqb _ _ (f .out-long), eq-eqb _ _ (f .expected-long refl), eq-eqb _ _ (f .anomalous-long refl))
 corrects point gap shingle base false expected anomalous out f = simp (accepts _ _ _ (f .sizes), lt-ltb _ _ (f .later), eq-eqb _ _ (f .out-long))
 
--- A point that fits is accepted.
-pub accepted-row : (shingle base len : ℕ) → pointFits shingle base len ≡ true → newestRowAnswer shingle base len ≡ Done
+-- A point whose answer is no refusal fits.
+pub fits-answered : (shingle base len : ℕ) → answered (newestRowAnswer shingle base len) ≡ 0 → pointFits shingle base len ≡ true
 unfolding pointFits newestRowAnswer
-accepted-row shingle base len h =
-    let a = both (sizesOk shingle base) (eqb len (dimension shingle base)) h in
-    simp (a .0, a .1)
+fits-answered shingle base len = by-tests (sizesOk shingle base) (eqb len (dimension shingle base))
+  where
+    by-tests : (t u : Bool) → answered (cond t (cond u Done (Refused Length)) (Refused Range)) ≡ 0 → (t && u) ≡ true
+    by-tests true true h = refl
+    by-tests true false h = absurd (omega arith)
+    by-tests false u h = absurd (omega arith)

@@ -106,7 +106,7 @@ fn noise_pass(
     let anomaly = l.anomaly;
     let d = point.len();
     let mut work = zeros();
-    corrector::apply_basic_corrector(
+    corrector::write_corrected_point(
         point,
         gap,
         r.shingle_size,
@@ -332,7 +332,7 @@ fn expected_exits(
     let base = r.base_dimension;
     let d = point.len();
     let mut work = zeros();
-    corrector::expected_point(high, low, start, base, point, median, &mut work[..d]);
+    corrector::write_expected_point(high, low, start, base, point, median, &mut work[..d]);
     if uncertainty_box::within_unertainty_box(&edges[..base], start, scale, point, &work[..d]) {
         return without_row(Outcome::Accepted(Verdict::Corrected(
             threshold,

@@ -124,7 +124,7 @@ fn corrected(gap: usize) {
     let expected = [5.0f32, 6.0, 7.0, 8.0];
     let anomalous = [5.0f32, 6.0, 7.0, 18.0];
     let mut out = [0.0f32; 4];
-    corrector::apply_basic_corrector(
+    corrector::write_corrected_point(
         &point,
         gap,
         4,
@@ -160,21 +160,20 @@ fn steps() {
     end();
 }
 
-// The number that the newest row of a point gets.
-fn sized(point: &[f32], shingle_size: usize, base: usize) {
-    let mut number = 0u8;
-    corrector::newest_row(point, shingle_size, base, &mut number);
-    whole(number as u64);
+// The number that the newest row of a point so long gets.
+fn sized(shingle_size: usize, base: usize, len: usize) {
+    let answer = corrector::newest_row_answer(shingle_size, base, len);
+    whole(answer.number() as u64);
     end();
 }
 
 fn sizes() {
     io::write_all(1, b"shingle 64, base 16:");
-    sized(&[0.0f32; 1024], 64, 16);
+    sized(64, 16, 1024);
     io::write_all(1, b"shingle 65, base 16:");
-    sized(&[0.0f32; 1040], 65, 16);
+    sized(65, 16, 1040);
     io::write_all(1, b"shingle 64, base 17:");
-    sized(&[0.0f32; 1088], 64, 17);
+    sized(64, 17, 1088);
     io::write_all(1, b"horizon 1:");
     let set = fresh().set_score_differencing(1.0);
     let answer = set.answer;

@@ -11,7 +11,8 @@ use Rattle.deviation.specs.Statistics.{update, countable, next, factor, isEmpty
 use Rattle.basicthresholder.specs.Grades.{thresholdAndGrade, thresholdAndGradeWithFactor, isDeviationReady, countsReady, thresholdFrom, absoluteOf, easedAbsolute, intermediateFraction, surpriseIndex, gradeAgainst, gradedOr, sixteenths}
 use Rattle.basicthresholder.specs.Updates.{setScoreDifferencing, isHorizon}
 use Rattle.divector.specs.DiVector.{maxGapContribution, badBlocks, firstBlock, winner, bestFrom, blockSum, pairSum, normalized, totalOf, sumFrom, share}
-use Rattle.corrector.specs.Corrector.{applyBasicCorrector, amended, amendedRow, shifted, forUpTo, pointRefusal}
+use Rattle.corrector.specs.Corrector.{applyBasicCorrector, amended, amendedRow, shifted, forUpTo, newestRowAnswer}
+use Rattle.descriptor.specs.Checks.{sizesOk, dimension}
 use Rattle.uncertainty_box.specs.Box.{pathDeviation, pathLoop, pathMean, pathStep}
 use Rattle.drill_sheet.specs.DrillSheet.{Row, Holds, sheet, Statement}
 
@@ -40,7 +41,7 @@ unfolding ofBits ofInt sub mul div le floor sqrt maxf32 minf32 absf32
     thresholdAndGrade thresholdAndGradeWithFactor isDeviationReady countsReady thresholdFrom absoluteOf easedAbsolute intermediateFraction surpriseIndex gradeAgainst gradedOr sixteenths
     setScoreDifferencing isHorizon
     maxGapContribution badBlocks firstBlock winner bestFrom blockSum pairSum normalized totalOf sumFrom share
-    applyBasicCorrector amended amendedRow shifted forUpTo pointRefusal
+    applyBasicCorrector amended amendedRow shifted forUpTo newestRowAnswer sizesOk dimension
     pathDeviation pathLoop pathMean pathStep
 computed discount true method shingle timed = refl
 computed discount false method shingle timed = refl

@@ -18,7 +18,7 @@ use Rattle.divector.specs.declared.Block.{Block}
 use Rattle.divector.specs.declared.Block.the-variants.{At}
 use Rattle.divector.specs.DiVector.{maxGapContribution, normalized}
 use Rattle.uncertainty_box.specs.Box.{pathDeviation}
-use Rattle.corrector.specs.Corrector.{applyBasicCorrector, pointRefusal}
+use Rattle.corrector.specs.Corrector.{applyBasicCorrector, newestRowAnswer}
 
 -- A row: what the definitions give, and what document 01 says.
 pub record Row : Type 1 where
@@ -112,9 +112,9 @@ sheet discount adjust method shingle timed =
     ∷ (path false gives f32 5 2)
     ∷ (path true gives f32 2 1)
     -- "Shingle 64 and base 16 accepted; 65 or 17 refused (2). Horizon 1 accepted."
-    ∷ (pointRefusal 64 16 1024 gives 0)
-    ∷ (pointRefusal 65 16 1040 gives 2)
-    ∷ (pointRefusal 64 17 1088 gives 2)
+    ∷ (answered (newestRowAnswer 64 16 1024) gives 0)
+    ∷ (answered (newestRowAnswer 65 16 1040) gives 2)
+    ∷ (answered (newestRowAnswer 64 17 1088) gives 2)
     ∷ (answered (setScoreDifferencing (freshThresholder discount adjust) (f32 1 1) .answer) gives 0)
     ∷ []
 

@@ -230,7 +230,7 @@ pub fn write_raised(
 )
     ensures { λ _. ⌜ Scores.Written r start (now (point .entry)) (now (high .entry)) (now (low .entry)) (now (median .entry)) (now (expected .entry)) (now («out_high» .entry)) (now («out_low» .entry)) (now (expected .exit)) (now («out_high» .exit)) (now («out_low» .exit)) ⌝ }
 {
-    corrector::expected_point(high, low, start, r.base_dimension, point, median, expected);
+    corrector::write_expected_point(high, low, start, r.base_dimension, point, median, expected);
     divector::normalize_into(
         high,
         low,

@@ -20,8 +20,8 @@ corrector-answer-requires c κs = search needs
 enum-told : tie.Need-enum-told
 enum-told c = search needs
 
-apply-basic-corrector-requires : tie.Need-apply-basic-corrector-requires
-apply-basic-corrector-requires c κs = search needs
+write-corrected-point-requires : tie.Need-write-corrected-point-requires
+write-corrected-point-requires c κs = search needs
 
 enum-told-2 : tie.Need-enum-told-2
 enum-told-2 c = search needs
@@ -33,7 +33,7 @@ returns : tie.Need-returns
 returns c =
     let a = c .before .before .before .before .before .before .before .before .before .before .before .args in
     let d = sym (c .before .before .before .before .before .before .corrector-answer .ensures) ∙ c .before .before .before .before .enum-told .given .1 in
-    let w = done-writes _ _ _ _ _ d (corrector-fits (a .shingle-size) (a .base) (a .gap) (now (a .point)) (a .has-anomaly) (now (a .last-expected)) (now (a .last-anomalous)) (length (now (a .out))) d) (c .before .before .apply-basic-corrector .ensures) in
+    let w = done-writes _ _ _ _ _ d (corrector-fits (a .shingle-size) (a .base) (a .gap) (now (a .point)) (a .has-anomaly) (now (a .last-expected)) (now (a .last-anomalous)) (length (now (a .out))) d) (c .before .before .write-corrected-point .ensures) in
     (c .before .before .before .before .before .before .corrector-answer .ensures, w ∙ ap (λ (z : ℤ). written (correctorAnswer (a .shingle-size) (a .base) (a .gap) (now (a .point)) (a .has-anomaly) (now (a .last-expected)) (now (a .last-anomalous)) (length (now (a .out)))) (applyBasicCorrector (now (a .point)) (a .gap) (a .shingle-size) (a .base) (a .has-anomaly) (now (a .last-expected)) (now (a .last-anomalous)) z (a .use-difference) (a .time-augmented)) (now (a .out))) (toZ-ofZ w32 (a .relative-index) (c .before .before .before .before .before .before .before .before .before .before .before .fits .relative-index)))
 
 returns-2 : tie.Need-returns-2
@@ -49,7 +49,7 @@ apply-basic-corrector-spec =
     (tie.spec
     corrector-answer-requires
     enum-told
-    apply-basic-corrector-requires
+    write-corrected-point-requires
     enum-told-2
     same-length
     returns

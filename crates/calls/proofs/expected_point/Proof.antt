@@ -17,8 +17,8 @@ expected-answer-requires c κs = search needs
 enum-told : tie.Need-enum-told
 enum-told c = search needs
 
-expected-point-requires : tie.Need-expected-point-requires
-expected-point-requires c κs = search needs
+write-expected-point-requires : tie.Need-write-expected-point-requires
+write-expected-point-requires c κs = search needs
 
 enum-told-2 : tie.Need-enum-told-2
 enum-told-2 c = search needs
@@ -30,7 +30,7 @@ returns : tie.Need-returns
 returns c =
     let a = c .before .before .before .before .before .before .before .before .before .before .before .before .args in
     let d = sym (c .before .before .before .before .before .before .expected-answer .ensures) ∙ c .before .before .before .before .enum-told .given .1 in
-    (c .before .before .before .before .before .before .expected-answer .ensures, done-writes _ _ _ _ _ d (expected-fits (a .shingle-size) (a .base) (a .position) (now (a .point)) (now (a .high)) (now (a .low)) (now (a .median)) (length (now (a .out))) d) (c .before .before .expected-point .ensures))
+    (c .before .before .before .before .before .before .expected-answer .ensures, done-writes _ _ _ _ _ d (expected-fits (a .shingle-size) (a .base) (a .position) (now (a .point)) (now (a .high)) (now (a .low)) (now (a .median)) (length (now (a .out))) d) (c .before .before .write-expected-point .ensures))
 
 returns-2 : tie.Need-returns-2
 unfolding written
@@ -45,7 +45,7 @@ expected-point-spec =
     (tie.spec
     expected-answer-requires
     enum-told
-    expected-point-requires
+    write-expected-point-requires
     enum-told-2
     same-length
     returns

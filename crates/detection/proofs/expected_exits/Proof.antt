@@ -24,7 +24,7 @@ use Rattle.detection.proofs.expected_exits.Tie as tie
 use Rattle.detection.proofs.expected_exits.Reads as reads
 use Rattle.detection.proofs.expected_exits.Lts as lts
 use Rattle.candidate.proofs.is_data_drift.Reads as is-data-drift-reads
-use Rattle.corrector.proofs.expected_point.Reads as expected-point-reads
+use Rattle.corrector.proofs.write_expected_point.Reads as write-expected-point-reads
 use Rattle.detection.proofs.relative_index.Reads as relative-index-reads
 use Rattle.detection.proofs.row_at.Reads as row-at-reads
 use Rattle.detection.proofs.without_row.Reads as without-row-reads
@@ -38,14 +38,14 @@ zeros-requires c κs = search needs
 array-borrow-prefix-work : tie.Need-array-borrow-prefix-work
 array-borrow-prefix-work c = search needs
 
-slice-aggregate-expected-point : tie.Need-slice-aggregate-expected-point
-slice-aggregate-expected-point c =
+slice-aggregate-write-expected-point : tie.Need-slice-aggregate-write-expected-point
+slice-aggregate-write-expected-point c =
     let z = c .before .zeros .ensures in
     let most = c .before .before .before .before .before .before .before .before .before .before .before .pre .0 .point-most in
     simp length-take (omega arith)
 
-expected-point-requires : tie.Need-expected-point-requires
-expected-point-requires c κs = search needs
+write-expected-point-requires : tie.Need-write-expected-point-requires
+write-expected-point-requires c κs = search needs
 
 array-share-prefix-edges : tie.Need-array-share-prefix-edges
 array-share-prefix-edges c =
@@ -63,15 +63,15 @@ array-share-prefix-work : tie.Need-array-share-prefix-work
 array-share-prefix-work c =
     let z = c .before .before .before .before .zeros .ensures in
     let most = c .before .before .before .before .before .before .before .before .before .before .before .before .before .before .pre .0 .point-most in
-    let long : length (c .before .before .expected-point .last .1 .1 .1 .1 .1 .1 .0) ≡ (length (now (c .before .before .before .before .before .before .before .before .before .before .before .before .before .before .args .point))) = c .before .before .expected-point .kept .1 .1 .1 .1 .1 .1 .0 ∙ length-take-le (length (now (c .before .before .before .before .before .before .before .before .before .before .before .before .before .before .args .point))) (c .before .before .before .before .zeros .result) (omega arith) in
+    let long : length (c .before .before .write-expected-point .last .1 .1 .1 .1 .1 .1 .0) ≡ (length (now (c .before .before .before .before .before .before .before .before .before .before .before .before .before .before .args .point))) = c .before .before .write-expected-point .kept .1 .1 .1 .1 .1 .1 .0 ∙ length-take-le (length (now (c .before .before .before .before .before .before .before .before .before .before .before .before .before .before .args .point))) (c .before .before .before .before .zeros .result) (omega arith) in
     simp length-append (omega arith)
 
 slice-aggregate-within-unertainty-box-2 : tie.Need-slice-aggregate-within-unertainty-box-2
 slice-aggregate-within-unertainty-box-2 c =
     let z = c .before .before .before .before .before .zeros .ensures in
     let most = c .before .before .before .before .before .before .before .before .before .before .before .before .before .before .before .pre .0 .point-most in
-    let long : length (c .before .before .before .expected-point .last .1 .1 .1 .1 .1 .1 .0) ≡ (length (now (c .before .before .before .before .before .before .before .before .before .before .before .before .before .before .before .args .point))) = c .before .before .before .expected-point .kept .1 .1 .1 .1 .1 .1 .0 ∙ length-take-le (length (now (c .before .before .before .before .before .before .before .before .before .before .before .before .before .before .before .args .point))) (c .before .before .before .before .before .zeros .result) (omega arith) in
-    sym (ap length (front-is (c .before .before .before .before .before .zeros .result) (c .before .before .before .expected-point .last .1 .1 .1 .1 .1 .1 .0) (c .before .before .before .expected-point .last .1 .1 .1 .1 .1 .1 .0) (length (now (c .before .before .before .before .before .before .before .before .before .before .before .before .before .before .before .args .point))) long refl) ∙ long)
+    let long : length (c .before .before .before .write-expected-point .last .1 .1 .1 .1 .1 .1 .0) ≡ (length (now (c .before .before .before .before .before .before .before .before .before .before .before .before .before .before .before .args .point))) = c .before .before .before .write-expected-point .kept .1 .1 .1 .1 .1 .1 .0 ∙ length-take-le (length (now (c .before .before .before .before .before .before .before .before .before .before .before .before .before .before .before .args .point))) (c .before .before .before .before .before .zeros .result) (omega arith) in
+    sym (ap length (front-is (c .before .before .before .before .before .zeros .result) (c .before .before .before .write-expected-point .last .1 .1 .1 .1 .1 .1 .0) (c .before .before .before .write-expected-point .last .1 .1 .1 .1 .1 .1 .0) (length (now (c .before .before .before .before .before .before .before .before .before .before .before .before .before .before .before .args .point))) long refl) ∙ long)
 
 within-unertainty-box-requires : tie.Need-within-unertainty-box-requires
 within-unertainty-box-requires c κs = search needs
@@ -92,9 +92,9 @@ returns c =
     let at = c .before .before .before .before .before .before .before .before .before .before .before .before .before .before .before .before .before .before .pre .1 .1 .1 .0 in
     let d = (length (now (c .before .before .before .before .before .before .before .before .before .before .before .before .before .before .before .before .before .before .args .point))) in
     let short : length (take d (c .before .before .before .before .before .before .before .before .zeros .result)) ≡ d = length-take-le d (c .before .before .before .before .before .before .before .before .zeros .result) (omega arith) in
-    let long = c .before .before .before .before .before .before .expected-point .kept .1 .1 .1 .1 .1 .1 .0 ∙ short in
+    let long = c .before .before .before .before .before .before .write-expected-point .kept .1 .1 .1 .1 .1 .1 .0 ∙ short in
     let fits = subst (λ (n : ℕ). Expecting (length (now (c .before .before .before .before .before .before .before .before .before .before .before .before .before .before .before .before .before .before .args .high))) (length (now (c .before .before .before .before .before .before .before .before .before .before .before .before .before .before .before .before .before .before .args .low))) n base d (length (now (c .before .before .before .before .before .before .before .before .before .before .before .before .before .before .before .before .before .before .args .median))) d) (sym at) (c .before .before .before .before .before .before .before .before .before .before .before .before .before .before .before .before .before .before .pre .0 .expecting) in
-    let x = front-is (c .before .before .before .before .before .before .before .before .zeros .result) (c .before .before .before .before .before .before .expected-point .last .1 .1 .1 .1 .1 .1 .0) _ d long (expected-is (length (now (c .before .before .before .before .before .before .before .before .before .before .before .before .before .before .before .before .before .before .args .high))) (length (now (c .before .before .before .before .before .before .before .before .before .before .before .before .before .before .before .before .before .before .args .low))) (c .before .before .before .before .before .before .before .before .before .before .before .before .before .before .before .before .before .before .args .start) base d (length (now (c .before .before .before .before .before .before .before .before .before .before .before .before .before .before .before .before .before .before .args .median))) (take d (c .before .before .before .before .before .before .before .before .zeros .result)) _ _ short fits (c .before .before .before .before .before .before .expected-point .ensures)) ∙ expected-at r l b (c .before .before .before .before .before .before .before .before .before .before .before .before .before .before .before .before .before .before .args .start) at in
+    let x = front-is (c .before .before .before .before .before .before .before .before .zeros .result) (c .before .before .before .before .before .before .write-expected-point .last .1 .1 .1 .1 .1 .1 .0) _ d long (expected-is (length (now (c .before .before .before .before .before .before .before .before .before .before .before .before .before .before .before .before .before .before .args .high))) (length (now (c .before .before .before .before .before .before .before .before .before .before .before .before .before .before .before .before .before .before .args .low))) (c .before .before .before .before .before .before .before .before .before .before .before .before .before .before .before .before .before .before .args .start) base d (length (now (c .before .before .before .before .before .before .before .before .before .before .before .before .before .before .before .before .before .before .args .median))) (take d (c .before .before .before .before .before .before .before .before .zeros .result)) _ _ short fits (c .before .before .before .before .before .before .write-expected-point .ensures)) ∙ expected-at r l b (c .before .before .before .before .before .before .before .before .before .before .before .before .before .before .before .before .before .before .args .start) at in
     let q = c .before .before .within-unertainty-box .ensures ∙ ap₂ (λ (n : ℕ) (y : List Float). withinUnertaintyBox u n (now (c .before .before .before .before .before .before .before .before .before .before .before .before .before .before .before .before .before .before .args .scale)) (now (c .before .before .before .before .before .before .before .before .before .before .before .before .before .before .before .before .before .before .args .point)) y) at x in
     at-forecast k r l b u (c .before .before .before .before .before .before .before .before .before .before .before .before .before .before .before .before .before .before .args .threshold) (c .before .before .before .before .before .before .before .before .before .before .before .before .before .before .before .before .before .before .args .grade) _ (now (c .before .before .before .before .before .before .before .before .before .before .before .before .before .before .before .before .before .before .args .expected)) (now (c .before .before .before .before .before .before .before .before .before .before .before .before .before .before .before .before .before .before .args .out-high)) (now (c .before .before .before .before .before .before .before .before .before .before .before .before .before .before .before .before .before .before .args .out-low)) _ _ _ (sym q ∙ c .before .if1 .taken) (calm-left k r l b (now (c .before .before .before .before .before .before .before .before .before .before .before .before .before .before .before .before .before .before .args .expected)) (now (c .before .before .before .before .before .before .before .before .before .before .before .before .before .before .before .before .before .before .args .out-high)) (now (c .before .before .before .before .before .before .before .before .before .before .before .before .before .before .before .before .before .before .args .out-low)) (Accepted (Corrected (c .before .before .before .before .before .before .before .before .before .before .before .before .before .before .before .before .before .before .args .threshold) FORECAST)) _ refl (c .without-row .ensures))
 
@@ -105,15 +105,15 @@ array-share-prefix-work-2 : tie.Need-array-share-prefix-work-2
 array-share-prefix-work-2 c =
     let z = c .before .before .before .before .before .before .before .zeros .ensures in
     let most = c .before .before .before .before .before .before .before .before .before .before .before .before .before .before .before .before .before .pre .0 .point-most in
-    let long : length (c .before .before .before .before .before .expected-point .last .1 .1 .1 .1 .1 .1 .0) ≡ (length (now (c .before .before .before .before .before .before .before .before .before .before .before .before .before .before .before .before .before .args .point))) = c .before .before .before .before .before .expected-point .kept .1 .1 .1 .1 .1 .1 .0 ∙ length-take-le (length (now (c .before .before .before .before .before .before .before .before .before .before .before .before .before .before .before .before .before .args .point))) (c .before .before .before .before .before .before .before .zeros .result) (omega arith) in
+    let long : length (c .before .before .before .before .before .write-expected-point .last .1 .1 .1 .1 .1 .1 .0) ≡ (length (now (c .before .before .before .before .before .before .before .before .before .before .before .before .before .before .before .before .before .args .point))) = c .before .before .before .before .before .write-expected-point .kept .1 .1 .1 .1 .1 .1 .0 ∙ length-take-le (length (now (c .before .before .before .before .before .before .before .before .before .before .before .before .before .before .before .before .before .args .point))) (c .before .before .before .before .before .before .before .zeros .result) (omega arith) in
     simp length-append (omega arith)
 
 slice-aggregate-row-at : tie.Need-slice-aggregate-row-at
 slice-aggregate-row-at c =
     let z = c .before .before .before .before .before .before .before .before .zeros .ensures in
     let most = c .before .before .before .before .before .before .before .before .before .before .before .before .before .before .before .before .before .before .pre .0 .point-most in
-    let long : length (c .before .before .before .before .before .before .expected-point .last .1 .1 .1 .1 .1 .1 .0) ≡ (length (now (c .before .before .before .before .before .before .before .before .before .before .before .before .before .before .before .before .before .before .args .point))) = c .before .before .before .before .before .before .expected-point .kept .1 .1 .1 .1 .1 .1 .0 ∙ length-take-le (length (now (c .before .before .before .before .before .before .before .before .before .before .before .before .before .before .before .before .before .before .args .point))) (c .before .before .before .before .before .before .before .before .zeros .result) (omega arith) in
-    sym (ap length (front-is (c .before .before .before .before .before .before .before .before .zeros .result) (c .before .before .before .before .before .before .expected-point .last .1 .1 .1 .1 .1 .1 .0) (c .before .before .before .before .before .before .expected-point .last .1 .1 .1 .1 .1 .1 .0) (length (now (c .before .before .before .before .before .before .before .before .before .before .before .before .before .before .before .before .before .before .args .point))) long refl) ∙ long)
+    let long : length (c .before .before .before .before .before .before .write-expected-point .last .1 .1 .1 .1 .1 .1 .0) ≡ (length (now (c .before .before .before .before .before .before .before .before .before .before .before .before .before .before .before .before .before .before .args .point))) = c .before .before .before .before .before .before .write-expected-point .kept .1 .1 .1 .1 .1 .1 .0 ∙ length-take-le (length (now (c .before .before .before .before .before .before .before .before .before .before .before .before .before .before .before .before .before .before .args .point))) (c .before .before .before .before .before .before .before .before .zeros .result) (omega arith) in
+    sym (ap length (front-is (c .before .before .before .before .before .before .before .before .zeros .result) (c .before .before .before .before .before .before .write-expected-point .last .1 .1 .1 .1 .1 .1 .0) (c .before .before .before .before .before .before .write-expected-point .last .1 .1 .1 .1 .1 .1 .0) (length (now (c .before .before .before .before .before .before .before .before .before .before .before .before .before .before .before .before .before .before .args .point))) long refl) ∙ long)
 
 row-at-requires : tie.Need-row-at-requires
 row-at-requires c κs =
@@ -121,8 +121,8 @@ row-at-requires c κs =
     let most = c .before .before .before .before .before .before .before .before .before .before .before .before .before .before .before .before .before .before .pre .0 .point-most in
     let inside = c .before .before .before .before .before .before .before .before .before .before .before .before .before .before .before .before .before .before .pre .0 .expecting .inside in
     let d = length (now (c .before .before .before .before .before .before .before .before .before .before .before .before .before .before .before .before .before .before .args .point)) in
-    let long : length (c .before .before .before .before .before .before .expected-point .last .1 .1 .1 .1 .1 .1 .0) ≡ d = c .before .before .before .before .before .before .expected-point .kept .1 .1 .1 .1 .1 .1 .0 ∙ length-take-le d (c .before .before .before .before .before .before .before .before .zeros .result) (omega arith) in
-    let whole = ap length (front-is (c .before .before .before .before .before .before .before .before .zeros .result) (c .before .before .before .before .before .before .expected-point .last .1 .1 .1 .1 .1 .1 .0) (c .before .before .before .before .before .before .expected-point .last .1 .1 .1 .1 .1 .1 .0) d long refl) ∙ long in
+    let long : length (c .before .before .before .before .before .before .write-expected-point .last .1 .1 .1 .1 .1 .1 .0) ≡ d = c .before .before .before .before .before .before .write-expected-point .kept .1 .1 .1 .1 .1 .1 .0 ∙ length-take-le d (c .before .before .before .before .before .before .before .before .zeros .result) (omega arith) in
+    let whole = ap length (front-is (c .before .before .before .before .before .before .before .before .zeros .result) (c .before .before .before .before .before .before .write-expected-point .last .1 .1 .1 .1 .1 .1 .0) (c .before .before .before .before .before .before .write-expected-point .last .1 .1 .1 .1 .1 .1 .0) d long refl) ∙ long in
     (c .before .before .before .before .before .before .before .before .before .before .before .before .before .before .before .before .before .before .pre .0 .base-most, subst (λ (n : ℕ). d - c .before .before .before .before .before .before .before .before .before .before .before .before .before .before .before .before .before .before .args .r .«base_dimension» + c .before .before .before .before .before .before .before .before .before .before .before .before .before .before .before .before .before .before .args .r .«base_dimension» ≤ n) (sym whole) (omega arith))
 
 cast-is-data-drift : tie.Need-cast-is-data-drift
@@ -168,9 +168,9 @@ returns-2 c =
     let at = c .before .before .before .before .before .before .before .before .before .before .before .before .before .before .before .before .before .before .before .before .before .before .before .before .pre .1 .1 .1 .0 in
     let d = (length (now (c .before .before .before .before .before .before .before .before .before .before .before .before .before .before .before .before .before .before .before .before .before .before .before .before .args .point))) in
     let short : length (take d (c .before .before .before .before .before .before .before .before .before .before .before .before .before .before .zeros .result)) ≡ d = length-take-le d (c .before .before .before .before .before .before .before .before .before .before .before .before .before .before .zeros .result) (omega arith) in
-    let long = c .before .before .before .before .before .before .before .before .before .before .before .before .expected-point .kept .1 .1 .1 .1 .1 .1 .0 ∙ short in
+    let long = c .before .before .before .before .before .before .before .before .before .before .before .before .write-expected-point .kept .1 .1 .1 .1 .1 .1 .0 ∙ short in
     let fits = subst (λ (n : ℕ). Expecting (length (now (c .before .before .before .before .before .before .before .before .before .before .before .before .before .before .before .before .before .before .before .before .before .before .before .before .args .high))) (length (now (c .before .before .before .before .before .before .before .before .before .before .before .before .before .before .before .before .before .before .before .before .before .before .before .before .args .low))) n base d (length (now (c .before .before .before .before .before .before .before .before .before .before .before .before .before .before .before .before .before .before .before .before .before .before .before .before .args .median))) d) (sym at) (c .before .before .before .before .before .before .before .before .before .before .before .before .before .before .before .before .before .before .before .before .before .before .before .before .pre .0 .expecting) in
-    let x = front-is (c .before .before .before .before .before .before .before .before .before .before .before .before .before .before .zeros .result) (c .before .before .before .before .before .before .before .before .before .before .before .before .expected-point .last .1 .1 .1 .1 .1 .1 .0) _ d long (expected-is (length (now (c .before .before .before .before .before .before .before .before .before .before .before .before .before .before .before .before .before .before .before .before .before .before .before .before .args .high))) (length (now (c .before .before .before .before .before .before .before .before .before .before .before .before .before .before .before .before .before .before .before .before .before .before .before .before .args .low))) (c .before .before .before .before .before .before .before .before .before .before .before .before .before .before .before .before .before .before .before .before .before .before .before .before .args .start) base d (length (now (c .before .before .before .before .before .before .before .before .before .before .before .before .before .before .before .before .before .before .before .before .before .before .before .before .args .median))) (take d (c .before .before .before .before .before .before .before .before .before .before .before .before .before .before .zeros .result)) _ _ short fits (c .before .before .before .before .before .before .before .before .before .before .before .before .expected-point .ensures)) ∙ expected-at r l b (c .before .before .before .before .before .before .before .before .before .before .before .before .before .before .before .before .before .before .before .before .before .before .before .before .args .start) at in
+    let x = front-is (c .before .before .before .before .before .before .before .before .before .before .before .before .before .before .zeros .result) (c .before .before .before .before .before .before .before .before .before .before .before .before .write-expected-point .last .1 .1 .1 .1 .1 .1 .0) _ d long (expected-is (length (now (c .before .before .before .before .before .before .before .before .before .before .before .before .before .before .before .before .before .before .before .before .before .before .before .before .args .high))) (length (now (c .before .before .before .before .before .before .before .before .before .before .before .before .before .before .before .before .before .before .before .before .before .before .before .before .args .low))) (c .before .before .before .before .before .before .before .before .before .before .before .before .before .before .before .before .before .before .before .before .before .before .before .before .args .start) base d (length (now (c .before .before .before .before .before .before .before .before .before .before .before .before .before .before .before .before .before .before .before .before .before .before .before .before .args .median))) (take d (c .before .before .before .before .before .before .before .before .before .before .before .before .before .before .zeros .result)) _ _ short fits (c .before .before .before .before .before .before .before .before .before .before .before .before .write-expected-point .ensures)) ∙ expected-at r l b (c .before .before .before .before .before .before .before .before .before .before .before .before .before .before .before .before .before .before .before .before .before .before .before .before .args .start) at in
     let q = c .before .before .before .before .before .before .before .before .within-unertainty-box .ensures ∙ ap₂ (λ (n : ℕ) (y : List Float). withinUnertaintyBox u n (now (c .before .before .before .before .before .before .before .before .before .before .before .before .before .before .before .before .before .before .before .before .before .before .before .before .args .scale)) (now (c .before .before .before .before .before .before .before .before .before .before .before .before .before .before .before .before .before .before .before .before .before .before .before .before .args .point)) y) at x in
     let row : c .before .before .before .before .before .row-at .result ≡ newestExpected r l b = row-is r l b (c .before .before .before .before .before .row-at .result) _ (c .before .before .before .before .before .row-at .ensures) x in
     let n = drift-is k r l b (c .before .before .before .before .before .before .before .before .before .before .before .before .before .before .before .before .before .before .before .before .before .before .before .before .args .threshold) (c .before .is-data-drift .result) _ _ (newest-part r l b) (ap (take base) row ∙ row-front r l b (c .before .before .before .before .before .before .before .before .before .before .before .before .before .before .before .before .before .before .before .before .before .before .before .before .pre .0)) (c .before .is-data-drift .ensures) in
@@ -205,9 +205,9 @@ returns-3 c =
     let at = c .before .before .before .before .before .before .before .before .before .before .before .before .before .before .before .before .before .before .before .before .before .before .before .before .before .before .before .before .before .before .before .before .before .before .before .pre .1 .1 .1 .0 in
     let d = (length (now (c .before .before .before .before .before .before .before .before .before .before .before .before .before .before .before .before .before .before .before .before .before .before .before .before .before .before .before .before .before .before .before .before .before .before .before .args .point))) in
     let short : length (take d (c .before .before .before .before .before .before .before .before .before .before .before .before .before .before .before .before .before .before .before .before .before .before .before .before .before .zeros .result)) ≡ d = length-take-le d (c .before .before .before .before .before .before .before .before .before .before .before .before .before .before .before .before .before .before .before .before .before .before .before .before .before .zeros .result) (omega arith) in
-    let long = c .before .before .before .before .before .before .before .before .before .before .before .before .before .before .before .before .before .before .before .before .before .before .before .expected-point .kept .1 .1 .1 .1 .1 .1 .0 ∙ short in
+    let long = c .before .before .before .before .before .before .before .before .before .before .before .before .before .before .before .before .before .before .before .before .before .before .before .write-expected-point .kept .1 .1 .1 .1 .1 .1 .0 ∙ short in
     let fits = subst (λ (n : ℕ). Expecting (length (now (c .before .before .before .before .before .before .before .before .before .before .before .before .before .before .before .before .before .before .before .before .before .before .before .before .before .before .before .before .before .before .before .before .before .before .before .args .high))) (length (now (c .before .before .before .before .before .before .before .before .before .before .before .before .before .before .before .before .before .before .before .before .before .before .before .before .before .before .before .before .before .before .before .before .before .before .before .args .low))) n base d (length (now (c .before .before .before .before .before .before .before .before .before .before .before .before .before .before .before .before .before .before .before .before .before .before .before .before .before .before .before .before .before .before .before .before .before .before .before .args .median))) d) (sym at) (c .before .before .before .before .before .before .before .before .before .before .before .before .before .before .before .before .before .before .before .before .before .before .before .before .before .before .before .before .before .before .before .before .before .before .before .pre .0 .expecting) in
-    let x = front-is (c .before .before .before .before .before .before .before .before .before .before .before .before .before .before .before .before .before .before .before .before .before .before .before .before .before .zeros .result) (c .before .before .before .before .before .before .before .before .before .before .before .before .before .before .before .before .before .before .before .before .before .before .before .expected-point .last .1 .1 .1 .1 .1 .1 .0) _ d long (expected-is (length (now (c .before .before .before .before .before .before .before .before .before .before .before .before .before .before .before .before .before .before .before .before .before .before .before .before .before .before .before .before .before .before .before .before .before .before .before .args .high))) (length (now (c .before .before .before .before .before .before .before .before .before .before .before .before .before .before .before .before .before .before .before .before .before .before .before .before .before .before .before .before .before .before .before .before .before .before .before .args .low))) (c .before .before .before .before .before .before .before .before .before .before .before .before .before .before .before .before .before .before .before .before .before .before .before .before .before .before .before .before .before .before .before .before .before .before .before .args .start) base d (length (now (c .before .before .before .before .before .before .before .before .before .before .before .before .before .before .before .before .before .before .before .before .before .before .before .before .before .before .before .before .before .before .before .before .before .before .before .args .median))) (take d (c .before .before .before .before .before .before .before .before .before .before .before .before .before .before .before .before .before .before .before .before .before .before .before .before .before .zeros .result)) _ _ short fits (c .before .before .before .before .before .before .before .before .before .before .before .before .before .before .before .before .before .before .before .before .before .before .before .expected-point .ensures)) ∙ expected-at r l b (c .before .before .before .before .before .before .before .before .before .before .before .before .before .before .before .before .before .before .before .before .before .before .before .before .before .before .before .before .before .before .before .before .before .before .before .args .start) at in
+    let x = front-is (c .before .before .before .before .before .before .before .before .before .before .before .before .before .before .before .before .before .before .before .before .before .before .before .before .before .zeros .result) (c .before .before .before .before .before .before .before .before .before .before .before .before .before .before .before .before .before .before .before .before .before .before .before .write-expected-point .last .1 .1 .1 .1 .1 .1 .0) _ d long (expected-is (length (now (c .before .before .before .before .before .before .before .before .before .before .before .before .before .before .before .before .before .before .before .before .before .before .before .before .before .before .before .before .before .before .before .before .before .before .before .args .high))) (length (now (c .before .before .before .before .before .before .before .before .before .before .before .before .before .before .before .before .before .before .before .before .before .before .before .before .before .before .before .before .before .before .before .before .before .before .before .args .low))) (c .before .before .before .before .before .before .before .before .before .before .before .before .before .before .before .before .before .before .before .before .before .before .before .before .before .before .before .before .before .before .before .before .before .before .before .args .start) base d (length (now (c .before .before .before .before .before .before .before .before .before .before .before .before .before .before .before .before .before .before .before .before .before .before .before .before .before .before .before .before .before .before .before .before .before .before .before .args .median))) (take d (c .before .before .before .before .before .before .before .before .before .before .before .before .before .before .before .before .before .before .before .before .before .before .before .before .before .zeros .result)) _ _ short fits (c .before .before .before .before .before .before .before .before .before .before .before .before .before .before .before .before .before .before .before .before .before .before .before .write-expected-point .ensures)) ∙ expected-at r l b (c .before .before .before .before .before .before .before .before .before .before .before .before .before .before .before .before .before .before .before .before .before .before .before .before .before .before .before .before .before .before .before .before .before .before .before .args .start) at in
     let q = c .before .before .before .before .before .before .before .before .before .before .before .before .before .before .before .before .before .before .before .within-unertainty-box .ensures ∙ ap₂ (λ (n : ℕ) (y : List Float). withinUnertaintyBox u n (now (c .before .before .before .before .before .before .before .before .before .before .before .before .before .before .before .before .before .before .before .before .before .before .before .before .before .before .before .before .before .before .before .before .before .before .before .args .scale)) (now (c .before .before .before .before .before .before .before .before .before .before .before .before .before .before .before .before .before .before .before .before .before .before .before .before .before .before .before .before .before .before .before .before .before .before .before .args .point)) y) at x in
     let row : c .before .before .before .before .before .before .before .before .before .before .before .before .before .before .before .before .row-at .result ≡ newestExpected r l b = row-is r l b (c .before .before .before .before .before .before .before .before .before .before .before .before .before .before .before .before .row-at .result) _ (c .before .before .before .before .before .before .before .before .before .before .before .before .before .before .before .before .row-at .ensures) x in
     let n = drift-is k r l b (c .before .before .before .before .before .before .before .before .before .before .before .before .before .before .before .before .before .before .before .before .before .before .before .before .before .before .before .before .before .before .before .before .before .before .before .args .threshold) (c .before .before .before .before .before .before .before .before .before .before .before .before .is-data-drift .result) _ _ (newest-part r l b) (ap (take base) row ∙ row-front r l b (c .before .before .before .before .before .before .before .before .before .before .before .before .before .before .before .before .before .before .before .before .before .before .before .before .before .before .before .before .before .before .before .before .before .before .before .pre .0)) (c .before .before .before .before .before .before .before .before .before .before .before .before .is-data-drift .ensures) in
@@ -220,8 +220,8 @@ expected-exits-spec =
     (tie.spec
     zeros-requires
     array-borrow-prefix-work
-    slice-aggregate-expected-point
-    expected-point-requires
+    slice-aggregate-write-expected-point
+    write-expected-point-requires
     array-share-prefix-edges
     slice-aggregate-within-unertainty-box
     array-share-prefix-work

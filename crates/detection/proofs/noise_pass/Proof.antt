@@ -37,25 +37,25 @@ is-differenced-requires c κs = search needs
 array-borrow-prefix-work : tie.Need-array-borrow-prefix-work
 array-borrow-prefix-work c = search needs
 
-slice-aggregate-apply-basic-corrector : tie.Need-slice-aggregate-apply-basic-corrector
-slice-aggregate-apply-basic-corrector c = let l : length (c .before .before .zeros .result) ≡ 1024 = search needs in let k = c .before .before .before .before .before .before .before .before .before .before .before .before .pre .0 in simp length-take (omega arith)
+slice-aggregate-write-corrected-point : tie.Need-slice-aggregate-write-corrected-point
+slice-aggregate-write-corrected-point c = let l : length (c .before .before .zeros .result) ≡ 1024 = search needs in let k = c .before .before .before .before .before .before .before .before .before .before .before .before .pre .0 in simp length-take (omega arith)
 
-apply-basic-corrector-requires : tie.Need-apply-basic-corrector-requires
-apply-basic-corrector-requires c κs = search needs
+write-corrected-point-requires : tie.Need-write-corrected-point-requires
+write-corrected-point-requires c κs = search needs
 
 array-share-prefix-work : tie.Need-array-share-prefix-work
 array-share-prefix-work c =
     let l : length (c .before .before .before .before .before .zeros .result) ≡ 1024 = search needs in
     let k = c .before .before .before .before .before .before .before .before .before .before .before .before .before .before .before .pre .0 in
-    let long : length (c .before .apply-basic-corrector .last .1 .1 .1 .1 .1 .1 .1 .1 .1 .1 .0) ≡ length (now (c .before .before .before .before .before .before .before .before .before .before .before .before .before .before .before .args .point)) = c .before .apply-basic-corrector .kept .1 .1 .1 .1 .1 .1 .1 .1 .1 .1 .0 ∙ length-take-le (length (now (c .before .before .before .before .before .before .before .before .before .before .before .before .before .before .before .args .point))) (c .before .before .before .before .before .zeros .result) (omega arith) in
+    let long : length (c .before .write-corrected-point .last .1 .1 .1 .1 .1 .1 .1 .1 .1 .1 .0) ≡ length (now (c .before .before .before .before .before .before .before .before .before .before .before .before .before .before .before .args .point)) = c .before .write-corrected-point .kept .1 .1 .1 .1 .1 .1 .1 .1 .1 .1 .0 ∙ length-take-le (length (now (c .before .before .before .before .before .before .before .before .before .before .before .before .before .before .before .args .point))) (c .before .before .before .before .before .zeros .result) (omega arith) in
     simp length-append (omega arith)
 
 slice-aggregate-centered-transform-pass : tie.Need-slice-aggregate-centered-transform-pass
 slice-aggregate-centered-transform-pass c =
     let l : length (c .before .before .before .before .before .before .zeros .result) ≡ 1024 = search needs in
     let k = c .before .before .before .before .before .before .before .before .before .before .before .before .before .before .before .before .pre .0 in
-    let long : length (c .before .before .apply-basic-corrector .last .1 .1 .1 .1 .1 .1 .1 .1 .1 .1 .0) ≡ length (now (c .before .before .before .before .before .before .before .before .before .before .before .before .before .before .before .before .args .point)) = c .before .before .apply-basic-corrector .kept .1 .1 .1 .1 .1 .1 .1 .1 .1 .1 .0 ∙ length-take-le (length (now (c .before .before .before .before .before .before .before .before .before .before .before .before .before .before .before .before .args .point))) (c .before .before .before .before .before .before .zeros .result) (omega arith) in
-    sym (ap length (front-is (c .before .before .before .before .before .before .zeros .result) (c .before .before .apply-basic-corrector .last .1 .1 .1 .1 .1 .1 .1 .1 .1 .1 .0) (c .before .before .apply-basic-corrector .last .1 .1 .1 .1 .1 .1 .1 .1 .1 .1 .0) (length (now (c .before .before .before .before .before .before .before .before .before .before .before .before .before .before .before .before .args .point))) long refl) ∙ long)
+    let long : length (c .before .before .write-corrected-point .last .1 .1 .1 .1 .1 .1 .1 .1 .1 .1 .0) ≡ length (now (c .before .before .before .before .before .before .before .before .before .before .before .before .before .before .before .before .args .point)) = c .before .before .write-corrected-point .kept .1 .1 .1 .1 .1 .1 .1 .1 .1 .1 .0 ∙ length-take-le (length (now (c .before .before .before .before .before .before .before .before .before .before .before .before .before .before .before .before .args .point))) (c .before .before .before .before .before .before .zeros .result) (omega arith) in
+    sym (ap length (front-is (c .before .before .before .before .before .before .zeros .result) (c .before .before .write-corrected-point .last .1 .1 .1 .1 .1 .1 .1 .1 .1 .1 .0) (c .before .before .write-corrected-point .last .1 .1 .1 .1 .1 .1 .1 .1 .1 .1 .0) (length (now (c .before .before .before .before .before .before .before .before .before .before .before .before .before .before .before .before .args .point))) long refl) ∙ long)
 
 centered-transform-pass-requires-2 : tie.Need-centered-transform-pass-requires-2
 centered-transform-pass-requires-2 c κs = search needs
@@ -66,12 +66,12 @@ returns-2 c =
     let l : length (c .before .before .before .before .before .before .before .zeros .result) ≡ 1024 = search needs in
     let k = c .before .before .before .before .before .before .before .before .before .before .before .before .before .before .before .before .before .pre .0 in
     let short : length (take (length (now (a .point))) (c .before .before .before .before .before .before .before .zeros .result)) ≡ length (now (a .point)) = length-take-le (length (now (a .point))) (c .before .before .before .before .before .before .before .zeros .result) (omega arith) in
-    let long = c .before .before .before .apply-basic-corrector .kept .1 .1 .1 .1 .1 .1 .1 .1 .1 .1 .0 ∙ short in
+    let long = c .before .before .before .write-corrected-point .kept .1 .1 .1 .1 .1 .1 .1 .1 .1 .1 .0 ∙ short in
     let i = toZ-ofZ w32 (a .l .anomaly .«relative_index») (search needs) in
     c .centered-transform-pass2 .ensures
     ∙ ap (centeredTransformPass (a .r .«base_dimension») (now (a .scale)) (now (a .shift)) (now (a .difference-deviations)))
-    (front-is (c .before .before .before .before .before .before .before .zeros .result) (c .before .before .before .apply-basic-corrector .last .1 .1 .1 .1 .1 .1 .1 .1 .1 .1 .0) _ (length (now (a .point))) long
-    (corrected-is (length (now (a .point))) (a .gap) (a .r .«shingle_size») (a .r .«base_dimension») (a .l .«has_anomaly») (length (now (a .last-expected))) (length (now (a .last-anomalous))) (take (length (now (a .point))) (c .before .before .before .before .before .before .before .zeros .result)) _ _ short (c .before .before .before .before .before .before .before .before .before .before .before .before .before .before .before .before .before .pre .1) (c .before .before .before .apply-basic-corrector .ensures)
+    (front-is (c .before .before .before .before .before .before .before .zeros .result) (c .before .before .before .write-corrected-point .last .1 .1 .1 .1 .1 .1 .1 .1 .1 .1 .0) _ (length (now (a .point))) long
+    (corrected-is (length (now (a .point))) (a .gap) (a .r .«shingle_size») (a .r .«base_dimension») (a .l .«has_anomaly») (length (now (a .last-expected))) (length (now (a .last-anomalous))) (take (length (now (a .point))) (c .before .before .before .before .before .before .before .zeros .result)) _ _ short (c .before .before .before .before .before .before .before .before .before .before .before .before .before .before .before .before .before .pre .1) (c .before .before .before .write-corrected-point .ensures)
     ∙ ap₂ (λ (z : ℤ) (u : Bool). applyBasicCorrector (now (a .point)) (a .gap) (a .r .«shingle_size») (a .r .«base_dimension») (a .l .«has_anomaly») (now (a .last-expected)) (now (a .last-anomalous)) z u (a .r .«time_augmented»)) i (c .before .before .before .before .before .before .is-differenced .ensures)))
 
 pub noise-pass-spec : {M : Type 1} → statement M
@@ -84,8 +84,8 @@ noise-pass-spec =
     zeros-requires
     is-differenced-requires
     array-borrow-prefix-work
-    slice-aggregate-apply-basic-corrector
-    apply-basic-corrector-requires
+    slice-aggregate-write-corrected-point
+    write-corrected-point-requires
     array-share-prefix-work
     slice-aggregate-centered-transform-pass
     centered-transform-pass-requires-2

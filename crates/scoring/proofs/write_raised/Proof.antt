@@ -7,8 +7,8 @@ use borrow.Author.Needs.{needs}
 use Rattle.scoring.proofs.write_raised.Statement.{statement}
 use Rattle.scoring.proofs.write_raised.Tie as tie
 
-expected-point-requires : tie.Need-expected-point-requires
-expected-point-requires c κs = search needs
+write-expected-point-requires : tie.Need-write-expected-point-requires
+write-expected-point-requires c κs = search needs
 
 f32-to-f64-with-nan-requires : tie.Need-f32-to-f64-with-nan-requires
 f32-to-f64-with-nan-requires c κs = search needs
@@ -31,7 +31,7 @@ returns c =
     let f = c .before .before .before .before .before .before .before .f32-to-f64-with-nan .ensures in
     let t = allAlike (now (a .high)) (now (a .low)) (now (a .out-high)) (now (a .out-low)) in
     record {
-      point-is = c .before .before .before .before .before .before .before .before .before .before .expected-point .ensures;
+      point-is = c .before .before .before .before .before .before .before .before .before .before .write-expected-point .ensures;
       highs = c .before .before .before .before .normalize-into .ensures .highs ∙ ap (λ (x : Float). cond t (normalized x (now (a .high)) (now (a .low)) (now (a .high))) (now (a .out-high))) f;
       lows = c .before .before .before .before .normalize-into .ensures .lows ∙ ap (λ (x : Float). cond t (normalized x (now (a .high)) (now (a .low)) (now (a .low))) (now (a .out-low))) f;
     }
@@ -40,7 +40,7 @@ pub write-raised-spec : {M : Type 1} → statement M
 write-raised-spec =
     tie.close
     (tie.spec
-    expected-point-requires
+    write-expected-point-requires
     f32-to-f64-with-nan-requires
     normalize-into-requires
     same-length
