@@ -10,7 +10,7 @@ use lib.Ieee.{Float}
 use Rattle.types.specs.Refusals.{number, answered}
 use Rattle.types.specs.declared.Refusal.{Refusal}
 use Rattle.types.specs.declared.Answer.{Answer}
-use Rattle.divector.specs.DiVector.{Updated as PairUpdated}
+use Rattle.divector.specs.DiVector.{After, after}
 use Rattle.divector.specs.declared.Number.{Number}
 use Rattle.divector.specs.declared.Number.the-variants as Numbers
 use Rattle.divector.specs.declared.Block.{Block}
@@ -21,7 +21,7 @@ use Rattle.predictorcorrector.specs.State.{setHorizon}
 use Rattle.layout.specs.Numbers.{writtenOf, f64Bytes, bytes8}
 use Rattle.layout.specs.Chain.{decodeState, encodeStateOver, readState}
 use Rattle.layout.specs.Left.{Left, left, putInto}
-use Rattle.c_chain.specs.Vectors.{pair, pairChanged, numberInto, blockInto}
+use Rattle.c_chain.specs.Vectors.{pair, numbered, numberInto, blockInto}
 use Rattle.c_chain.specs.States.{chainRefusal, chainSet, horizonSetIn, chainMade}
 
 -- ---- a slice that must have n bytes.
@@ -35,11 +35,8 @@ module _ (n : ℕ) (xs ys : List ℕ) where
   put-refused h = simp h
 
 -- ---- vectors.
-pub pair-changed : (fits : Bool) (n : ℕ) (a : Answer) (h w hs ls hs′ ls′ : List Float) → n ≡ answered a → PairUpdated fits hs ls hs′ ls′ a h w
-    → pair n h w ≡ pairChanged fits hs ls hs′ ls′
-unfolding pairChanged
-pair-changed true n a h w hs ls hs′ ls′ e u = λ i. record { answer = (e ∙ ap answered (u .answer)) i; highs = u .highs i; lows = u .lows i }
-pair-changed false n a h w hs ls hs′ ls′ e u = λ i. record { answer = (e ∙ ap answered (u .answer)) i; highs = u .highs i; lows = u .lows i }
+pub pair-changed : (n : ℕ) (a : Answer) (h w : List Float) (x : After) → n ≡ answered a → after a h w ≡ x → pair n h w ≡ numbered x
+pair-changed n a h w x e p = ap (λ (m : ℕ). pair m h w) e ∙ ap numbered p
 
 pub number-put : (m : Number) (out : List ℕ) (x : Float) (w : Left) → m ≡ Numbers.Value x → w ≡ putInto 8 out (f64Bytes x) → w ≡ numberInto m out
 unfolding numberInto

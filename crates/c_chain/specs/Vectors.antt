@@ -1,12 +1,13 @@
 -- The calls on attribution vectors over C.
 use Prim.Native.Nat.{ℕ}
-use mathlib.Core.Bool.{Bool, cond}
+use mathlib.Core.Bool.{cond}
 use mathlib.Core.List.{List}
 use lib.Dec.{eqb}
 use lib.ListN.{length}
 use lib.Ieee.{Float}
-use Rattle.types.specs.Refusals.{number}
+use Rattle.types.specs.Refusals.{number, answered}
 use Rattle.types.specs.declared.Refusal.the-variants.{Length}
+use Rattle.divector.specs.DiVector.{After}
 use Rattle.divector.specs.declared.Number.{Number}
 use Rattle.divector.specs.declared.Number.the-variants as Numbers
 use Rattle.divector.specs.declared.Block.{Block}
@@ -23,9 +24,9 @@ pub record Pair : Type 0 where
 abbrev pub pair : ℕ → List Float → List Float → Pair
 pair n hs ls = record { answer = n; highs = hs; lows = ls }
 
--- hs and ls become hs′ and ls′ where the lengths fit; otherwise 3.
-unfoldable pub pairChanged : Bool → List Float → List Float → List Float → List Float → Pair
-pairChanged fits hs ls hs′ ls′ = cond fits (pair 0 hs′ ls′) (pair (number Length) hs ls)
+-- What a call on vectors leaves, its answer by the number.
+abbrev pub numbered : After → Pair
+numbered a = pair (answered (a .answer)) (a .high) (a .low)
 
 -- A number into a slice of 8 bytes.
 unfoldable pub numberInto : Number → List ℕ → Left

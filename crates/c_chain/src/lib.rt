@@ -10,7 +10,7 @@ ghost use Rattle.layout.specs.Left.{left, putInto};
 ghost use Rattle.layout.specs.Numbers.{f64Bytes, bytes8};
 ghost use Rattle.predictorcorrector.specs.State as State;
 ghost use Rattle.c_chain.specs.States.{chainRefusal, chainSet, horizonSetIn, chainMade};
-ghost use Rattle.c_chain.specs.Vectors.{pair, pairChanged, numberInto, blockInto};
+ghost use Rattle.c_chain.specs.Vectors.{pair, numbered, numberInto, blockInto};
 
 // Document 01's refusals of a yes/no byte, a code or a size, and of a length.
 const RANGE: u8 = 2;
@@ -64,21 +64,21 @@ pub extern "C" fn krcf_total(high: &[f64], low: &[f64], out: &mut [u8]) -> u8
 
 #[no_mangle]
 pub extern "C" fn krcf_scale(high: &mut [f64], low: &mut [f64], factor: f64) -> u8
-    ensures { λ r. ⌜ pair r (now (high .exit)) (now (low .exit)) ≡ pairChanged (DiVector.alike (now (high .entry)) (now (low .entry))) (now (high .entry)) (now (low .entry)) (DiVector.scaled factor (now (high .entry))) (DiVector.scaled factor (now (low .entry))) ⌝ }
+    ensures { λ r. ⌜ pair r (now (high .exit)) (now (low .exit)) ≡ numbered (DiVector.scale (now (high .entry)) (now (low .entry)) factor) ⌝ }
 {
     divector::scale(high, low, factor).number()
 }
 
 #[no_mangle]
 pub extern "C" fn krcf_normalize(high: &mut [f64], low: &mut [f64], value: f64) -> u8
-    ensures { λ r. ⌜ pair r (now (high .exit)) (now (low .exit)) ≡ pairChanged (DiVector.alike (now (high .entry)) (now (low .entry))) (now (high .entry)) (now (low .entry)) (DiVector.normalized value (now (high .entry)) (now (low .entry)) (now (high .entry))) (DiVector.normalized value (now (high .entry)) (now (low .entry)) (now (low .entry))) ⌝ }
+    ensures { λ r. ⌜ pair r (now (high .exit)) (now (low .exit)) ≡ numbered (DiVector.normalize (now (high .entry)) (now (low .entry)) value) ⌝ }
 {
     divector::normalize(high, low, value).number()
 }
 
 #[no_mangle]
 pub extern "C" fn krcf_divide(high: &mut [f64], low: &mut [f64], num: usize) -> u8
-    ensures { λ r. ⌜ pair r (now (high .exit)) (now (low .exit)) ≡ pairChanged (DiVector.alike (now (high .entry)) (now (low .entry))) (now (high .entry)) (now (low .entry)) (DiVector.scaled (DiVector.reciprocal num) (now (high .entry))) (DiVector.scaled (DiVector.reciprocal num) (now (low .entry))) ⌝ }
+    ensures { λ r. ⌜ pair r (now (high .exit)) (now (low .exit)) ≡ numbered (DiVector.divide (now (high .entry)) (now (low .entry)) num) ⌝ }
 {
     divector::divide(high, low, num).number()
 }
@@ -90,7 +90,7 @@ pub extern "C" fn krcf_assign(
     from_high: &[f64],
     from_low: &[f64],
 ) -> u8
-    ensures { λ r. ⌜ pair r (now (high .exit)) (now (low .exit)) ≡ pairChanged (DiVector.allAlike (now (high .entry)) (now (low .entry)) (now («from_high» .entry)) (now («from_low» .entry))) (now (high .entry)) (now (low .entry)) (now («from_high» .entry)) (now («from_low» .entry)) ⌝ }
+    ensures { λ r. ⌜ pair r (now (high .exit)) (now (low .exit)) ≡ numbered (DiVector.assign (now (high .entry)) (now (low .entry)) (now («from_high» .entry)) (now («from_low» .entry))) ⌝ }
 {
     divector::assign(high, low, from_high, from_low).number()
 }
@@ -102,7 +102,7 @@ pub extern "C" fn krcf_add_to(
     other_high: &mut [f64],
     other_low: &mut [f64],
 ) -> u8
-    ensures { λ r. ⌜ pair r (now («other_high» .exit)) (now («other_low» .exit)) ≡ pairChanged (DiVector.allAlike (now (high .entry)) (now (low .entry)) (now («other_high» .entry)) (now («other_low» .entry))) (now («other_high» .entry)) (now («other_low» .entry)) (DiVector.added (now («other_high» .entry)) (now (high .entry))) (DiVector.added (now («other_low» .entry)) (now (low .entry))) ⌝ }
+    ensures { λ r. ⌜ pair r (now («other_high» .exit)) (now («other_low» .exit)) ≡ numbered (DiVector.addTo (now (high .entry)) (now (low .entry)) (now («other_high» .entry)) (now («other_low» .entry))) ⌝ }
 {
     divector::add_to(high, low, other_high, other_low).number()
 }
@@ -115,7 +115,7 @@ pub extern "C" fn krcf_add_to_scaled(
     other_low: &mut [f64],
     factor: f64,
 ) -> u8
-    ensures { λ r. ⌜ pair r (now («other_high» .exit)) (now («other_low» .exit)) ≡ pairChanged (DiVector.allAlike (now (high .entry)) (now (low .entry)) (now («other_high» .entry)) (now («other_low» .entry))) (now («other_high» .entry)) (now («other_low» .entry)) (DiVector.addedScaled factor (now («other_high» .entry)) (now (high .entry))) (DiVector.addedScaled factor (now («other_low» .entry)) (now (low .entry))) ⌝ }
+    ensures { λ r. ⌜ pair r (now («other_high» .exit)) (now («other_low» .exit)) ≡ numbered (DiVector.addToScaled (now (high .entry)) (now (low .entry)) (now («other_high» .entry)) (now («other_low» .entry)) factor) ⌝ }
 {
     divector::add_to_scaled(high, low, other_high, other_low, factor).number()
 }

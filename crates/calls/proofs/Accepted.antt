@@ -19,12 +19,12 @@ use Rattle.descriptor.specs.Checks.{sizesOk, dimension, lastPointsOk}
 use Rattle.descriptor.proofs.Bounds.{both, sizes, dimension-is, base-inside, last-points}
 use Rattle.calls.specs.Calls.{firstRefusal, written, startOk, expectedLengths, expectedFinite, expectedAnswer, correctorLengths, correctorFinite, gapAnswer, correctorAnswer}
 
-record Passed (sizes lengths finite : Bool) (last : Answer) : Type 0 where
-  of-sizes : sizes ≡ true
-  of-lengths : lengths ≡ true
-  of-last : last ≡ Done
+pub record Passed (sizes lengths finite : Bool) (last : Answer) : Type 0 where
+  pub of-sizes : sizes ≡ true
+  pub of-lengths : lengths ≡ true
+  pub of-last : last ≡ Done
 
-passed : (a c d : Bool) (last : Answer) → firstRefusal a c d last ≡ Done → Passed a c d last
+pub passed : (a c d : Bool) (last : Answer) → firstRefusal a c d last ≡ Done → Passed a c d last
 unfolding firstRefusal
 passed true true true last h = record { of-sizes = refl; of-lengths = refl; of-last = h }
 passed true true false last h = absurd (let z : _≡_ {A = ℕ} 0 1 = cc in omega arith)
@@ -57,7 +57,7 @@ expected-fits shingle base position point high low median out h =
       inside = omega arith;
     })
 
-gap-above : (gap : ℕ) → gapAnswer gap ≡ Done → 0 < gap
+pub gap-above : (gap : ℕ) → gapAnswer gap ≡ Done → 0 < gap
 unfolding gapAnswer
 gap-above gap h = go (eqb gap 0) (λ (e : eqb gap 0 ≡ false). eqb-false gap 0 e) refl h
   where

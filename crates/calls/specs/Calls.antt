@@ -1,19 +1,26 @@
 -- The calls on a reading's buffers that predictorcorrector.rs has public: what each answers, and what it leaves in its buffer or state.
-use Prim.Native.Nat.{ℕ, _+_, _-_}
+use Prim.Native.Nat.{ℕ, _+_, _-_, _*_}
+use mathlib.Core.Path.{_≡_}
 use mathlib.Core.Bool.{Bool, true, false, cond, _&&_}
-use mathlib.Core.List.{List}
+use mathlib.Core.List.{List, [], _∷_}
 use lib.Dec.{leb, ltb, eqb}
-use lib.ListN.{length}
+use lib.ListN.{length, take}
 use lib.IntN.{ℤ}
 use lib.Ieee.{Float}
 use Rattle.types.specs.declared.Refusal.the-variants.{Range, Length, NotFinite, ValuesSeen, Count}
 use Rattle.types.specs.declared.Answer.{Answer}
 use Rattle.types.specs.declared.Answer.the-variants.{Done, Refused}
 use Rattle.descriptor.specs.Checks.{sizesOk, dimension, lastPointsOk, allFinite}
-use Rattle.corrector.specs.Corrector.{expectedPoint, applyBasicCorrector}
+use Rattle.attributors.specs.Attributors.{asked}
+use Rattle.divector.specs.DiVector.{maxGapContribution}
+use Rattle.divector.specs.declared.Block.{Block}
+use Rattle.divector.specs.declared.Block.the-variants as Block
+use Rattle.divector.specs.declared.Block.the-variants.{At}
+use Rattle.corrector.specs.Corrector.{predicted, expectedPoint, applyBasicCorrector}
 use Rattle.predictorcorrector.specs.State.{autoAdjusted, stateCountsOk}
 use Rattle.predictorcorrector.specs.declared.PredictorCorrector.{PredictorCorrector}
 use Rattle.predictorcorrector.specs.declared.Updated.{Updated}
+use Rattle.calls.specs.declared.Missing.{Missing}
 
 -- The first test that fails names the refusal: 2, 3, 4, then the call's own.
 unfoldable pub firstRefusal : Bool → Bool → Bool → Answer → Answer
@@ -66,6 +73,41 @@ correctorAnswer shingle base gap point hasAnomaly expected anomalous out =
     (correctorLengths (dimension shingle base) (length point) out hasAnomaly (length expected) (length anomalous))
     (correctorFinite point hasAnomaly expected anomalous)
     (gapAnswer gap)
+
+-- ---- likely_missing_indices: what the forest's conditional field is asked for
+unfoldable pub missingAnswer : (shingle base gap : ℕ) → (high low : List Float) → Answer
+missingAnswer shingle base gap high low =
+    let d = dimension shingle base in
+    firstRefusal (sizesOk shingle base) (eqb (length high) d && eqb (length low) d) (allFinite high && allFinite low) (gapAnswer gap)
+
+-- The block's place and the indices asked for in its row.
+unfoldable pub missingAt : (high low : List Float) → (base block start : ℕ) → Missing
+missingAt high low base block start =
+    record { answer = Done; block = block; count = asked high low start base .count; indices = asked high low start base .indices }
+
+-- The block that a search answers. It is refused for no accepted attribution.
+unfoldable pub blockOf : Block → ℕ
+blockOf (At k) = k
+blockOf (Block.Refused why) = 0
+
+-- The same of the block that contributes most.
+unfoldable pub missingWithin : (high low : List Float) → (base gap : ℕ) → Missing
+missingWithin high low base gap =
+    let block = blockOf (maxGapContribution high low base gap) in
+    missingAt high low base block (block * base)
+
+unfoldable pub missingBy : Answer → (base gap : ℕ) → (high low : List Float) → Missing
+missingBy Done base gap high low = missingWithin high low base gap
+missingBy (Refused why) base gap high low = record { answer = Refused why; block = 0; count = 0; indices = 0 ∷ 0 ∷ 0 ∷ 0 ∷ 0 ∷ [] }
+
+unfoldable pub likelyMissingIndices : (shingle base gap : ℕ) → (high low : List Float) → Missing
+likelyMissingIndices shingle base gap high low = missingBy (missingAnswer shingle base gap high low) base gap high low
+
+-- What an accepted call is for: the expected point of the block's row is the point with the median at exactly these indices.
+abbrev pub AskedOfTheForest : Type 0
+AskedOfTheForest =
+    (shingle base gap : ℕ) (high low point median : List Float) (m : Missing) → m ≡ likelyMissingIndices shingle base gap high low → m .answer ≡ Done
+    → expectedPoint high low (m .block * base) base point median ≡ predicted (take (m .count) (m .indices)) median point
 
 -- ---- update_auto_adjust
 -- Refusal 6 for counts that take no update.

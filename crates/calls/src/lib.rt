@@ -1,4 +1,5 @@
 // The calls on a reading's buffers that predictorcorrector.rs has public, with document 01's refusals.
+use divector::Block;
 use predictorcorrector::PredictorCorrector;
 use predictorcorrector::Updated;
 use types::Answer;
@@ -183,6 +184,78 @@ pub fn apply_basic_corrector(
         Answer::Refused(_) => answer,
     }
 }
+
+// What the forest's conditional field is asked for behind an attribution: the block that contributes most, and the likely missing indices of its row. The
+// places from `count` on hold 0; a refusal has no block and no indices, all zero.
+pub struct Missing {
+    pub answer: Answer,
+    pub block: usize,
+    pub count: usize,
+    pub indices: [usize; 5],
+}
+
+fn missing_answer(shingle_size: usize, base: usize, gap: usize, high: &[f64], low: &[f64]) -> Answer
+    ensures { λ r. ⌜ r ≡ Calls.missingAnswer «shingle_size» base gap (now (high .entry)) (now (low .entry)) ⌝ }
+{
+    let d = descriptor::dimension(shingle_size, base);
+    first_refusal(
+        descriptor::sizes_ok(shingle_size, base),
+        (high.len() == d) & (low.len() == d),
+        descriptor::all_finite_f64(high) & descriptor::all_finite_f64(low),
+        gap_answer(gap),
+    )
+}
+
+// What is asked for behind a block that starts at `start`.
+fn missing_at(high: &[f64], low: &[f64], base: usize, block: usize, start: usize) -> Missing
+    ensures { λ r. ⌜ r ≡ Calls.missingAt (now (high .entry)) (now (low .entry)) base block start ⌝ }
+{
+    let asked = attributors::asked_indices(high, low, start, base);
+    let indices = asked.indices;
+    Missing {
+        answer: Answer::Done,
+        block,
+        count: asked.count,
+        indices,
+    }
+}
+
+fn missing_within(high: &[f64], low: &[f64], base: usize, gap: usize) -> Missing
+    ensures { λ r. ⌜ r ≡ Calls.missingWithin (now (high .entry)) (now (low .entry)) base gap ⌝ }
+{
+    let found = divector::max_gap_contribution(high, low, base, gap);
+    match found {
+        Block::At(block) => missing_at(high, low, base, block, block * base),
+        Block::Refused(_) => missing_at(high, low, base, 0, 0),
+    }
+}
+
+// The block that contributes most since the last anomaly, `gap` readings ago, and the indices of its row for which the expected point asks the forest.
+pub fn likely_missing_indices(
+    shingle_size: usize,
+    base: usize,
+    gap: usize,
+    high: &[f64],
+    low: &[f64],
+) -> Missing
+    ensures { λ r. ⌜ r ≡ Calls.likelyMissingIndices «shingle_size» base gap (now (high .entry)) (now (low .entry)) ⌝ }
+{
+    let answer = missing_answer(shingle_size, base, gap, high, low);
+    match answer {
+        Answer::Done => missing_within(high, low, base, gap),
+        Answer::Refused(_) => Missing {
+            answer,
+            block: 0,
+            count: 0,
+            indices: [0, 0, 0, 0, 0],
+        },
+    }
+}
+
+// Holds the law to its statement.
+fn asked_of_the_forest()
+    ensures { λ r. ⌜ Calls.AskedOfTheForest ⌝ }
+{}
 
 fn counts_answer(ok: bool) -> Answer
     ensures { λ r. ⌜ r ≡ Calls.countsAnswer ok ⌝ }

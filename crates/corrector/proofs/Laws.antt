@@ -19,6 +19,7 @@ use mir.ValLaws.{toZ-ofZ}
 use Rattle.descriptor.specs.Checks.{sizesOk, dimension}
 use Rattle.descriptor.proofs.Bounds.{sizes, dimension-is, base-inside, last-points}
 use Rattle.attributors.proofs.Laws.{both, row-of}
+pub use Rattle.attributors.proofs.Laws.{for-more, at-end}
 use Rattle.corrector.specs.Corrector.{isZero, expectedFits, triggerFits, pointFits, correctorFits, shifted, newestRow}
 use Rattle.corrector.specs.Steps.{Expecting, Triggering, Accepted, Correcting}
 

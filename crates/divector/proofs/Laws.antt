@@ -11,14 +11,13 @@ use lib.Ieee as Ieee
 use lib.Ieee.{Float, binary64}
 use borrow.Author.Tests.{eqb-true, eqb-false, eq-eqb, ne-eqb}
 use Rattle.types.specs.declared.Refusal.the-variants.{Length, Blocks}
-use Rattle.types.specs.declared.Answer.{Answer}
-use Rattle.types.specs.declared.Answer.the-variants.{Done, Refused}
+use Rattle.types.specs.declared.Answer.the-variants.{Done}
 use Rattle.divector.specs.declared.Block.{Block}
 use Rattle.divector.specs.declared.Block.the-variants as Block
 use Rattle.divector.specs.declared.Block.the-variants.{At}
-use Rattle.divector.specs.Const.{zero64}
+use Rattle.ieee.specs.F64.{zero64}
 use Rattle.divector.proofs.Blocks.{first-within}
-use Rattle.divector.specs.DiVector.{Updated, sumFrom, totalOf, scaled, zipped, added, addedScaled, oneLength, share, normalized}
+use Rattle.divector.specs.DiVector.{after, changed, sumFrom, totalOf, scaled, zipped, added, addedScaled, oneLength, share, normalized}
 use Rattle.divector.specs.DiVector.{blockSum, bestFrom, winner, firstBlock, badBlocks, maxGapContribution}
 
 -- Lengths stay.
@@ -60,17 +59,25 @@ pub one-length-true : (a b c d : ℕ) → OneLength a b c d → oneLength a b c 
 unfolding oneLength
 one-length-true a b c d l = simp (eq-eqb a b (sym (l .second)), eq-eqb a c (sym (l .third)), eq-eqb a d (sym (l .fourth)))
 
--- A pair that a call wrote, and one that it left alone.
-module _ {fits : Bool} {hs ls hs′ ls′ : List Float} where
-  pub done : {high low : List Float} → fits ≡ true → high ≡ hs′ → low ≡ ls′ → Updated fits hs ls hs′ ls′ Done high low
-  done e p q = record { answer = simp e; highs = simp e p; lows = simp e q }
+-- A pair that a call wrote.
+pub done : {high low hs ls : List Float} → high ≡ hs → low ≡ ls → after Done high low ≡ after Done hs ls
+done p q = ap₂ (after Done) p q
 
-  pub kept : fits ≡ false → Updated fits hs ls hs′ ls′ (Refused Length) hs ls
-  kept e = record { answer = simp e; highs = simp e; lows = simp e }
+-- Each part of what a call leaves.
+module _ (fits : Bool) (hs ls hs′ ls′ : List Float) where
+  pub changed-high : changed fits hs ls hs′ ls′ .high ≡ cond fits hs′ hs
+  changed-high = by-test fits
+    where
+      by-test : (t : Bool) → changed t hs ls hs′ ls′ .high ≡ cond t hs′ hs
+      by-test true = refl
+      by-test false = refl
 
-  -- what a caller whose pair fits is left with
-  pub wrote : {r : Answer} {high low : List Float} → Updated fits hs ls hs′ ls′ r high low → fits ≡ true → (r ≡ Done) × (high ≡ hs′) × (low ≡ ls′)
-  wrote u e = (u .answer ∙ simp e, u .highs ∙ simp e, u .lows ∙ simp e)
+  pub changed-low : changed fits hs ls hs′ ls′ .low ≡ cond fits ls′ ls
+  changed-low = by-test fits
+    where
+      by-test : (t : Bool) → changed t hs ls hs′ ls′ .low ≡ cond t ls′ ls
+      by-test true = refl
+      by-test false = refl
 
 -- Normalising, by the total.
 module _ (value : Float) (hs ls xs : List Float) where

@@ -15,16 +15,17 @@ use Rattle.divector.specs.declared.Number.{Number}
 use Rattle.divector.specs.declared.Number.the-variants as Number
 use Rattle.divector.specs.declared.Block.{Block}
 use Rattle.divector.specs.declared.Block.the-variants as Block
-use Rattle.divector.specs.Const.{zero64, one64, two64}
+use Rattle.ieee.specs.F64.{zero64, one64, _<=_, _>_, _+_ as _+₆₄_, _*_ as _*₆₄_, _/_ as _/₆₄_}
+use Rattle.divector.specs.Const.{two64}
 
 -- acc and the numbers of the list, added in order
 unfoldable pub sumFrom : Float → List Float → Float
 sumFrom acc [] = acc
-sumFrom acc (x ∷ xs) = sumFrom (Ieee.add binary64 acc x) xs
+sumFrom acc (x ∷ xs) = sumFrom (acc +₆₄ x) xs
 
 -- the sum of high and the sum of low, each from plus zero, added
 unfoldable pub totalOf : List Float → List Float → Float
-totalOf hs ls = Ieee.add binary64 (sumFrom zero64 hs) (sumFrom zero64 ls)
+totalOf hs ls = sumFrom zero64 hs +₆₄ sumFrom zero64 ls
 
 -- high and low are of one length
 abbrev pub alike : List Float → List Float → Bool
@@ -36,33 +37,40 @@ total hs ls = cond (alike hs ls) (Number.Value (totalOf hs ls)) (Number.Refused 
 
 -- high[i] + low[i]
 abbrev pub sumAt : List Float → List Float → ℕ → Float
-sumAt hs ls i = Ieee.add binary64 (getD hs i nan) (getD ls i nan)
+sumAt hs ls i = getD hs i nan +₆₄ getD ls i nan
 
 -- refusal 3 where high and low differ in length, or there is no index i
 unfoldable pub highLowSum : List Float → List Float → ℕ → Number
 highLowSum hs ls i = cond (alike hs ls && ltb i (length hs)) (Number.Value (sumAt hs ls i)) (Number.Refused Length)
 
--- What a call leaves of a pair hs, ls: where it fits, done, and hs′, ls′ stand there; otherwise refusal 3, and the pair as it was.
-pub record Updated (fits : Bool) (hs ls hs′ ls′ : List Float) (r : Answer) (high low : List Float) : Type 0 where
-  pub answer : r ≡ cond fits Done (Refused Length)
-  pub highs : high ≡ cond fits hs′ hs
-  pub lows : low ≡ cond fits ls′ ls
+-- What a call answers, and the pair that it leaves.
+pub record After : Type 0 where
+  pub answer : Answer
+  pub high : List Float
+  pub low : List Float
+
+abbrev pub after : Answer → List Float → List Float → After
+after r high low = record { answer = r; high = high; low = low }
+
+-- A pair hs, ls becomes hs′, ls′ where the lengths fit; otherwise refusal 3, and the pair as it was.
+abbrev pub changed : Bool → List Float → List Float → List Float → List Float → After
+changed fits hs ls hs′ ls′ = cond fits (after Done hs′ ls′) (after (Refused Length) hs ls)
 
 -- x *= factor for every x
 unfoldable pub scaled : Float → List Float → List Float
-scaled factor xs = map (λ (x : Float). Ieee.mul binary64 x factor) xs
+scaled factor xs = map (λ (x : Float). x *₆₄ factor) xs
 
 -- both sides scaled
-abbrev pub Scale : List Float → List Float → Float → Answer → List Float → List Float → Type 0
-Scale hs ls factor = Updated (alike hs ls) hs ls (scaled factor hs) (scaled factor ls)
+unfoldable pub scale : List Float → List Float → Float → After
+scale hs ls factor = changed (alike hs ls) hs ls (scaled factor hs) (scaled factor ls)
 
 -- 1.0 / num as f64
 abbrev pub reciprocal : ℕ → Float
-reciprocal num = Ieee.div binary64 one64 (Ieee.ofInt binary64 (pos num))
+reciprocal num = one64 /₆₄ Ieee.ofInt binary64 (pos num)
 
 -- both sides scaled by it
-abbrev pub Divide : List Float → List Float → ℕ → Answer → List Float → List Float → Type 0
-Divide hs ls num = Scale hs ls (reciprocal num)
+unfoldable pub divide : List Float → List Float → ℕ → After
+divide hs ls num = scale hs ls (reciprocal num)
 
 -- `iter_mut().zip(..)`: every x becomes f x y with the y at its place, as far as there is one
 unfoldable pub zipped : (Float → Float → Float) → List Float → List Float → List Float
@@ -72,11 +80,11 @@ zipped f (x ∷ xs) (y ∷ ys) = f x y ∷ zipped f xs ys
 
 -- x += y
 unfoldable pub added : List Float → List Float → List Float
-added xs ys = zipped (Ieee.add binary64) xs ys
+added xs ys = zipped (λ (x y : Float). x +₆₄ y) xs ys
 
 -- x += y * factor
 unfoldable pub addedScaled : Float → List Float → List Float → List Float
-addedScaled factor xs ys = zipped (λ (x y : Float). Ieee.add binary64 x (Ieee.mul binary64 y factor)) xs ys
+addedScaled factor xs ys = zipped (λ (x y : Float). x +₆₄ y *₆₄ factor) xs ys
 
 -- the four are one length
 unfoldable pub oneLength : ℕ → ℕ → ℕ → ℕ → Bool
@@ -87,39 +95,39 @@ abbrev pub allAlike : List Float → List Float → List Float → List Float �
 allAlike hs ls xs ys = oneLength (length hs) (length ls) (length xs) (length ys)
 
 -- the pair becomes the pair fh, fl
-abbrev pub Assign : List Float → List Float → List Float → List Float → Answer → List Float → List Float → Type 0
-Assign hs ls fh fl = Updated (allAlike hs ls fh fl) hs ls fh fl
+unfoldable pub assign : List Float → List Float → List Float → List Float → After
+assign hs ls fh fl = changed (allAlike hs ls fh fl) hs ls fh fl
 
 -- the pair hs, ls is added to the other pair, oh, ol
-abbrev pub AddTo : List Float → List Float → List Float → List Float → Answer → List Float → List Float → Type 0
-AddTo hs ls oh ol = Updated (allAlike hs ls oh ol) oh ol (added oh hs) (added ol ls)
+unfoldable pub addTo : List Float → List Float → List Float → List Float → After
+addTo hs ls oh ol = changed (allAlike hs ls oh ol) oh ol (added oh hs) (added ol ls)
 
 -- the same, each number times factor
-abbrev pub AddToScaled : List Float → List Float → List Float → List Float → Float → Answer → List Float → List Float → Type 0
-AddToScaled hs ls oh ol factor = Updated (allAlike hs ls oh ol) oh ol (addedScaled factor oh hs) (addedScaled factor ol ls)
+unfoldable pub addToScaled : List Float → List Float → List Float → List Float → Float → After
+addToScaled hs ls oh ol factor = changed (allAlike hs ls oh ol) oh ol (addedScaled factor oh hs) (addedScaled factor ol ls)
 
 -- value / (2.0 * n as f64)
 unfoldable pub share : Float → ℕ → Float
-share value n = Ieee.div binary64 value (Ieee.mul binary64 two64 (Ieee.ofInt binary64 (pos n)))
+share value n = value /₆₄ (two64 *₆₄ Ieee.ofInt binary64 (pos n))
 
 -- What normalising the pair hs, ls to value makes of xs, one of the two: a share everywhere where the total is <= 0, else scaled by value / total. A NaN total scales.
 unfoldable pub normalized : Float → List Float → List Float → List Float → List Float
 normalized value hs ls xs =
     let current = totalOf hs ls in
-    cond (Ieee.le current zero64) (replicate (length hs) (share value (length hs))) (scaled (Ieee.div binary64 value current) xs)
+    cond (current <= zero64) (replicate (length hs) (share value (length hs))) (scaled (value /₆₄ current) xs)
 
 -- both sides normalised to value
-abbrev pub Normalize : List Float → List Float → Float → Answer → List Float → List Float → Type 0
-Normalize hs ls value = Updated (alike hs ls) hs ls (normalized value hs ls hs) (normalized value hs ls ls)
+unfoldable pub normalize : List Float → List Float → Float → After
+normalize hs ls value = changed (alike hs ls) hs ls (normalized value hs ls hs) (normalized value hs ls ls)
 
 -- the same, in place of another pair, oh, ol
-abbrev pub NormalizeInto : List Float → List Float → Float → List Float → List Float → Answer → List Float → List Float → Type 0
-NormalizeInto hs ls value oh ol = Updated (allAlike hs ls oh ol) oh ol (normalized value hs ls hs) (normalized value hs ls ls)
+unfoldable pub normalizeInto : List Float → List Float → Float → List Float → List Float → After
+normalizeInto hs ls value oh ol = changed (allAlike hs ls oh ol) oh ol (normalized value hs ls hs) (normalized value hs ls ls)
 
 -- 0.0 and the n sums high[at + i] + low[at + i] from i = 0 on, added in order
 unfoldable pub pairSum : List Float → List Float → ℕ → ℕ → Float
 pairSum hs ls at zero = zero64
-pairSum hs ls at (suc i) = Ieee.add binary64 (pairSum hs ls at i) (sumAt hs ls (at + i))
+pairSum hs ls at (suc i) = pairSum hs ls at i +₆₄ sumAt hs ls (at + i)
 
 -- the sum of the block at place k
 unfoldable pub blockSum : List Float → List Float → ℕ → ℕ → Float
@@ -128,7 +136,7 @@ blockSum hs ls base k = pairSum hs ls (k * base) base
 -- The winner among index, the winner so far, and the n blocks from j on: a later block wins only if its sum is strictly larger.
 unfoldable pub bestFrom : (ℕ → Float) → ℕ → ℕ → ℕ → ℕ
 bestFrom sum zero j index = index
-bestFrom sum (suc n) j index = bestFrom sum n (j + 1) (cond (Ieee.lt (sum index) (sum j)) j index)
+bestFrom sum (suc n) j index = bestFrom sum n (j + 1) (cond (sum j > sum index) j index)
 
 -- the winner among the blocks from start on
 unfoldable pub winner : List Float → List Float → ℕ → ℕ → ℕ → ℕ

@@ -4,8 +4,8 @@ use types::Refusal;
 ghost use mathlib.Core.Path.{_≡_};
 ghost use Prim.Native.Nat.{_+_, _-_, _*_, _<_, _≤_};
 ghost use lib.ListN.{length, replicate};
-ghost use Rattle.divector.specs.Const as Const;
 ghost use Rattle.divector.specs.DiVector as DiVector;
+ghost use Rattle.divector.specs.DiVector.{after};
 
 // A number, or why there is none.
 pub enum Number {
@@ -19,17 +19,20 @@ pub enum Block {
     Refused(Refusal),
 }
 
-// The sum of the numbers in order, from plus zero.
-fn sum(xs: &[f64]) -> f64
-    ensures { λ r. ⌜ r ≡ DiVector.sumFrom Const.zero64 (now (xs .entry)) ⌝ }
+// The sum of high and the sum of low, each in order from plus zero, added. Both in one loop, so that neither addition waits for the other.
+fn total_of(high: &[f64], low: &[f64]) -> f64
+    requires { ⌜ length (now low) ≡ length (now high) ⌝ }
+    ensures { λ r. ⌜ r ≡ DiVector.totalOf (now (high .entry)) (now (low .entry)) ⌝ }
 {
-    let mut acc = 0.0;
+    let mut a = 0.0f64;
+    let mut b = 0.0f64;
     let mut i = 0usize;
-    while i < xs.len() {
-        acc = acc + xs[i];
+    while i < high.len() {
+        a = a + high[i];
+        b = b + low[i];
         i += 1;
     }
-    acc
+    a + b
 }
 
 // x *= factor
@@ -115,13 +118,6 @@ fn one_length(a: usize, b: usize, c: usize, d: usize) -> bool
     a == d
 }
 
-// The two sums added.
-fn total_of(high: &[f64], low: &[f64]) -> f64
-    ensures { λ r. ⌜ r ≡ DiVector.totalOf (now (high .entry)) (now (low .entry)) ⌝ }
-{
-    sum(high) + sum(low)
-}
-
 pub fn total(high: &[f64], low: &[f64]) -> Number
     ensures { λ r. ⌜ r ≡ DiVector.total (now (high .entry)) (now (low .entry)) ⌝ }
 {
@@ -144,7 +140,7 @@ pub fn high_low_sum(high: &[f64], low: &[f64], index: usize) -> Number
 }
 
 pub fn scale(high: &mut [f64], low: &mut [f64], factor: f64) -> Answer
-    ensures { λ r. ⌜ DiVector.Scale (now (high .entry)) (now (low .entry)) factor r (now (high .exit)) (now (low .exit)) ⌝ }
+    ensures { λ r. ⌜ after r (now (high .exit)) (now (low .exit)) ≡ DiVector.scale (now (high .entry)) (now (low .entry)) factor ⌝ }
 {
     if high.len() != low.len() {
         return Answer::Refused(Refusal::Length);
@@ -155,13 +151,14 @@ pub fn scale(high: &mut [f64], low: &mut [f64], factor: f64) -> Answer
 }
 
 pub fn divide(high: &mut [f64], low: &mut [f64], num: usize) -> Answer
-    ensures { λ r. ⌜ DiVector.Divide (now (high .entry)) (now (low .entry)) num r (now (high .exit)) (now (low .exit)) ⌝ }
+    ensures { λ r. ⌜ after r (now (high .exit)) (now (low .exit)) ≡ DiVector.divide (now (high .entry)) (now (low .entry)) num ⌝ }
 {
     scale(high, low, 1.0 / std::num::nearest_u64_to_f64(num as u64))
 }
 
 pub fn assign(high: &mut [f64], low: &mut [f64], from_high: &[f64], from_low: &[f64]) -> Answer
-    ensures { λ r. ⌜ DiVector.Assign (now (high .entry)) (now (low .entry)) (now («from_high» .entry)) (now («from_low» .entry)) r (now (high .exit)) (now (low .exit)) ⌝ }
+    ensures { λ r. ⌜ after r (now (high .exit)) (now (low .exit)) ≡ DiVector.assign
+        (now (high .entry)) (now (low .entry)) (now («from_high» .entry)) (now («from_low» .entry)) ⌝ }
 {
     if one_length(high.len(), low.len(), from_high.len(), from_low.len()) {
         assign_one(high, from_high);
@@ -172,7 +169,8 @@ pub fn assign(high: &mut [f64], low: &mut [f64], from_high: &[f64], from_low: &[
 }
 
 pub fn add_to(high: &[f64], low: &[f64], other_high: &mut [f64], other_low: &mut [f64]) -> Answer
-    ensures { λ r. ⌜ DiVector.AddTo (now (high .entry)) (now (low .entry)) (now («other_high» .entry)) (now («other_low» .entry)) r (now («other_high» .exit)) (now («other_low» .exit)) ⌝ }
+    ensures { λ r. ⌜ after r (now («other_high» .exit)) (now («other_low» .exit)) ≡ DiVector.addTo
+        (now (high .entry)) (now (low .entry)) (now («other_high» .entry)) (now («other_low» .entry)) ⌝ }
 {
     if one_length(high.len(), low.len(), other_high.len(), other_low.len()) {
         add_one(other_high, high);
@@ -189,7 +187,8 @@ pub fn add_to_scaled(
     other_low: &mut [f64],
     factor: f64,
 ) -> Answer
-    ensures { λ r. ⌜ DiVector.AddToScaled (now (high .entry)) (now (low .entry)) (now («other_high» .entry)) (now («other_low» .entry)) factor r (now («other_high» .exit)) (now («other_low» .exit)) ⌝ }
+    ensures { λ r. ⌜ after r (now («other_high» .exit)) (now («other_low» .exit)) ≡ DiVector.addToScaled
+        (now (high .entry)) (now (low .entry)) (now («other_high» .entry)) (now («other_low» .entry)) factor ⌝ }
 {
     if one_length(high.len(), low.len(), other_high.len(), other_low.len()) {
         add_scaled_one(other_high, high, factor);
@@ -207,7 +206,7 @@ fn share(value: f64, n: usize) -> f64
 }
 
 pub fn normalize(high: &mut [f64], low: &mut [f64], value: f64) -> Answer
-    ensures { λ r. ⌜ DiVector.Normalize (now (high .entry)) (now (low .entry)) value r (now (high .exit)) (now (low .exit)) ⌝ }
+    ensures { λ r. ⌜ after r (now (high .exit)) (now (low .exit)) ≡ DiVector.normalize (now (high .entry)) (now (low .entry)) value ⌝ }
 {
     if high.len() != low.len() {
         return Answer::Refused(Refusal::Length);
@@ -233,7 +232,8 @@ pub fn normalize_into(
     out_high: &mut [f64],
     out_low: &mut [f64],
 ) -> Answer
-    ensures { λ r. ⌜ DiVector.NormalizeInto (now (high .entry)) (now (low .entry)) value (now («out_high» .entry)) (now («out_low» .entry)) r (now («out_high» .exit)) (now («out_low» .exit)) ⌝ }
+    ensures { λ r. ⌜ after r (now («out_high» .exit)) (now («out_low» .exit)) ≡ DiVector.normalizeInto
+        (now (high .entry)) (now (low .entry)) value (now («out_high» .entry)) (now («out_low» .entry)) ⌝ }
 {
     if one_length(high.len(), low.len(), out_high.len(), out_low.len()) {
         let current = total_of(high, low);

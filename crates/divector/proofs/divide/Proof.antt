@@ -1,4 +1,5 @@
 use borrow.Author.Needs.{needs}
+use Rattle.divector.specs.DiVector.{divide}
 use Rattle.divector.proofs.divide.Statement.{statement}
 use Rattle.divector.proofs.divide.Tie as tie
 
@@ -15,6 +16,7 @@ same-length-2 : tie.Need-same-length-2
 same-length-2 c = search needs
 
 returns : tie.Need-returns
+unfolding divide
 returns c = rw (← c .before .before .before .before .before .nearest-u64-to-f64 .ensures) (c .before .before .before .before .scale .ensures)
 
 pub divide-spec : {M : Type 1} → statement M

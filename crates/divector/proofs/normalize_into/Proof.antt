@@ -1,7 +1,8 @@
 use mathlib.Core.Path.{sym, _∙_}
 use native.Mathlib.Omega.{arith}
-use Rattle.divector.proofs.Laws.{done, kept, shared, rescaled, one-length}
+use Rattle.divector.proofs.Laws.{done, shared, rescaled, one-length}
 use borrow.Author.Needs.{needs}
+use Rattle.divector.specs.DiVector.{normalizeInto}
 use Rattle.divector.proofs.normalize_into.Statement.{statement}
 use Rattle.divector.proofs.normalize_into.Tie as tie
 
@@ -9,7 +10,7 @@ one-length-requires : tie.Need-one-length-requires
 one-length-requires c κs = search needs
 
 total-of-requires : tie.Need-total-of-requires
-total-of-requires c κs = search needs
+total-of-requires c κs = let l = one-length _ _ _ _ (sym (c .before .one-length .ensures) ∙ c .if1 .taken) in l .second
 
 share-requires : tie.Need-share-requires
 share-requires c κs = search needs
@@ -27,12 +28,13 @@ same-length-2 : tie.Need-same-length-2
 same-length-2 c = search needs
 
 returns : tie.Need-returns
+unfolding normalizeInto
 returns c =
     let fit = sym (c .before .before .before .before .before .before .before .before .before .before .before .before .one-length .ensures) ∙ c .before .before .before .before .before .before .before .before .before .before .before .if1 .taken in
     let total = c .before .before .before .before .before .before .before .before .before .before .total-of .ensures in
     let low = c .before .before .before .before .before .before .before .before .before .if2 .taken in
     let all = one-length _ _ _ _ fit in
-    done fit (shared _ _ _ _ total low (all .third) (c .before .before .before .before .before .before .before .before .share .ensures) (c .before .before .before .before .before .before .fill-one .ensures)) (shared _ _ _ _ total low (all .fourth) (c .before .before .before .before .before .before .before .before .share .ensures) (c .before .before .fill-one2 .ensures))
+    simp fit (done (shared _ _ _ _ total low (all .third) (c .before .before .before .before .before .before .before .before .share .ensures) (c .before .before .before .before .before .before .fill-one .ensures)) (shared _ _ _ _ total low (all .fourth) (c .before .before .before .before .before .before .before .before .share .ensures) (c .before .before .fill-one2 .ensures)))
 
 scale-into-requires : tie.Need-scale-into-requires
 scale-into-requires c κs = let l = one-length _ _ _ _ (sym (c .before .before .before .before .one-length .ensures) ∙ c .before .before .before .if1 .taken) in omega arith
@@ -47,13 +49,15 @@ same-length-4 : tie.Need-same-length-4
 same-length-4 c = search needs
 
 returns-2 : tie.Need-returns-2
+unfolding normalizeInto
 returns-2 c =
     let total = c .before .before .before .before .before .before .before .before .before .total-of .ensures in
     let above = c .before .before .before .before .before .before .before .before .if2 .left in
-    done (sym (c .before .before .before .before .before .before .before .before .before .before .before .one-length .ensures) ∙ c .before .before .before .before .before .before .before .before .before .before .if1 .taken) (rescaled _ _ _ _ total above (c .before .before .before .before .before .before .scale-into .ensures)) (rescaled _ _ _ _ total above (c .before .before .scale-into2 .ensures))
+    simp (sym (c .before .before .before .before .before .before .before .before .before .before .before .one-length .ensures) ∙ c .before .before .before .before .before .before .before .before .before .before .if1 .taken) (done (rescaled _ _ _ _ total above (c .before .before .before .before .before .before .scale-into .ensures)) (rescaled _ _ _ _ total above (c .before .before .scale-into2 .ensures)))
 
 returns-3 : tie.Need-returns-3
-returns-3 c = kept (sym (c .before .one-length .ensures) ∙ c .if1 .left)
+unfolding normalizeInto
+returns-3 c = simp (sym (c .before .one-length .ensures) ∙ c .if1 .left)
 
 pub normalize-into-spec : {M : Type 1} → statement M
 normalize-into-spec =
