@@ -4,6 +4,7 @@ use types::Refusal;
 use types::ScoringStrategy;
 use types::TransformMethod;
 ghost use mathlib.Core.Path.{_≡_};
+ghost use mathlib.Core.Bool.{_&&_};
 ghost use lib.ListN.{length};
 ghost use Rattle.descriptor.specs.Checks as Checks;
 ghost use Rattle.descriptor.specs.Lent.{lent};
@@ -64,6 +65,60 @@ pub fn all_finite_f64(xs: &[f64]) -> bool
         i += 1;
     }
     ok
+}
+
+// Two slices of one length in one loop.
+fn pair_finite_f32(xs: &[f32], ys: &[f32]) -> bool
+    requires { ⌜ length (now ys) ≡ length (now xs) ⌝ }
+    ensures { λ r. ⌜ r ≡ (Checks.allFinite (now (xs .entry)) && Checks.allFinite (now (ys .entry))) ⌝ }
+{
+    let mut ok = true;
+    let mut i = 0usize;
+    while i < xs.len() {
+        let x = xs[i];
+        let y = ys[i];
+        let gap = x - x;
+        let other = y - y;
+        ok = ok & (gap == gap) & (other == other);
+        i += 1;
+    }
+    ok
+}
+
+// Both slices; in one loop where they are as long as each other.
+fn both_finite_f32(xs: &[f32], ys: &[f32]) -> bool
+    ensures { λ r. ⌜ r ≡ (Checks.allFinite (now (xs .entry)) && Checks.allFinite (now (ys .entry))) ⌝ }
+{
+    if ys.len() == xs.len() {
+        return pair_finite_f32(xs, ys);
+    }
+    all_finite_f32(xs) & all_finite_f32(ys)
+}
+
+fn pair_finite_f64(xs: &[f64], ys: &[f64]) -> bool
+    requires { ⌜ length (now ys) ≡ length (now xs) ⌝ }
+    ensures { λ r. ⌜ r ≡ (Checks.allFinite (now (xs .entry)) && Checks.allFinite (now (ys .entry))) ⌝ }
+{
+    let mut ok = true;
+    let mut i = 0usize;
+    while i < xs.len() {
+        let x = xs[i];
+        let y = ys[i];
+        let gap = x - x;
+        let other = y - y;
+        ok = ok & (gap == gap) & (other == other);
+        i += 1;
+    }
+    ok
+}
+
+fn both_finite_f64(xs: &[f64], ys: &[f64]) -> bool
+    ensures { λ r. ⌜ r ≡ (Checks.allFinite (now (xs .entry)) && Checks.allFinite (now (ys .entry))) ⌝ }
+{
+    if ys.len() == xs.len() {
+        return pair_finite_f64(xs, ys);
+    }
+    all_finite_f64(xs) & all_finite_f64(ys)
 }
 
 pub fn sizes_ok(shingle_size: usize, base_dimension: usize) -> bool
@@ -149,8 +204,7 @@ fn last_finite(l: LastDescriptor, expected: &[f32], anomalous: &[f32]) -> bool
 {
     let anomaly = l.anomaly;
     if l.has_anomaly {
-        return ieee::is_finite(anomaly.score)
-            & (all_finite_f32(expected) & all_finite_f32(anomalous));
+        return ieee::is_finite(anomaly.score) & both_finite_f32(expected, anomalous);
     }
     true
 }
@@ -190,7 +244,10 @@ fn lengths_ok(
     out_high: usize,
     out_low: usize,
 ) -> bool
-    ensures { λ b. ⌜ b ≡ Checks.lengthsOk r l (lent (now (point .entry)) (now (scale .entry)) (now (shift .entry)) (now («difference_deviations» .entry)) (now («last_expected» .entry)) (now («last_anomalous» .entry)) (now (high .entry)) (now (low .entry)) (now (median .entry)) (now («ideal_high» .entry)) (now («ideal_low» .entry)) (now (neighbours .entry))) expected «out_high» «out_low» ⌝ }
+    ensures { λ b. ⌜ b ≡ Checks.lengthsOk r l (lent
+        (now (point .entry)) (now (scale .entry)) (now (shift .entry)) (now («difference_deviations» .entry))
+        (now («last_expected» .entry)) (now («last_anomalous» .entry)) (now (high .entry)) (now (low .entry))
+        (now (median .entry)) (now («ideal_high» .entry)) (now («ideal_low» .entry)) (now (neighbours .entry))) expected «out_high» «out_low» ⌝ }
 {
     let base = r.base_dimension;
     let d = dimension(r.shingle_size, base);
@@ -228,20 +285,20 @@ fn finite_ok(
     ideal_low: &[f64],
     neighbours: &[f32],
 ) -> bool
-    ensures { λ b. ⌜ b ≡ Checks.finiteOk r l (lent (now (point .entry)) (now (scale .entry)) (now (shift .entry)) (now («difference_deviations» .entry)) (now («last_expected» .entry)) (now («last_anomalous» .entry)) (now (high .entry)) (now (low .entry)) (now (median .entry)) (now («ideal_high» .entry)) (now («ideal_low» .entry)) (now (neighbours .entry))) ⌝ }
+    ensures { λ b. ⌜ b ≡ Checks.finiteOk r l (lent
+        (now (point .entry)) (now (scale .entry)) (now (shift .entry)) (now («difference_deviations» .entry))
+        (now («last_expected» .entry)) (now («last_anomalous» .entry)) (now (high .entry)) (now (low .entry))
+        (now (median .entry)) (now («ideal_high» .entry)) (now («ideal_low» .entry)) (now (neighbours .entry))) ⌝ }
 {
     numbers_finite(r, l)
         & (last_finite(l, last_expected, last_anomalous)
             & (all_finite_f32(point)
-                & (all_finite_f32(scale)
-                    & (all_finite_f32(shift)
-                        & (all_finite_f32(difference_deviations)
-                            & (all_finite_f64(high)
-                                & (all_finite_f64(low)
-                                    & (all_finite_f32(median)
-                                        & (all_finite_f64(ideal_high)
-                                            & (all_finite_f64(ideal_low)
-                                                & all_finite_f32(neighbours)))))))))))
+                & (both_finite_f32(scale, shift)
+                    & (all_finite_f32(difference_deviations)
+                        & (both_finite_f64(high, low)
+                            & (all_finite_f32(median)
+                                & (both_finite_f64(ideal_high, ideal_low)
+                                    & all_finite_f32(neighbours))))))))
 }
 
 // The answer to a reading: the smallest refusal of document 01's table that applies. `counts_ok` is refusal 6's test, which the state's owner makes.
@@ -266,7 +323,10 @@ pub fn answer(
     out_low: usize,
     counts_ok: bool,
 ) -> Answer
-    ensures { λ a. ⌜ a ≡ Checks.answerOf r l (lent (now (point .entry)) (now (scale .entry)) (now (shift .entry)) (now («difference_deviations» .entry)) (now («last_expected» .entry)) (now («last_anomalous» .entry)) (now (high .entry)) (now (low .entry)) (now (median .entry)) (now («ideal_high» .entry)) (now («ideal_low» .entry)) (now (neighbours .entry))) «state_base» expected «out_high» «out_low» «counts_ok» ⌝ }
+    ensures { λ a. ⌜ a ≡ Checks.answerOf r l (lent
+        (now (point .entry)) (now (scale .entry)) (now (shift .entry)) (now («difference_deviations» .entry))
+        (now («last_expected» .entry)) (now («last_anomalous» .entry)) (now (high .entry)) (now (low .entry))
+        (now (median .entry)) (now («ideal_high» .entry)) (now («ideal_low» .entry)) (now (neighbours .entry))) «state_base» expected «out_high» «out_low» «counts_ok» ⌝ }
 {
     let anomaly = l.anomaly;
     if range_ok(r.shingle_size, r.base_dimension, state_base) {

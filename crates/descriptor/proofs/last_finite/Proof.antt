@@ -7,15 +7,12 @@ use Rattle.descriptor.proofs.last_finite.Tie as tie
 is-finite-requires : tie.Need-is-finite-requires
 is-finite-requires c κs = search needs
 
-all-finite-f32-requires : tie.Need-all-finite-f32-requires
-all-finite-f32-requires c κs = search needs
-
-all-finite-f32-requires-2 : tie.Need-all-finite-f32-requires-2
-all-finite-f32-requires-2 c κs = search needs
+both-finite-f32-requires : tie.Need-both-finite-f32-requires
+both-finite-f32-requires c κs = search needs
 
 returns : tie.Need-returns
 unfolding lastFinite
-returns c = simp (c .before .before .before .if1 .taken, c .before .before .is-finite .ensures, c .before .all-finite-f32 .ensures, c .all-finite-f322 .ensures)
+returns c = simp (c .before .before .if1 .taken, c .before .is-finite .ensures, c .both-finite-f32 .ensures)
 
 returns-2 : tie.Need-returns-2
 unfolding lastFinite
@@ -26,7 +23,6 @@ last-finite-spec =
     tie.close
     (tie.spec
     is-finite-requires
-    all-finite-f32-requires
-    all-finite-f32-requires-2
+    both-finite-f32-requires
     returns
     returns-2)
