@@ -185,7 +185,9 @@ module _ (s : PredictorCorrector) (xs : List ℕ) (k : Holds s xs) where
 
   pub horizon-holds : (x : Float) (n : ℕ) (ys : List ℕ) → T (fits binary32 x) → left n ys ≡ horizonSetIn x xs → Holds (setHorizon s x .state) ys
   unfolding horizonSetIn setHorizon setScoreDifferencing
-  horizon-holds x n ys h e = go (isHorizon x) (e ∙ rw (no-refusal s xs k) ∙ ap (λ (u : PredictorCorrector). stored (setHorizon u x)) (k .state))
+  horizon-holds x n ys h e =
+      let p : left n ys ≡ stored (setHorizon (decodeState xs) x) = e ∙ rw (no-refusal s xs k) in
+      go (isHorizon x) (p ∙ ap (λ (u : PredictorCorrector). stored (setHorizon u x)) (k .state))
     where
       stored : Updated → Left
       stored u = cond (eqb (answered (u .answer)) 0) (left 0 (encodeStateOver xs (u .state))) (left (answered (u .answer)) xs)
