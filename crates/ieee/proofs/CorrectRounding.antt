@@ -42,8 +42,7 @@ is-floor (fin s m e) F = largest-whole (fin s m e) s (m * up e) (down e) F (down
 
 -- ---- the root
 -- In units of 2 ^ k / 2 ^ 1074, `sqrt x` is a whole number c of 53 digits (or 2 ^ 53), and x is a whole number M of units squared.
--- The exact root of M lies strictly between c - 1 / 2 and c + 1 / 2: c is the nearest, and no tie occurs. It is from 2 ^ 52 on and below 2 ^ 53, where
--- the format's values are exactly the whole numbers of units.
+-- The exact root of M lies strictly between c - 1 / 2 and c + 1 / 2.
 record RootDigits (x : Float) : Type 0 where
   pub c : ℕ
   pub k : ℕ
@@ -51,18 +50,13 @@ record RootDigits (x : Float) : Type 0 where
   pub root : HasValue (sqrt x) false (c * 2 ^ k) (2 ^ 1074)
   pub square : HasValue x false (M * 4 ^ k) (4 ^ 1074)
   pub c-low : 2 ^ 52 ≤ c
-  pub c-high : c ≤ 2 ^ 53
   pub M-low : 2 ^ 52 * 2 ^ 52 ≤ M
-  pub M-high : M < 2 ^ 53 * 2 ^ 53
   pub over : (2 * c - 1) * (2 * c - 1) < 4 * M
   pub under : 4 * M < (2 * c + 1) * (2 * c + 1)
 
 from-digits : (x : Float) (q j : ℕ) → 2 ^ 52 ≤ q → q < 2 ^ 53 → j ≤ 2097 → HasValue x false (q * 2 ^ j) (2 ^ 1126) → RootDigits x
-from-digits x q j q-ge q-lt j-le v = let n = Rooting.sqrt-near x q j q-ge q-lt j-le v in go (n .0) (n .1 .0) (n .1 .1) (n .2) (n .3)
+from-digits x q j q-ge q-lt j-le v = let n = Rooting.sqrt-near x q j q-ge q-lt j-le v in go (n .0) (n .1 .0) (n .1 .1) (n .2)
   where
-    most : (b : ℕ) → b < 2 ^ 53 → b + 1 ≤ 2 ^ 53
-    most b h = omega arith
-
     next : (a : ℕ) → a < a + 1
     next a = omega arith
 
@@ -72,17 +66,14 @@ from-digits x q j q-ge q-lt j-le v = let n = Rooting.sqrt-near x q j q-ge q-lt j
     wide : (W : ℕ) → 2 ^ 52 ≤ W → 2 ^ 53 * 2 ^ 53 ≤ 4 * (W * 2 ^ 52)
     wide W h = omega arith
 
-    less : (W : ℕ) → W < 2 ^ 54 → W * 2 ^ 52 < 2 ^ 53 * 2 ^ 53
-    less W h = omega arith
-
     odd : (b : ℕ) → 2 * (b + 1) - 1 ≡ 2 * b + 1
     odd b = omega arith
 
     lower : (a M : ℕ) → a < M → 4 * a + 1 < 4 * M
     lower a M h = omega arith
 
-    go : (b : ℕ) → b * b + b < q * 2 ^ bitAnd j 1 * 2 ^ 52 → q * 2 ^ bitAnd j 1 * 2 ^ 52 ≤ (b + 1) * (b + 1) + (b + 1) → HasValue (sqrt x) false ((b + 1) * 2 ^ (j / 2 + 485)) (2 ^ 1074) → b < 2 ^ 53 → RootDigits x
-    go b lo hi root b-lt =
+    go : (b : ℕ) → b * b + b < q * 2 ^ bitAnd j 1 * 2 ^ 52 → q * 2 ^ bitAnd j 1 * 2 ^ 52 ≤ (b + 1) * (b + 1) + (b + 1) → HasValue (sqrt x) false ((b + 1) * 2 ^ (j / 2 + 485)) (2 ^ 1074) → RootDigits x
+    go b lo hi root =
         let W = q * 2 ^ bitAnd j 1 in
         let W-ge : 2 ^ 52 ≤ W = Rooting.w-ge q j q-ge q-lt j-le in
         let above : 4 * (W * 2 ^ 52) < (2 * (b + 1) + 1) * (2 * (b + 1) + 1) = lt-of-le-of-lt (mul-le-mul-left 4 hi) (lt-of-lt-of-le (next (4 * ((b + 1) * (b + 1) + (b + 1)))) (le-of-eq (sym (Rooting.sq-odd (b + 1))))) in
@@ -93,9 +84,7 @@ from-digits x q j q-ge q-lt j-le v = let n = Rooting.sqrt-near x q j q-ge q-lt j
           root = root;
           square = squared x q j v;
           c-low = half b (Rooting.sq-lt-back (2 ^ 53) (2 * (b + 1) + 1) (lt-of-le-of-lt (wide W W-ge) above));
-          c-high = most b b-lt;
           M-low = mul-le-mul-right (2 ^ 52) W-ge;
-          M-high = less W (Rooting.w-lt q j q-ge q-lt j-le);
           over = lt-of-le-of-lt (le-of-eq (ap (λ (y : ℕ). y * y) (odd b) ∙ Rooting.sq-odd b)) (lower (b * b + b) (W * 2 ^ 52) lo);
           under = above;
         }
