@@ -7,10 +7,11 @@ use native.Mathlib.Nat.{not-suc-le-zero}
 use native.Mathlib.Omega.{arith}
 use lib.IntN.{ℤ}
 use lib.ListN.{length, take, drop, getD, length-drop}
-use lib.Seq.{paste, take-paste, take-all}
 use lib.Ieee.{Float}
 use Rattle.types.specs.declared.Answer.{Answer}
 use Rattle.types.specs.declared.Answer.the-variants as Answers
+use Rattle.attributors.specs.Attributors.{padded}
+use Rattle.attributors.proofs.Laws.{take-padded}
 use Rattle.deviation.specs.Const.{zero64}
 use Rattle.deviation.specs.Statistics.{fresh}
 use Rattle.corrector.proofs.Kept.{expected-length}
@@ -22,6 +23,7 @@ use Rattle.predictorcorrector.specs.State.{autoAdjusted, runGrown, stateCountsO
 use Rattle.predictorcorrector.specs.declared.PredictorCorrector.{PredictorCorrector}
 use Rattle.candidate.specs.Candidate.{isCandidate, driftAt, candidateWith, isDrift}
 use Rattle.candidate.proofs.Last.{drift-at}
+use Rattle.detection.specs.Const.{zero32}
 use Rattle.detection.specs.Judging.{opening, start, expected, newestOf, candidateState, isDataDrift, isDriftMode, decided, verdict, correctedScore, entered, after}
 use Rattle.detection.specs.Judged.{Judged, outcome, outcomeOf, stateAfter}
 use Rattle.detection.specs.Decided.{standing, noRow, newestExpected, rowAfter, driftOf, decision, Decided}
@@ -33,7 +35,6 @@ use Rattle.detection.specs.declared.Outcome.the-variants.{Accepted, Refu
 use Rattle.detection.specs.declared.Standing.{Standing}
 use Rattle.detection.specs.declared.Decision.{Decision}
 use Rattle.detection.proofs.Entry.{branching, same-base}
-use Rattle.detection.proofs.Work.{tail-is}
 
 module _ (r : Reading) (l : LastDescriptor) (b : Lent) where
   -- The newest rows are `base` long.
@@ -53,20 +54,8 @@ module _ (r : Reading) (l : LastDescriptor) (b : Lent) where
   unfolding newestExpected
   row-front f =
       let n = newest-long f (expected r l b) expected-long in
-      let from : 0 + r .«base_dimension» ≡ r .«base_dimension» = omega arith in
-      ap (λ (m : ℕ). take m (paste noRow 0 (newestOf r l b (expected r l b)) (r .«base_dimension»))) (sym from)
-      ∙ take-paste noRow 0 (newestOf r l b (expected r l b)) (r .«base_dimension») (omega arith) (omega arith)
-      ∙ take-all (r .«base_dimension») (newestOf r l b (expected r l b)) (omega arith)
-
-  -- The newest row of the point, as a part of it.
-  pub newest-part : take (length (b .point) - (length (b .point) - r .«base_dimension»)) (drop (length (b .point) - r .«base_dimension») (b .point)) ≡ newestOf r l b (b .point)
-  unfolding newestOf
-  newest-part = tail-is (b .point) (length (b .point) - r .«base_dimension»)
-
-  -- The row that is handed on, from the expected point.
-  pub row-is : (row xs : List Float) → row ≡ paste noRow 0 (drop (length (b .point) - r .«base_dimension») xs) (r .«base_dimension») → xs ≡ expected r l b → row ≡ newestExpected r l b
-  unfolding newestExpected newestOf
-  row-is row xs q e = q ∙ ap (λ (ys : List Float). paste noRow 0 (drop (length (b .point) - r .«base_dimension») ys) (r .«base_dimension»)) e
+      let m = f .base-most in
+      ap (λ (x : ℕ). take x (padded zero32 16 (newestOf r l b (expected r l b)))) (sym n) ∙ take-padded zero32 16 (newestOf r l b (expected r l b)) (omega arith)
 
   module _ (s : PredictorCorrector) (long : length (s .«deviations_actual») ≡ 16) (long′ : length (s .«deviations_expected») ≡ 16) where
     -- ---- data drift by the last entries is data drift by the lists

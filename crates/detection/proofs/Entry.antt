@@ -2,8 +2,9 @@
 use mathlib.Core.Path.{_≡_, refl, sym, ap, _∙_, subst}
 use mathlib.Core.Bool.{Bool, true, false, cond, _&&_}
 use mathlib.Core.List.{List}
-use Prim.Native.Nat.{ℕ, _+_, _-_, _*_, _/_, _%_, _≤_, _<_}
-use native.Mathlib.Nat.{mul-le-mul-right, le-trans, le-of-eq, mul-div-cancel, mul-mod-left, mul-pos}
+use mathlib.Core.Logic.{_⊎_, inl, inr}
+use Prim.Native.Nat.{ℕ, suc, _+_, _-_, _*_, _/_, _%_, _≤_, _<_}
+use native.Mathlib.Nat.{eq-or-lt-of-le, mul-le-mul-right, le-trans, le-of-eq, mul-div-cancel, mul-mod-left, mul-pos}
 use native.Mathlib.Omega.{arith}
 use lib.Dec.{leb, ltb, eqb}
 use lib.ListN.{length}
@@ -94,6 +95,14 @@ row-inside k shingle base h =
     let p : (k + 1) * base ≤ shingle * base = mul-le-mul-right base (let q : k + 1 ≤ shingle = omega arith in q) in
     omega arith
 
+-- A row of whole rows is the last of them, or ends where the last begins or before.
+row-apart : (k shingle base : ℕ) → k < shingle → (k * base + base ≡ shingle * base) ⊎ (k * base + base ≤ shingle * base - base)
+row-apart k shingle base h = go (eq-or-lt-of-le h)
+  where
+    go : (suc k ≡ shingle) ⊎ (suc k < shingle) → (k * base + base ≡ shingle * base) ⊎ (k * base + base ≤ shingle * base - base)
+    go (inl e) = let p : (k + 1) * base ≡ shingle * base = ap (λ (n : ℕ). n * base) (let q : k + 1 ≡ shingle = omega arith in q) in inl (omega arith)
+    go (inr i) = let p : (k + 2) * base ≤ shingle * base = mul-le-mul-right base (let q : k + 2 ≤ shingle = omega arith in q) in inr (omega arith)
+
 module _ (r : Reading) (l : LastDescriptor) (b : Lent) (stateBase e h w : ℕ) (ok : Bool) (accepted : answerOf r l b stateBase e h w ok ≡ Done) where
   tests : Passed (rangeOk (r .«shingle_size») (r .«base_dimension») stateBase) (lengthsOk r l b e h w) (finiteOk r l b) (seenOk (r .«values_seen») (l .«has_anomaly») (l .anomaly .«values_seen»)) ok
   unfolding answerOf
@@ -144,6 +153,13 @@ module _ (r : Reading) (l : LastDescriptor) (b : Lent) (stateBase e h w : ℕ) (
   unfolding start
   inside = le-trans (row-inside (block r l b) (r .«shingle_size») (r .«base_dimension») block-below) (le-of-eq (sym (lengths .of .of-point ∙ product)))
 
+  apart : (start r l b + r .«base_dimension» ≡ length (b .point)) ⊎ (start r l b + r .«base_dimension» ≤ length (b .point) - r .«base_dimension»)
+  unfolding start
+  apart =
+      subst (λ (n : ℕ). (block r l b * r .«base_dimension» + r .«base_dimension» ≡ n) ⊎ (block r l b * r .«base_dimension» + r .«base_dimension» ≤ n - r .«base_dimension»))
+      (sym (lengths .of .of-point ∙ product))
+      (row-apart (block r l b) (r .«shingle_size») (r .«base_dimension») block-below)
+
   pub branching : Branching r l b
   branching =
       let z = sizes (r .«shingle_size») (r .«base_dimension») sized in
@@ -165,6 +181,7 @@ module _ (r : Reading) (l : LastDescriptor) (b : Lent) (stateBase e h w : ℕ) (
           inside = inside;
         };
         block-small = omega arith;
+        apart = apart;
       }
 
   correctable : Correctable r l b
@@ -191,7 +208,7 @@ module _ (r : Reading) (l : LastDescriptor) (b : Lent) (stateBase e h w : ℕ) (
   unfolding start block gap
   for-late =
       let f = branching in
-      record { shingle-most = f .shingle-most; base-most = f .base-most; point-most = f .point-most; expecting = f .expecting; block-small = f .block-small }
+      record { shingle-most = f .shingle-most; base-most = f .base-most; point-most = f .point-most; expecting = f .expecting; block-small = f .block-small; apart = f .apart }
 
   pub writing : Writing b e h w
   writing =

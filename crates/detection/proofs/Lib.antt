@@ -1,5 +1,6 @@
 pub mod ByState
 mod Entry
+mod ExpectedRow
 mod Index
 mod Modes
 mod Rows

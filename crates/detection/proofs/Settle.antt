@@ -5,8 +5,8 @@ use lib.Dec.{ltb}
 use native.Mathlib.Omega.{arith}
 use lib.IntN.{ℤ, pos, _+ℤ_, _-ℤ_}
 use mathlib.Core.List.{List}
-use Prim.Native.Nat.{ℕ}
-use lib.ListN.{length}
+use Prim.Native.Nat.{ℕ, _-_}
+use lib.ListN.{length, drop}
 use lib.Ieee as Ieee
 use lib.Ieee.{Float, binary32}
 use Rattle.types.specs.declared.Answer.{Answer}
@@ -16,21 +16,20 @@ use Rattle.types.specs.declared.CorrectionMode.the-variants as Modes
 use Rattle.basicthresholder.specs.declared.Graded.{Graded}
 use Rattle.divector.specs.DiVector.{normalized}
 use Rattle.divector.proofs.Laws.{one-length-true}
-use Rattle.corrector.specs.Corrector.{expectedPoint}
+use Rattle.corrector.specs.Corrector.{expectedRow, writeRow}
 use Rattle.corrector.specs.Steps.{Expecting}
-use Rattle.corrector.proofs.Kept.{expects}
+use Rattle.corrector.proofs.Rows.{written-row}
 use Rattle.descriptor.specs.Checks.{answerOf}
 use Rattle.descriptor.specs.Lent.{Lent}
 use Rattle.descriptor.specs.declared.Reading.{Reading}
 use Rattle.descriptor.specs.declared.LastDescriptor.{LastDescriptor}
 use Rattle.uncertainty_box.specs.Box.{withinUnertaintyBox}
 use Rattle.scoring.specs.Scores.{Written}
-use Rattle.candidate.specs.Candidate.{isCandidate, driftAt}
 use Rattle.detection.specs.Const.{zero32}
 use Rattle.detection.specs.Judging.{gap, recent, opening, noisePass, block, start, box, explained, triggered, withinBox, expected, newestOf, isDriftMode, lateVerdict, gradedVerdict, decided, relativeIndex, kept}
 use Rattle.detection.specs.Judged.{outcomeOf, indexAfter, written}
 use Rattle.detection.specs.Decided.{noRow, newestExpected, rowAfter, driftOf, decision, Decided}
-use Rattle.detection.specs.Steps.{branch, late, Branching, Writing, gradedWay, acceptedWay, wayOf, way, lateOutcome, expectedOutcome, withoutRow}
+use Rattle.detection.specs.Steps.{branch, late, Branching, Writing, gradedWay, acceptedWay, wayOf, way, driftBy, lateOutcome, expectedOutcome, withoutRow}
 use Rattle.detection.specs.declared.Way.{Way}
 use Rattle.detection.specs.declared.Way.the-variants as Ways
 use Rattle.detection.specs.declared.Verdict.{Verdict}
@@ -41,9 +40,42 @@ use Rattle.detection.specs.declared.Standing.{Standing}
 use Rattle.detection.specs.declared.Decision.{Decision}
 use Rattle.detection.proofs.Entry.{for-late, writing}
 
-pub expected-at : (r : Reading) (l : LastDescriptor) (b : Lent) (n : ℕ) → n ≡ start r l b → expectedPoint (b .high) (b .low) n (r .«base_dimension») (b .point) (b .median) ≡ expected r l b
-unfolding expected
-expected-at r l b n e = ap (λ (m : ℕ). expectedPoint (b .high) (b .low) m (r .«base_dimension») (b .point) (b .median)) e
+-- ---- an outcome short of the candidate branch
+abbrev Calm : Outcome → Type 0
+Calm (Accepted (Quiet t)) = Unit
+Calm (Accepted (Corrected t m)) = isDriftMode m ≡ false
+Calm (Accepted (Raised t g)) = ⊥
+Calm (Accepted Skipped) = Unit
+Calm (Refused why) = Unit
+
+module _ (r : Reading) (l : LastDescriptor) (b : Lent) (e h w : List Float) where
+  pub calm-left : (o : Outcome) (j : Decision) → Calm o → j ≡ withoutRow o → Decided r l b o j e h w e h w
+  unfolding withoutRow indexAfter relativeIndex rowAfter written kept
+  calm-left (Accepted (Quiet t)) j c q = record { says = ap (λ (x : Decision). x .outcome) q; index = ap (λ (x : Decision). x .«relative_index») q; row = ap (λ (x : Decision). x .«newest_expected») q; point = refl; highs = refl; lows = refl }
+  calm-left (Accepted (Corrected t m)) j c q = record {
+    says = ap (λ (x : Decision). x .outcome) q;
+    index = ap (λ (x : Decision). x .«relative_index») q;
+    row = ap (λ (x : Decision). x .«newest_expected») q ∙ ap (λ (d : Bool). cond d (newestExpected r l b) noRow) (sym c);
+    point = refl;
+    highs = refl;
+    lows = refl;
+  }
+  calm-left (Accepted (Raised t g)) j c q = absurd c
+  calm-left (Accepted Skipped) j c q = record { says = ap (λ (x : Decision). x .outcome) q; index = ap (λ (x : Decision). x .«relative_index») q; row = ap (λ (x : Decision). x .«newest_expected») q; point = refl; highs = refl; lows = refl }
+  calm-left (Refused why) j c q = record { says = ap (λ (x : Decision). x .outcome) q; index = ap (λ (x : Decision). x .«relative_index») q; row = ap (λ (x : Decision). x .«newest_expected») q; point = refl; highs = refl; lows = refl }
+
+  -- ---- the candidate branch
+  pub drift-left : (t : Float) (row : List Float) → row ≡ newestExpected r l b
+      → Decided r l b (Accepted (Corrected t Modes.«DATA_DRIFT»)) (record { outcome = Accepted (Corrected t Modes.«DATA_DRIFT»); «relative_index» = pos 0; «newest_expected» = row }) e h w e h w
+  unfolding indexAfter relativeIndex rowAfter written kept
+  drift-left t row q = record { says = refl; index = refl; row = q; point = refl; highs = refl; lows = refl }
+
+  pub raised-left : (t g : Float) (i : ℤ) (row : List Float) (n : ℕ) → row ≡ newestExpected r l b → n ≡ block r l b → i ≡ (pos n -ℤ pos (r .«shingle_size») +ℤ pos 1)
+      → (e′ h′ w′ : List Float) → (e′ ≡ expected r l b) × (h′ ≡ normalized (r .score) (b .high) (b .low) (b .high)) × (w′ ≡ normalized (r .score) (b .high) (b .low) (b .low))
+      → Decided r l b (Accepted (Raised t g)) (record { outcome = Accepted (Raised t g); «relative_index» = i; «newest_expected» = row }) e h w e′ h′ w′
+  unfolding indexAfter relativeIndex rowAfter written kept
+  raised-left t g i row n q at is e′ h′ w′ p =
+      record { says = refl; index = is ∙ ap (λ (m : ℕ). pos m -ℤ pos (r .«shingle_size») +ℤ pos 1) at; row = q; point = p .0; highs = p .1; lows = p .2 }
 
 -- ---- the outcome that a way leads to
 module _ (k : Standing) (r : Reading) (l : LastDescriptor) (b : Lent) where
@@ -82,49 +114,11 @@ module _ (k : Standing) (r : Reading) (l : LastDescriptor) (b : Lent) where
       let q : ended z ≡ decision r l b k (length e) (length h) (length w) = ap ended (sym at ∙ is) ∙ ended-by (answerOf r l b (k .«base_dimension») (length e) (length h) (length w) (k .«counts_ok»)) in
       subst (λ (o : Outcome). Decided r l b o j e h w e′ h′ w′) q p
 
-  -- ---- an outcome short of the candidate branch
-  abbrev Calm : Outcome → Type 0
-  Calm (Accepted (Quiet t)) = Unit
-  Calm (Accepted (Corrected t m)) = isDriftMode m ≡ false
-  Calm (Accepted (Raised t g)) = ⊥
-  Calm (Accepted Skipped) = Unit
-  Calm (Refused why) = Unit
-
-  module _ (e h w : List Float) where
-    pub calm-left : (o : Outcome) (j : Decision) → Calm o → j ≡ withoutRow o → Decided r l b o j e h w e h w
-    unfolding withoutRow indexAfter relativeIndex rowAfter written kept
-    calm-left (Accepted (Quiet t)) j c q = record { says = ap (λ (x : Decision). x .outcome) q; index = ap (λ (x : Decision). x .«relative_index») q; row = ap (λ (x : Decision). x .«newest_expected») q; point = refl; highs = refl; lows = refl }
-    calm-left (Accepted (Corrected t m)) j c q = record {
-      says = ap (λ (x : Decision). x .outcome) q;
-      index = ap (λ (x : Decision). x .«relative_index») q;
-      row = ap (λ (x : Decision). x .«newest_expected») q ∙ ap (λ (d : Bool). cond d (newestExpected r l b) noRow) (sym c);
-      point = refl;
-      highs = refl;
-      lows = refl;
-    }
-    calm-left (Accepted (Raised t g)) j c q = absurd c
-    calm-left (Accepted Skipped) j c q = record { says = ap (λ (x : Decision). x .outcome) q; index = ap (λ (x : Decision). x .«relative_index») q; row = ap (λ (x : Decision). x .«newest_expected») q; point = refl; highs = refl; lows = refl }
-    calm-left (Refused why) j c q = record { says = ap (λ (x : Decision). x .outcome) q; index = ap (λ (x : Decision). x .«relative_index») q; row = ap (λ (x : Decision). x .«newest_expected») q; point = refl; highs = refl; lows = refl }
-
-    -- ---- the candidate branch
-    pub drift-left : (t : Float) (row : List Float) → row ≡ newestExpected r l b
-        → Decided r l b (Accepted (Corrected t Modes.«DATA_DRIFT»)) (record { outcome = Accepted (Corrected t Modes.«DATA_DRIFT»); «relative_index» = pos 0; «newest_expected» = row }) e h w e h w
-    unfolding indexAfter relativeIndex rowAfter written kept
-    drift-left t row q = record { says = refl; index = refl; row = q; point = refl; highs = refl; lows = refl }
-
-    pub raised-left : (t g : Float) (i : ℤ) (row : List Float) (n : ℕ) → row ≡ newestExpected r l b → n ≡ block r l b → i ≡ (pos n -ℤ pos (r .«shingle_size») +ℤ pos 1)
-        → (e′ h′ w′ : List Float) → (e′ ≡ expected r l b) × (h′ ≡ normalized (r .score) (b .high) (b .low) (b .high)) × (w′ ≡ normalized (r .score) (b .high) (b .low) (b .low))
-        → Decided r l b (Accepted (Raised t g)) (record { outcome = Accepted (Raised t g); «relative_index» = i; «newest_expected» = row }) e h w e′ h′ w′
-    unfolding indexAfter relativeIndex rowAfter written kept
-    raised-left t g i row n q at is e′ h′ w′ p =
-        record { says = refl; index = is ∙ ap (λ (m : ℕ). pos m -ℤ pos (r .«shingle_size») +ℤ pos 1) at; row = q; point = p .0; highs = p .1; lows = p .2 }
-
   -- Data drift by the newest rows.
-  pub drift-is : (t : Float) (d : Bool) (n x : List Float) → n ≡ newestOf r l b (b .point) → x ≡ newestOf r l b (expected r l b)
-      → d ≡ driftAt (isCandidate r l (k .«run_length») (r .«shingle_size») t) (k .«auto_adjust») (k .«run_length») (r .«base_dimension») (k .«last_actual») (k .«last_expected») n x (b .«difference_deviations»)
-      → d ≡ driftOf r l b k t
-  unfolding driftOf
-  drift-is t d n x p q h = h ∙ (λ i. driftAt (isCandidate r l (k .«run_length») (r .«shingle_size») t) (k .«auto_adjust») (k .«run_length») (r .«base_dimension») (k .«last_actual») (k .«last_expected») (p i) (q i) (b .«difference_deviations»))
+  pub drift-is : (t : Float) (d : Bool) (x : List Float) → x ≡ newestOf r l b (expected r l b)
+      → d ≡ driftBy k r l t (drop (length (b .point) - r .«base_dimension») (b .point)) x (b .«difference_deviations») → d ≡ driftOf r l b k t
+  unfolding driftOf driftBy newestOf
+  drift-is t d x q h = h ∙ ap (λ (y : List Float). driftBy k r l t (drop (length (b .point) - r .«base_dimension») (b .point)) y (b .«difference_deviations»)) q
 
   -- ---- from the expected point on
   module _ (u : List Float) (t g : Float) (j : Decision) (e h w e′ h′ w′ : List Float) where
@@ -174,22 +168,26 @@ module _ (k : Standing) (r : Reading) (l : LastDescriptor) (b : Lent) where
       let f = writing r l b (k .«base_dimension») e h w (k .«counts_ok») d in
       (for-late r l b (k .«base_dimension») e h w (k .«counts_ok») d, record { expected-long = f .expected-long; low-long = f .low-long; out-high-long = f .out-high-long; out-low-long = f .out-low-long })
 
-  -- What is written past the last test: the lengths fit.
-  pub buffers-are : (n : ℕ) → n ≡ start r l b → (e h w e′ h′ w′ : List Float)
-      → Expecting (length (b .high)) (length (b .low)) (start r l b) (r .«base_dimension») (length (b .point)) (length (b .median)) (length (b .point)) → Writing b (length e) (length h) (length w)
-      → Written r n (b .point) (b .high) (b .low) (b .median) e h w e′ h′ w′
-      → (e′ ≡ expected r l b) × (h′ ≡ normalized (r .score) (b .high) (b .low) (b .high)) × (w′ ≡ normalized (r .score) (b .high) (b .low) (b .low))
-  buffers-are n q e h w e′ h′ w′ f g p =
-      let at = subst (λ (m : ℕ). Expecting (length (b .high)) (length (b .low)) n (r .«base_dimension») (length (b .point)) (length (b .median)) m) (sym (g .expected-long))
-      (subst (λ (m : ℕ). Expecting (length (b .high)) (length (b .low)) m (r .«base_dimension») (length (b .point)) (length (b .median)) (length (b .point))) (sym q) f) in
-      let fits = expects (length (b .high)) (length (b .low)) n (r .«base_dimension») (length (b .point)) (length (b .median)) (length e) at in
-      let alike = one-length-true (length (b .high)) (length (b .low)) (length h) (length w) (record { second = sym (g .low-long); third = sym (g .out-high-long); fourth = sym (g .out-low-long) }) in
-      (p .point-is ∙ (rw fits) ∙ expected-at r l b n q, p .highs ∙ rw alike, p .lows ∙ rw alike)
+-- What is written past the last test: the lengths fit.
+pub buffers-are : (r : Reading) (l : LastDescriptor) (b : Lent) (n : ℕ) (row : List Float) → n ≡ start r l b → row ≡ expectedRow (b .high) (b .low) n (r .«base_dimension») (b .point) (b .median)
+    → (e h w e′ h′ w′ : List Float) → Branching r l b → Writing b (length e) (length h) (length w) → Written r n (b .point) row (b .high) (b .low) e h w e′ h′ w′
+    → (e′ ≡ expected r l b) × (h′ ≡ normalized (r .score) (b .high) (b .low) (b .high)) × (w′ ≡ normalized (r .score) (b .high) (b .low) (b .low))
+unfolding expected
+buffers-are r l b n row q k e h w e′ h′ w′ f g p =
+    let fits = subst (λ (m : ℕ). Expecting (length (b .high)) (length (b .low)) (start r l b) (r .«base_dimension») (length (b .point)) (length (b .median)) m) (sym (g .expected-long)) (f .expecting) in
+    let alike = one-length-true (length (b .high)) (length (b .low)) (length h) (length w) (record { second = sym (g .low-long); third = sym (g .out-high-long); fourth = sym (g .out-low-long) }) in (
+      p .point-is
+          ∙ ap (λ (x : List Float). writeRow (b .point) n (r .«base_dimension») x e) k
+          ∙ ap (λ (m : ℕ). writeRow (b .point) m (r .«base_dimension») (expectedRow (b .high) (b .low) m (r .«base_dimension») (b .point) (b .median)) e) q
+          ∙ written-row (b .high) (b .low) (start r l b) (r .«base_dimension») (b .point) (b .median) e fits,
+      p .highs ∙ rw alike,
+      p .lows ∙ rw alike,
+    )
 
 -- ---- a stage that is lent some of the buffers
 pub branch-fits : (r : Reading) (l : LastDescriptor) (b : Lent) → Branching r l b → Branching r l (branch (b .point) (b .scale) (b .«difference_deviations») (b .high) (b .low) (b .median))
 unfolding start block gap
-branch-fits r l b f = record { shingle-most = f .shingle-most; base-most = f .base-most; point-most = f .point-most; expecting = f .expecting; block-small = f .block-small }
+branch-fits r l b f = record { shingle-most = f .shingle-most; base-most = f .base-most; point-most = f .point-most; expecting = f .expecting; block-small = f .block-small; apart = f .apart }
 
 pub branch-writes : (b : Lent) (e h w : ℕ) → Writing b e h w → Writing (branch (b .point) (b .scale) (b .«difference_deviations») (b .high) (b .low) (b .median)) e h w
 branch-writes b e h w f = record { expected-long = f .expected-long; low-long = f .low-long; out-high-long = f .out-high-long; out-low-long = f .out-low-long }

@@ -2,19 +2,20 @@
 use mathlib.Core.Path.{_≡_, refl, sym, ap, _∙_}
 use mathlib.Core.Bool.{Bool, true, false, cond, not, _||_}
 use mathlib.Core.List.{List, [], _∷_, _++_}
-use Prim.Native.Nat.{ℕ, zero, suc, _+_, _-_, _≤_, _<_}
+use Prim.Native.Nat.{ℕ, zero, suc, _-_, _≤_, _<_}
 use native.Mathlib.Nat.{le-of-suc-le-suc, not-suc-le-zero}
 use native.Mathlib.Omega.{arith}
 use lib.Dec.{ltb}
 use lib.IntN.{ℤ}
-use lib.ListN.{length, take, drop, getD, set, replicate, length-drop}
-use lib.Seq.{take-at, take-all, paste}
+use lib.ListN.{length, take, drop, getD, replicate, length-drop}
+use lib.Seq.{take-at, take-all}
 use borrow.Author.Tests.{leb-false, lt-ltb}
 use lib.Ieee.{Float}
-use Rattle.corrector.specs.Corrector.{correctorFits, applyBasicCorrector, expectedFits}
-use Rattle.corrector.specs.Steps.{Correcting, Expecting}
-use Rattle.corrector.proofs.Kept.{corrects, expects}
-use Rattle.corrector.proofs.Laws.{paste-more}
+use Rattle.attributors.specs.Attributors.{padded}
+use Rattle.corrector.specs.Corrector.{correctorFits, applyBasicCorrector}
+use Rattle.corrector.specs.Steps.{Correcting}
+use Rattle.corrector.proofs.Kept.{corrects}
+use Rattle.detection.specs.Const.{zero32}
 use Rattle.detection.specs.Judging.{isRecent}
 
 -- The front that a call wrote, of a work array.
@@ -31,11 +32,6 @@ pub corrected-is : (point gap shingle base : ℕ) (h : Bool) (e a : ℕ) (out x 
     → x ≡ cond (correctorFits point gap shingle base h e a (length out)) y out → x ≡ y
 corrected-is point gap shingle base h e a out x y l f q =
     q ∙ ap (λ (t : Bool). cond t y out) (ap (correctorFits point gap shingle base h e a) l ∙ corrects point gap shingle base h e a point f)
-
-pub expected-is : (high low position base point median : ℕ) (out x y : List Float) → length out ≡ point → Expecting high low position base point median point
-    → x ≡ cond (expectedFits high low position base point median (length out)) y out → x ≡ y
-expected-is high low position base point median out x y l f q =
-    q ∙ ap (λ (t : Bool). cond t y out) (ap (expectedFits high low position base point median) l ∙ expects high low position base point median point f)
 
 pub not-true : (t : Bool) → not t ≡ true → t ≡ false
 not-true true h = sym h
@@ -62,8 +58,7 @@ getD-any [] i a c h = absurd (not-suc-le-zero h)
 getD-any (x ∷ xs) zero a c h = refl
 getD-any (x ∷ xs) (suc i) a c h = getD-any xs i a c (le-of-suc-le-suc h)
 
--- A turn of the loop that copies a row.
-pub row-more : {A : Type 0} (out d s : List A) (from k : ℕ) (z : A) → k < length d → from + k < length s → out ≡ paste d 0 (drop from s) k → set out k (getD s (from + k) z) ≡ paste d 0 (drop from s) (k + 1)
-row-more out d s from k z h i e =
-    let first : 0 + k ≡ k = omega arith in
-    ap (λ (n : ℕ). set out n (getD s (from + k) z)) (sym first) ∙ paste-more out d 0 s from k z (omega arith) i e
+-- Sixteen zeros are an empty row.
+pub none-is : replicate 16 zero32 ≡ padded zero32 16 []
+unfolding padded
+none-is = refl

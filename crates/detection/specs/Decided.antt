@@ -4,8 +4,8 @@ use mathlib.Core.Path.{_≡_}
 use mathlib.Core.Bool.{Bool, cond}
 use mathlib.Core.List.{List}
 use lib.ListN.{length, getD, replicate}
-use lib.Seq.{paste}
 use lib.Ieee.{Float}
+use Rattle.attributors.specs.Attributors.{padded}
 use Rattle.deviation.specs.Const.{zero64}
 use Rattle.deviation.specs.Statistics.{fresh}
 use Rattle.divector.specs.DiVector.{normalized}
@@ -44,7 +44,7 @@ noRow = replicate 16 zero32
 module _ (r : Reading) (l : LastDescriptor) (b : Lent) where
   -- The newest row of the expected point, zeros behind it.
   unfoldable pub newestExpected : List Float
-  newestExpected = paste noRow 0 (newestOf r l b (expected r l b)) (r .«base_dimension»)
+  newestExpected = padded zero32 16 (newestOf r l b (expected r l b))
 
   -- The row that an outcome hands on: where the candidate branch may have counted it.
   unfoldable pub rowAfter : Outcome → List Float

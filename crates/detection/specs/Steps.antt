@@ -1,8 +1,9 @@
 -- What the private stages ask of their buffers and promise each other: a reader need not read it. Every accepted reading gives it (proofs/Entry.antt).
 use mathlib.Core.Path.{_≡_}
-use Prim.Native.Nat.{ℕ, _-_, _≤_}
+use Prim.Native.Nat.{ℕ, _+_, _-_, _≤_}
 use mathlib.Core.Bool.{Bool, cond, _&&_}
 use mathlib.Core.List.{List, []}
+use mathlib.Core.Logic.{_⊎_}
 use lib.IntN.{pos}
 use lib.ListN.{length, take, drop}
 use lib.Ieee as Ieee
@@ -20,6 +21,7 @@ use Rattle.descriptor.specs.declared.Reading.{Reading}
 use Rattle.descriptor.specs.declared.LastDescriptor.{LastDescriptor}
 use Rattle.predictorcorrector.specs.State.{runEnded, autoAdjusted, runGrown}
 use Rattle.predictorcorrector.specs.declared.PredictorCorrector.{PredictorCorrector}
+use Rattle.candidate.specs.Candidate.{driftAt}
 use Rattle.detection.specs.Const.{zero32}
 use Rattle.detection.specs.Judging.{gapOf, recent, opening, noisePass, start, block, expected, lateVerdict, isDriftMode, isCandidate, candidateWith, correctedScore, entered}
 use Rattle.detection.specs.Decided.{noRow, driftOf}
@@ -54,6 +56,7 @@ pub record Branching (r : Reading) (l : LastDescriptor) (b : Lent) : Type 0 wher
   pub point-most : length (b .point) ≤ 1024
   pub expecting : Expecting (length (b .high)) (length (b .low)) (start r l b) (r .«base_dimension») (length (b .point)) (length (b .median)) (length (b .point))
   pub block-small : block r l b ≤ 1024
+  pub apart : (start r l b + r .«base_dimension» ≡ length (b .point)) ⊎ (start r l b + r .«base_dimension» ≤ length (b .point) - r .«base_dimension»)
 
 -- The buffers that may be written, by their lengths.
 pub record Writing (b : Lent) (e h w : ℕ) : Type 0 where
@@ -83,6 +86,11 @@ module _ (r : Reading) (l : LastDescriptor) (b : Lent) (t : BasicThresholder) wh
   way base e h w ok = wayOf (answerOf r l b base e h w ok)
 
 -- ---- past it
+-- Data drift by the newest rows.
+unfoldable pub driftBy : Standing → Reading → LastDescriptor → Float → List Float → List Float → List Float → Bool
+driftBy k r l threshold newest row noise =
+    driftAt (isCandidate r l (k .«run_length») (r .«shingle_size») threshold) (k .«auto_adjust») (k .«run_length») (r .«base_dimension») (k .«last_actual») (k .«last_expected») newest row noise
+
 module _ (k : Standing) (r : Reading) (l : LastDescriptor) (b : Lent) where
   unfoldable pub lateOutcome : Float → Float → Outcome
   lateOutcome t g = Accepted (lateVerdict r l b (k .«auto_adjust») (driftOf r l b k t) t g)

@@ -9,13 +9,15 @@ use types::Answer;
 use types::CorrectionMode;
 use types::Refusal;
 ghost use mathlib.Core.Path.{_≡_};
+ghost use mathlib.Core.Bool.{cond};
+ghost use lib.Dec.{eqb};
 ghost use Prim.Native.Nat.{_≤_, _*_, _+_, _-_};
 ghost use lib.IntN.{pos, _+ℤ_, _-ℤ_};
 ghost use lib.ListN.{length, take, drop, getD, replicate};
-ghost use lib.Seq.{paste};
 ghost use Rattle.types.specs.Codes.{isDifferenced};
 ghost use Rattle.deviation.specs.Const.{zero64};
 ghost use Rattle.deviation.specs.Statistics.{fresh};
+ghost use Rattle.attributors.specs.Attributors.{padded};
 ghost use Rattle.uncertainty_box.specs.Box as Box;
 ghost use Rattle.uncertainty_box.specs.Pass as Pass;
 ghost use Rattle.corrector.specs.Corrector as Corrector;
@@ -292,10 +294,10 @@ fn without_row(outcome: Outcome) -> Decision
     }
 }
 
-// The `base` numbers of a point from `at` on, zeros behind them.
+// The row of the point from `at` on, zeros behind it.
 fn row_at(point: &[f32], at: usize, base: usize) -> [f32; 16]
     requires { ⌜ base ≤ 16 ⌝ ∗ ⌜ at + base ≤ length (now point) ⌝ }
-    ensures { λ r. ⌜ r ≡ paste (replicate 16 zero32) 0 (drop at (now (point .entry))) base ⌝ }
+    ensures { λ r. ⌜ r ≡ padded zero32 16 (take base (drop at (now (point .entry)))) ⌝ }
 {
     let mut out = sixteen();
     let mut i = 0usize;
@@ -304,6 +306,70 @@ fn row_at(point: &[f32], at: usize, base: usize) -> [f32; 16]
         i += 1;
     }
     out
+}
+
+// The newest row of the point with another row in its place, up to `end`.
+fn newest_with(row: [f32; 16], end: usize, base: usize, point: &[f32]) -> [f32; 16]
+    requires { ⌜ base ≤ 16 ⌝ ∗ ⌜ base ≤ length (now point) ⌝ }
+    ensures { λ r. ⌜ r ≡ cond (eqb end (length (now (point .entry)))) row (padded zero32 16 (take base (drop (length (now (point .entry)) - base) (now (point .entry))))) ⌝ }
+{
+    if end == point.len() {
+        return row;
+    }
+    let at = point.len() - base;
+    row_at(point, at, base)
+}
+
+// Whether the row of the point from `start` on is within the box of the expected row.
+fn within_expected(
+    edges: [f32; 16],
+    start: usize,
+    base: usize,
+    scale: &[f32],
+    point: &[f32],
+    row: [f32; 16],
+) -> bool
+    requires { ⌜ base ≤ 16 ⌝ ∗ ⌜ start + base ≤ length (now point) ⌝ }
+    ensures { λ b. ⌜ b ≡ Box.withinUnertaintyBox (take base edges) 0 (now (scale .entry)) (take base (drop start (now (point .entry)))) (take base row) ⌝ }
+{
+    let end = start + base;
+    uncertainty_box::within_unertainty_box(
+        &edges[..base],
+        0,
+        scale,
+        &point[start..end],
+        &row[..base],
+    )
+}
+
+// Whether the candidate branch is data drift.
+fn is_drift(
+    k: Standing,
+    r: Reading,
+    l: LastDescriptor,
+    threshold: f32,
+    point: &[f32],
+    newest_expected: [f32; 16],
+    difference_deviations: &[f32],
+) -> bool
+    requires { ⌜ Steps.Counting r (length (now point)) ⌝ }
+    ensures { λ b. ⌜ b ≡ Steps.driftBy k r l threshold (drop (length (now (point .entry)) - r .«base_dimension») (now (point .entry))) (take (r .«base_dimension») «newest_expected») (now («difference_deviations» .entry)) ⌝ }
+{
+    let base = r.base_dimension;
+    let at = point.len() - base;
+    candidate::is_data_drift(
+        r,
+        l,
+        k.auto_adjust,
+        k.run_length,
+        r.shingle_size as u32,
+        threshold,
+        k.last_actual,
+        k.last_expected,
+        &point[at..],
+        &newest_expected[..base],
+        difference_deviations,
+    )
 }
 
 // The exits that look at the expected point: forecast, data drift, or raised, which alone writes the buffers.
@@ -330,28 +396,21 @@ fn expected_exits(
     ensures { λ j. ⌜ Decided.Decided r l (Steps.branch (now (point .entry)) (now (scale .entry)) (now («difference_deviations» .entry)) (now (high .entry)) (now (low .entry)) (now (median .entry))) (Steps.expectedOutcome k r l (Steps.branch (now (point .entry)) (now (scale .entry)) (now («difference_deviations» .entry)) (now (high .entry)) (now (low .entry)) (now (median .entry))) (take (r .«base_dimension») edges) threshold grade) j (now (expected .entry)) (now («out_high» .entry)) (now («out_low» .entry)) (now (expected .exit)) (now («out_high» .exit)) (now («out_low» .exit)) ⌝ }
 {
     let base = r.base_dimension;
-    let d = point.len();
-    let mut work = zeros();
-    corrector::write_expected_point(high, low, start, base, point, median, &mut work[..d]);
-    if uncertainty_box::within_unertainty_box(&edges[..base], start, scale, point, &work[..d]) {
+    let row = corrector::expected_row(high, low, start, base, point, median);
+    if within_expected(edges, start, base, scale, point, row) {
         return without_row(Outcome::Accepted(Verdict::Corrected(
             threshold,
             CorrectionMode::FORECAST,
         )));
     }
-    let at = d - base;
-    let newest_expected = row_at(&work[..d], at, base);
-    if candidate::is_data_drift(
+    let newest_expected = newest_with(row, start + base, base, point);
+    if is_drift(
+        k,
         r,
         l,
-        k.auto_adjust,
-        k.run_length,
-        r.shingle_size as u32,
         threshold,
-        k.last_actual,
-        k.last_expected,
-        &point[at..],
-        &newest_expected[..base],
+        point,
+        newest_expected,
         difference_deviations,
     ) {
         return Decision {
@@ -360,17 +419,7 @@ fn expected_exits(
             newest_expected,
         };
     }
-    scoring::write_raised(
-        r,
-        start,
-        point,
-        high,
-        low,
-        median,
-        expected,
-        out_high,
-        out_low,
-    );
+    scoring::write_raised(r, start, point, row, high, low, expected, out_high, out_low);
     Decision {
         outcome: Outcome::Accepted(Verdict::Raised(threshold, grade)),
         relative_index: relative_index(block, r.shingle_size),

@@ -4,13 +4,12 @@ use mathlib.Core.Bool.{Bool, cond, _&&_}
 use mathlib.Core.Path.{_≡_}
 use mathlib.Core.List.{List}
 use lib.Dec.{leb}
-use lib.ListN.{length}
 use lib.Ieee.{Float}
 use Rattle.types.specs.Codes.{isHeight}
 use Rattle.basicthresholder.specs.Grades.{thresholdAndGrade, primaryThresholdAndGrade}
 use Rattle.basicthresholder.specs.declared.BasicThresholder.{BasicThresholder}
 use Rattle.basicthresholder.specs.declared.Graded.{Graded}
-use Rattle.corrector.specs.Corrector.{expectedFits, expectedPoint}
+use Rattle.corrector.specs.Corrector.{writeRow}
 use Rattle.divector.specs.DiVector.{allAlike, normalized}
 use Rattle.divector.specs.declared.Block.{Block}
 use Rattle.divector.specs.declared.Block.the-variants as Blocks
@@ -57,8 +56,8 @@ unfoldable pub blockOf : Block → ℕ
 blockOf (Blocks.At k) = k
 blockOf (Blocks.Refused why) = 0
 
--- What a raised reading leaves in the three buffers, e (expected point), h and w (normalised attribution) at entry and e′, h′ and w′ at exit.
-pub record Written (r : Reading) (start : ℕ) (point high low median e h w e′ h′ w′ : List Float) : Type 0 where
-  pub point-is : e′ ≡ cond (expectedFits (length high) (length low) start (r .«base_dimension») (length point) (length median) (length e)) (expectedPoint high low start (r .«base_dimension») point median) e
+-- What a raised reading leaves in the three buffers, e (the point with its expected row), h and w (normalised attribution) at entry and e′, h′ and w′ at exit.
+pub record Written (r : Reading) (start : ℕ) (point row high low e h w e′ h′ w′ : List Float) : Type 0 where
+  pub point-is : e′ ≡ writeRow point start (r .«base_dimension») row e
   pub highs : h′ ≡ cond (allAlike high low h w) (normalized (r .score) high low high) h
   pub lows : w′ ≡ cond (allAlike high low h w) (normalized (r .score) high low low) w

@@ -216,21 +216,21 @@ pub fn in_shingle(
     false
 }
 
-// The expected point and the normalised attribution, each written where the lengths fit.
+// The point with its expected row, from `start` on, and the normalised attribution, each written where the lengths fit.
 pub fn write_raised(
     r: Reading,
     start: usize,
     point: &[f32],
+    row: [f32; 16],
     high: &[f64],
     low: &[f64],
-    median: &[f32],
     expected: &mut [f32],
     out_high: &mut [f64],
     out_low: &mut [f64],
 )
-    ensures { λ _. ⌜ Scores.Written r start (now (point .entry)) (now (high .entry)) (now (low .entry)) (now (median .entry)) (now (expected .entry)) (now («out_high» .entry)) (now («out_low» .entry)) (now (expected .exit)) (now («out_high» .exit)) (now («out_low» .exit)) ⌝ }
+    ensures { λ _. ⌜ Scores.Written r start (now (point .entry)) row (now (high .entry)) (now (low .entry)) (now (expected .entry)) (now («out_high» .entry)) (now («out_low» .entry)) (now (expected .exit)) (now («out_high» .exit)) (now («out_low» .exit)) ⌝ }
 {
-    corrector::write_expected_point(high, low, start, r.base_dimension, point, median, expected);
+    corrector::write_row(point, start, r.base_dimension, row, expected);
     divector::normalize_into(
         high,
         low,

@@ -57,7 +57,7 @@ returns c =
     let a = c .before .before .before .before .before .before .before .before .before .before .before .before .before .before .before .before .before .before .before .before .args in
     let b = lent (now (a .point)) (now (a .scale)) (now (a .shift)) (now (a .difference-deviations)) (now (a .last-expected)) (now (a .last-anomalous)) (now (a .high)) (now (a .low)) (now (a .median)) (now (a .ideal-high)) (now (a .ideal-low)) (now (a .neighbours)) in
     way-decided (a .k) (a .r) (a .l) b _ (now (a .expected)) (now (a .out-high)) (now (a .out-low)) _ _ _ (c .before .before .before .before .find-way .result) _ (c .before .before .before .before .find-way .ensures) (c .before .before .way .given .1)
-    (calm-left (a .k) (a .r) (a .l) b (now (a .expected)) (now (a .out-high)) (now (a .out-low)) (Refused _) _ tt (c .without-row .ensures))
+    (calm-left (a .r) (a .l) b (now (a .expected)) (now (a .out-high)) (now (a .out-low)) (Refused _) _ tt (c .without-row .ensures))
 
 returns-2 : tie.Need-returns-2
 unfolding ended
@@ -65,7 +65,7 @@ returns-2 c =
     let a = c .before .before .before .before .before .before .before .before .before .before .before .before .before .before .before .before .before .before .before .args in
     let b = lent (now (a .point)) (now (a .scale)) (now (a .shift)) (now (a .difference-deviations)) (now (a .last-expected)) (now (a .last-anomalous)) (now (a .high)) (now (a .low)) (now (a .median)) (now (a .ideal-high)) (now (a .ideal-low)) (now (a .neighbours)) in
     way-decided (a .k) (a .r) (a .l) b _ (now (a .expected)) (now (a .out-high)) (now (a .out-low)) _ _ _ (c .before .before .before .find-way .result) _ (c .before .before .before .find-way .ensures) (c .before .enum-told .given .1)
-    (calm-left (a .k) (a .r) (a .l) b (now (a .expected)) (now (a .out-high)) (now (a .out-low)) (Accepted Skipped) _ tt (c .without-row2 .ensures))
+    (calm-left (a .r) (a .l) b (now (a .expected)) (now (a .out-high)) (now (a .out-low)) (Accepted Skipped) _ tt (c .without-row2 .ensures))
 
 returns-3 : tie.Need-returns-3
 unfolding ended
@@ -73,7 +73,7 @@ returns-3 c =
     let a = c .before .before .before .before .before .before .before .before .before .before .before .before .before .before .before .before .before .before .before .before .args in
     let b = lent (now (a .point)) (now (a .scale)) (now (a .shift)) (now (a .difference-deviations)) (now (a .last-expected)) (now (a .last-anomalous)) (now (a .high)) (now (a .low)) (now (a .median)) (now (a .ideal-high)) (now (a .ideal-low)) (now (a .neighbours)) in
     way-decided (a .k) (a .r) (a .l) b _ (now (a .expected)) (now (a .out-high)) (now (a .out-low)) _ _ _ (c .before .before .before .before .find-way .result) _ (c .before .before .before .before .find-way .ensures) (c .before .before .way2 .given .1)
-    (calm-left (a .k) (a .r) (a .l) b (now (a .expected)) (now (a .out-high)) (now (a .out-low)) (Accepted (Quiet _)) _ tt (c .without-row3 .ensures))
+    (calm-left (a .r) (a .l) b (now (a .expected)) (now (a .out-high)) (now (a .out-low)) (Accepted (Quiet _)) _ tt (c .without-row3 .ensures))
 
 returns-4 : tie.Need-returns-4
 unfolding ended
@@ -81,7 +81,7 @@ returns-4 c =
     let a = c .before .before .before .before .before .before .before .before .before .before .before .before .before .before .before .before .before .before .before .before .args in
     let b = lent (now (a .point)) (now (a .scale)) (now (a .shift)) (now (a .difference-deviations)) (now (a .last-expected)) (now (a .last-anomalous)) (now (a .high)) (now (a .low)) (now (a .median)) (now (a .ideal-high)) (now (a .ideal-low)) (now (a .neighbours)) in
     way-decided (a .k) (a .r) (a .l) b _ (now (a .expected)) (now (a .out-high)) (now (a .out-low)) _ _ _ (c .before .before .before .before .find-way .result) _ (c .before .before .before .before .find-way .ensures) (c .before .before .way3 .given .1)
-    (calm-left (a .k) (a .r) (a .l) b (now (a .expected)) (now (a .out-high)) (now (a .out-low)) (Accepted (Corrected _ _)) _ (not-drift (a .r) (a .l) b (a .k .«basic_thresholder») (a .k .«base_dimension») (length (now (a .expected))) (length (now (a .out-high))) (length (now (a .out-low))) (a .k .«counts_ok») (c .before .before .before .before .find-way .result) _ _ (c .before .before .before .before .find-way .ensures) (c .before .before .way3 .given .1)) (c .without-row4 .ensures))
+    (calm-left (a .r) (a .l) b (now (a .expected)) (now (a .out-high)) (now (a .out-low)) (Accepted (Corrected _ _)) _ (not-drift (a .r) (a .l) b (a .k .«basic_thresholder») (a .k .«base_dimension») (length (now (a .expected))) (length (now (a .out-high))) (length (now (a .out-low))) (a .k .«counts_ok») (c .before .before .before .before .find-way .result) _ _ (c .before .before .before .before .find-way .ensures) (c .before .before .way3 .given .1)) (c .without-row4 .ensures))
 
 same-length : tie.Need-same-length
 same-length c = search needs

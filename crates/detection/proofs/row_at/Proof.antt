@@ -1,19 +1,17 @@
 use mathlib.Core.Path.{_≡_, _∙_}
 use native.Mathlib.Omega.{arith}
-use Prim.Native.Nat.{_-_, _≤_}
+use Prim.Native.Nat.{ℕ, _-_, _≤_}
 use denote.Ref.{now}
-use lib.ListN.{length, drop, replicate, length-set, length-replicate}
-use lib.Seq.{paste, paste-zero}
-use lib.Ieee.{nan}
-use Rattle.corrector.proofs.Laws.{at-end}
-use Rattle.detection.proofs.Work.{row-more}
-use Rattle.detection.specs.Const.{zero32}
+use lib.ListN.{length, length-set}
+use Rattle.attributors.proofs.Laws.{at-end}
+use Rattle.corrector.proofs.Rows.{rowOf, row-more}
+use Rattle.detection.proofs.Work.{none-is}
 use borrow.Author.Needs.{needs}
 use Rattle.detection.proofs.row_at.Statement.{statement}
 use Rattle.detection.proofs.row_at.Tie as tie
 
 abbrev Inv-loop : tie.InvT-loop
-Inv-loop point at base out₀ i₀ out i = (i ≤ base) × (length out ≡ 16) × (out ≡ paste (replicate 16 zero32) 0 (drop at point) i)
+Inv-loop point at base out₀ i₀ out i = (i ≤ base) × (length out ≡ 16) × (out ≡ rowOf at i point)
 
 abbrev μ-loop : tie.MeasureT-loop
 μ-loop point at base out₀ i₀ out i = base - i
@@ -24,7 +22,7 @@ sixteen-requires c κs = search needs
 loop-holds : tie.Need-loop-holds Inv-loop μ-loop
 loop-holds c =
     let long : length (c .sixteen .result) ≡ 16 = search needs in
-    (omega arith, long, c .sixteen .ensures ∙ paste-zero (replicate 16 zero32) 0 (drop (c .before .before .args .at) (now (c .before .before .args .point))))
+    (omega arith, long, c .sixteen .ensures ∙ none-is)
 
 add-out : tie.Need-add-out Inv-loop μ-loop
 add-out c = search needs
@@ -50,13 +48,12 @@ loop-less c = search needs
 loop-again : tie.Need-loop-again Inv-loop μ-loop
 loop-again c =
     let a = c .before .before .before .before .before .args in
-    let v = c .before .before .loop .inv in
-    (omega arith, simp length-set (v .1), row-more _ (replicate 16 zero32) (now (a .point)) (a .at) _ nan (omega (arith, length-replicate 16 zero32)) (omega arith) (v .2))
+    (omega arith, simp length-set (c .before .before .loop .inv .1), row-more _ (now (a .point)) (a .at) (c .before .before .loop .i) (omega arith) (c .before .before .loop .inv .2))
 
 returns : tie.Need-returns Inv-loop μ-loop
 returns c =
     let a = c .before .before .before .before .args in
-    at-end (paste (replicate 16 zero32) 0 (drop (a .at) (now (a .point)))) _ _ _ (c .before .loop .inv .2) (c .before .loop .inv .0) (c .loop-test .left)
+    at-end (λ (n : ℕ). rowOf (a .at) n (now (a .point))) _ _ _ (c .before .loop .inv .2) (c .before .loop .inv .0) (c .loop-test .left)
 
 pub row-at-spec : {M : Type 1} → statement M
 row-at-spec =

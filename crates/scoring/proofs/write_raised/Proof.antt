@@ -8,8 +8,8 @@ use borrow.Author.Needs.{needs}
 use Rattle.scoring.proofs.write_raised.Statement.{statement}
 use Rattle.scoring.proofs.write_raised.Tie as tie
 
-write-expected-point-requires : tie.Need-write-expected-point-requires
-write-expected-point-requires c κs = search needs
+write-row-requires : tie.Need-write-row-requires
+write-row-requires c κs = search needs
 
 f32-to-f64-with-nan-requires : tie.Need-f32-to-f64-with-nan-requires
 f32-to-f64-with-nan-requires c κs = search needs
@@ -29,11 +29,11 @@ same-length-3 c = search needs
 returns : tie.Need-returns
 unfolding normalizeInto
 returns c =
-    let a = c .before .before .before .before .before .before .before .before .before .before .before .before .before .before .before .before .before .before .before .args in
+    let a = c .before .before .before .before .before .before .before .before .before .before .before .before .before .before .before .before .before .before .args in
     let f = c .before .before .before .before .before .before .before .f32-to-f64-with-nan .ensures in
     let t = allAlike (now (a .high)) (now (a .low)) (now (a .out-high)) (now (a .out-low)) in
     record {
-      point-is = c .before .before .before .before .before .before .before .before .before .before .write-expected-point .ensures;
+      point-is = c .before .before .before .before .before .before .before .before .before .before .write-row .ensures;
       highs =
           ap (λ (x : After). x .high) (c .before .before .before .before .normalize-into .ensures)
           ∙ changed-high t (now (a .out-high)) (now (a .out-low)) _ _
@@ -48,7 +48,7 @@ pub write-raised-spec : {M : Type 1} → statement M
 write-raised-spec =
     tie.close
     (tie.spec
-    write-expected-point-requires
+    write-row-requires
     f32-to-f64-with-nan-requires
     normalize-into-requires
     same-length
