@@ -181,7 +181,8 @@ fn differential_remainder(
     requires { ⌜ start + n ≤ length (now low) ⌝ }
     requires { ⌜ start + n ≤ length (now «ideal_high») ⌝ }
     requires { ⌜ start + n ≤ length (now «ideal_low») ⌝ }
-    ensures { λ r. ⌜ r ≡ Corrector.differentialRemainder (now (high .entry)) (now (low .entry)) (now («ideal_high» .entry)) (now («ideal_low» .entry)) start n ⌝ }
+    ensures { λ r. ⌜ r ≡ Corrector.differentialRemainder
+        (now (high .entry)) (now (low .entry)) (now («ideal_high» .entry)) (now («ideal_low» .entry)) start n ⌝ }
 {
     let mut sum = 0.0f32;
     let mut i = 0usize;
@@ -223,8 +224,11 @@ fn compare(
     last_score: f32,
     threshold: f32,
 ) -> bool
-    requires { ⌜ Corrector.triggerFits (length (now high)) (length (now low)) «base_dimension» (length (now «ideal_high»)) (length (now «ideal_low»)) ≡ true ⌝ }
-    ensures { λ r. ⌜ r ≡ Corrector.trigger (now (high .entry)) (now (low .entry)) gap «base_dimension» (now («ideal_high» .entry)) (now («ideal_low» .entry)) true true «last_score» threshold ⌝ }
+    requires { ⌜ Corrector.triggerFits
+        (length (now high)) (length (now low)) «base_dimension» (length (now «ideal_high»)) (length (now «ideal_low»)) ≡ true ⌝ }
+    ensures { λ r. ⌜ r ≡ Corrector.trigger
+        (now (high .entry)) (now (low .entry)) gap «base_dimension»
+        (now («ideal_high» .entry)) (now («ideal_low» .entry)) true true «last_score» threshold ⌝ }
 {
     let dimensions = high.len();
     if gap < dimensions {
@@ -264,7 +268,9 @@ pub fn trigger(
     last_score: f32,
     threshold: f32,
 ) -> bool
-    ensures { λ r. ⌜ r ≡ Corrector.trigger (now (high .entry)) (now (low .entry)) gap «base_dimension» (now («ideal_high» .entry)) (now («ideal_low» .entry)) «has_anomaly» «has_attribution» «last_score» threshold ⌝ }
+    ensures { λ r. ⌜ r ≡ Corrector.trigger
+        (now (high .entry)) (now (low .entry)) gap «base_dimension» (now («ideal_high» .entry)) (now («ideal_low» .entry))
+        «has_anomaly» «has_attribution» «last_score» threshold ⌝ }
 {
     if has_anomaly {
         if has_attribution {
@@ -368,7 +374,8 @@ fn amend(
     requires { ⌜ gap * base ≤ length (now corrected) ⌝ }
     requires { ⌜ length (now expected) ≡ length (now corrected) ⌝ }
     requires { ⌜ length (now anomalous) ≡ length (now corrected) ⌝ }
-    ensures { λ _. ⌜ now (corrected .exit) ≡ Corrector.amended (now (corrected .entry)) (now (expected .entry)) (now (anomalous .entry)) gap base «use_difference» «time_augmented» ⌝ }
+    ensures { λ _. ⌜ now (corrected .exit) ≡ Corrector.amended
+        (now (corrected .entry)) (now (expected .entry)) (now (anomalous .entry)) gap base «use_difference» «time_augmented» ⌝ }
 {
     let d = corrected.len();
     if use_difference {
@@ -403,8 +410,12 @@ fn correct(
     time_augmented: bool,
     out: &mut [f32],
 )
-    requires { ⌜ Steps.Correcting (length (now point)) gap «shingle_size» «base_dimension» «has_anomaly» (length (now expected)) (length (now anomalous)) (length (now out)) ⌝ }
-    ensures { λ _. ⌜ now (out .exit) ≡ Corrector.applyBasicCorrector (now (point .entry)) gap «shingle_size» «base_dimension» «has_anomaly» (now (expected .entry)) (now (anomalous .entry)) «relative_index» «use_difference» «time_augmented» ⌝ }
+    requires { ⌜ Steps.Correcting
+        (length (now point)) gap «shingle_size» «base_dimension» «has_anomaly»
+        (length (now expected)) (length (now anomalous)) (length (now out)) ⌝ }
+    ensures { λ _. ⌜ now (out .exit) ≡ Corrector.applyBasicCorrector
+        (now (point .entry)) gap «shingle_size» «base_dimension» «has_anomaly»
+        (now (expected .entry)) (now (anomalous .entry)) «relative_index» «use_difference» «time_augmented» ⌝ }
 {
     if has_anomaly {
         if gap <= shingle_size {
