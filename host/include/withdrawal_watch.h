@@ -275,6 +275,16 @@ uint8_t krcf_chain_set_initial_threshold(uint8_t *state, size_t state_len, float
 uint8_t krcf_chain_set_horizon(uint8_t *state, size_t state_len, float horizon);
 
 /* libc_calls.a */
+uint8_t krcf_likely_missing_indices(
+    size_t shingle_size,
+    size_t base_dimension,
+    size_t gap,
+    const double *high,
+    size_t high_len,
+    const double *low,
+    size_t low_len,
+    size_t *out,
+    size_t out_len);
 uint8_t krcf_expected_point(
     size_t shingle_size,
     size_t base_dimension,

@@ -251,27 +251,29 @@ pub fn update_auto_adjust(
     Refusal::answered(number)
 }
 
-/// The block that contributes most, of those since the last anomaly.
-pub fn max_gap_contribution(
-    attribution: LentAttribution,
-    base_dimension: usize,
+/// The block that contributes most, of those since the last anomaly, and the indices in its row that
+/// the forest's conditional field is asked for: how many there are and where, zeros behind them.
+pub fn likely_missing_indices(
+    (shingle_size, base_dimension): Sizes,
     gap: usize,
-) -> Result<usize, Refusal> {
+    attribution: LentAttribution,
+) -> Result<[usize; 7], Refusal> {
     let LentAttribution { high, low } = attribution;
-    let mut block = [0; 8];
-    // SAFETY: `block` is borrowed alone, the others for reading, and each goes with its own length.
+    let mut out = [0; 7];
+    // SAFETY: `out` is borrowed alone, the others for reading, and each goes with its own length.
     let number = unsafe {
-        c::krcf_max_gap_contribution(
+        c::krcf_likely_missing_indices(
+            shingle_size,
+            base_dimension,
+            gap,
             high.as_ptr(),
             high.len(),
             low.as_ptr(),
             low.len(),
-            base_dimension,
-            gap,
-            block.as_mut_ptr(),
-            block.len(),
+            out.as_mut_ptr(),
+            out.len(),
         )
     };
     Refusal::answered(number)?;
-    Ok(u64::from_le_bytes(block) as usize)
+    Ok(out)
 }

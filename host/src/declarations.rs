@@ -206,6 +206,17 @@ unsafe extern "C" {
 
 #[link(name = "c_calls", kind = "static")]
 unsafe extern "C" {
+    pub fn krcf_likely_missing_indices(
+        shingle_size: usize,
+        base_dimension: usize,
+        gap: usize,
+        high: *const f64,
+        high_len: usize,
+        low: *const f64,
+        low_len: usize,
+        out: *mut usize,
+        out_len: usize,
+    ) -> u8;
     pub fn krcf_expected_point(
         shingle_size: usize,
         base_dimension: usize,

@@ -95,7 +95,7 @@ pub struct Reading<'a> {
 }
 
 /// As many zeros as a list of a reading can be long.
-pub(crate) static ZEROS: [f32; 1024] = [0.0; 1024];
+static ZEROS: [f32; 1024] = [0.0; 1024];
 
 /// The attribution of nothing, for a point of this length.
 pub(crate) fn no_attribution(dimension: usize) -> LentAttribution<'static> {

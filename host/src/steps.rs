@@ -2,7 +2,7 @@
 //! lists.
 
 use crate::calls;
-use crate::reading::{Reading, ZEROS};
+use crate::reading::Reading;
 use crate::refusal::Refusal;
 
 /// The point with the last anomaly's effect taken out.
@@ -27,19 +27,14 @@ pub struct Missing {
     pub indices: Vec<usize>,
 }
 
-/// They are the ones where the expected point is the median's: ones in a point of zeros.
 pub fn likely_missing_indices(r: &Reading) -> Result<Missing, Refusal> {
-    let block = calls::max_gap_contribution(r.attribution, r.base_dimension, r.gap())?;
-    let position = block * r.base_dimension;
-    let ones = vec![1.0; r.dimension()];
-    let probe = Reading {
-        rcf_point: &ZEROS[..r.dimension()],
-        median: &ones,
-        ..*r
-    };
-    let taken = expected_point(&probe, position)?;
-    let indices = (0..taken.len()).filter(|k| taken[*k] == 1.0).collect();
-    Ok(Missing { position, indices })
+    let sizes = (r.shingle_size, r.base_dimension);
+    let [block, count, indices @ ..] =
+        calls::likely_missing_indices(sizes, r.gap(), r.attribution)?;
+    Ok(Missing {
+        position: block * r.base_dimension,
+        indices: indices[..count].to_vec(),
+    })
 }
 
 /// The point with the conditional median at the missing indices of the row from `position` on.

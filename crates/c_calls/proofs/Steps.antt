@@ -1,7 +1,7 @@
 -- The calls' shapes over plain variables. Assumes nothing.
 use mathlib.Core.Path.{_≡_, refl, sym, ap, _∙_}
 use mathlib.Core.Bool.{Bool, true, false, _&&_}
-use mathlib.Core.List.{List}
+use mathlib.Core.List.{List, _∷_}
 use Prim.Native.Nat.{ℕ}
 use lib.Dec.{eqb, leb}
 use lib.IntN.{ℤ}
@@ -19,13 +19,42 @@ use Rattle.layout.specs.Numbers.{writtenOf}
 use Rattle.layout.specs.Chain.{decodeState, encodeStateOver, readState}
 use Rattle.layout.specs.Left.{left}
 use Rattle.corrector.specs.Corrector as Corrector
+use Rattle.calls.specs.declared.Missing.{Missing}
 use Rattle.calls.specs.Calls as Calls
-use Rattle.c_calls.specs.Buffers.{filled, filledBy, applyBasicCorrector, correctorAnswer, codesOk, stored, storedBy, updateAutoAdjust}
+use Rattle.c_calls.specs.Buffers.{filled, filledBy, placed, placedBy, likelyMissingIndices, applyBasicCorrector, correctorAnswer, codesOk, stored, storedBy, updateAutoAdjust}
 
 -- A call that was passed on, answered by n.
 pub passed-on : (a b : Answer) (n : ℕ) (new out out′ : List Float) → b ≡ a → n ≡ answered b → out′ ≡ Calls.written a new out → filled n out′ ≡ filledBy a new out
 unfolding filledBy
 passed-on a b n new out out′ p q w = λ i. filled ((q ∙ ap answered p) i) (w i)
+
+-- ---- likely_missing_indices.
+module _ (shingle base gap : ℕ) (high low : List Float) (out : List ℕ) where
+  pub missing-range : sizesOk shingle base ≡ false → left 2 out ≡ likelyMissingIndices shingle base gap high low out
+  unfolding likelyMissingIndices
+  missing-range s = rw s
+
+  module _ (s : sizesOk shingle base ≡ true) where
+    pub missing-length : eqb (length out) 7 ≡ false → left 3 out ≡ likelyMissingIndices shingle base gap high low out
+    unfolding likelyMissingIndices
+    missing-length l = rw (s, l)
+
+    module _ (l : eqb (length out) 7 ≡ true) (m : Missing) (e : m ≡ Calls.likelyMissingIndices shingle base gap high low) where
+      found : placedBy m out ≡ likelyMissingIndices shingle base gap high low out
+      unfolding likelyMissingIndices
+      found = ap (λ (u : Missing). placedBy u out) e ∙ rw (s, l)
+
+      pub missing-placed : (out′ : List ℕ) → m .answer ≡ Done → out′ ≡ m .block ∷ m .count ∷ m .indices → left 0 out′ ≡ likelyMissingIndices shingle base gap high low out
+      unfolding placed
+      missing-placed out′ d w =
+          let done : left 0 out′ ≡ placedBy m out = ap (left 0) w ∙ rw d in
+          done ∙ found
+
+      pub missing-refused : (why : Refusal) (n : ℕ) → m .answer ≡ Refused why → n ≡ number why → left n out ≡ likelyMissingIndices shingle base gap high low out
+      unfolding placed
+      missing-refused why n d h =
+          let kept : left n out ≡ placedBy m out = rw (h, d) in
+          kept ∙ found
 
 -- ---- apply_basic_corrector: its yes/no bytes.
 module _ (point : List Float) (gap shingle base has : ℕ) (expected anomalous : List Float) (index : ℤ) (difference time : ℕ) (out : List Float) where

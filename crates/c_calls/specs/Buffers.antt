@@ -2,7 +2,7 @@
 -- inside a slice of another length is looked at.
 use Prim.Native.Nat.{ℕ}
 use mathlib.Core.Bool.{Bool, true, cond, _&&_}
-use mathlib.Core.List.{List}
+use mathlib.Core.List.{List, _∷_}
 use lib.Dec.{eqb, leb}
 use lib.IntN.{ℤ}
 use lib.ListN.{length, getD}
@@ -17,6 +17,7 @@ use Rattle.predictorcorrector.specs.declared.PredictorCorrector.{PredictorCorre
 use Rattle.predictorcorrector.specs.declared.Updated.{Updated}
 use Rattle.layout.specs.Chain.{decodeState, encodeStateOver}
 use Rattle.layout.specs.Left.{Left, left}
+use Rattle.calls.specs.declared.Missing.{Missing}
 use Rattle.calls.specs.Calls as Calls
 
 -- The answer's number, and the floats of the slice.
@@ -34,6 +35,21 @@ filledBy a new out = filled (answered a) (Calls.written a new out)
 unfoldable pub expectedPoint : (shingle base position : ℕ) → (point high low median out : List Float) → Filled
 expectedPoint shingle base position point high low median out =
     filledBy (Calls.expectedAnswer shingle base position point high low median (length out)) (Corrector.expectedPoint high low position base point median) out
+
+-- What a call that found m leaves of a slice of seven: the block, how many indices there are, and five places for them, 0 behind the last.
+unfoldable pub placed : Answer → Missing → List ℕ → List ℕ
+placed Done m out = m .block ∷ m .count ∷ m .indices
+placed (Refused why) m out = out
+
+abbrev pub placedBy : Missing → List ℕ → Left
+placedBy m out = left (answered (m .answer)) (placed (m .answer) m out)
+
+-- A slice of another length is refused behind the sizes and before the rest.
+unfoldable pub likelyMissingIndices : (shingle base gap : ℕ) → (high low : List Float) → (out : List ℕ) → Left
+likelyMissingIndices shingle base gap high low out =
+    cond (sizesOk shingle base)
+    (cond (eqb (length out) 7) (placedBy (Calls.likelyMissingIndices shingle base gap high low) out) (left (number Length) out))
+    (left (number Range) out)
 
 -- A yes/no byte above 1 is refused (2) ahead of everything else.
 unfoldable pub correctorAnswer : (shingle base gap : ℕ) → (point : List Float) → (has : ℕ) → (expected anomalous : List Float) → (difference time out : ℕ) → Answer

@@ -1,7 +1,10 @@
-// The calls on a reading's buffers for a host that calls over C: the expected point, the corrector, auto adjust. Numbers, and slices of bytes or floats (a pointer,
-// then a length); a state is its 1310 bytes, as the crate layout has them. A call answers document 01's number, 0 where it is done; a refused one has written nothing.
+// The calls on a reading's buffers for a host that calls over C: the missing indices, the expected point, the corrector, auto adjust. Numbers, and slices of bytes,
+// sizes or floats (a pointer, then a length); a state is its 1310 bytes, as the crate layout has them. A call answers document 01's number, 0 where it is done; a
+// refused one has written nothing.
 use types::Answer;
 ghost use mathlib.Core.Path.{_≡_};
+ghost use mathlib.Core.List.{_∷_};
+ghost use lib.ListN.{length};
 ghost use Rattle.layout.specs.Left.{left};
 ghost use Rattle.c_calls.specs.Buffers as Buffers;
 ghost use Rattle.c_calls.specs.Buffers.{filled};
@@ -10,6 +13,53 @@ ghost use Rattle.c_calls.specs.Buffers.{filled};
 const RANGE: u8 = 2;
 
 const LENGTH: u8 = 3;
+
+// Block, count and indices, in a slice of seven.
+fn put_missing(out: &mut [usize], block: usize, count: usize, indices: [usize; 5])
+    requires { ⌜ length (now out) ≡ 7 ⌝ }
+    ensures { λ _. ⌜ now (out .exit) ≡ block ∷ count ∷ indices ⌝ }
+{
+    out[0] = block;
+    out[1] = count;
+    out[2] = indices[0];
+    out[3] = indices[1];
+    out[4] = indices[2];
+    out[5] = indices[3];
+    out[6] = indices[4];
+}
+
+// What a host asks the forest's conditional field for, in seven numbers: the block that stands out, how many indices there are (none where the field is not asked),
+// and five places for them, 0 behind the last.
+#[no_mangle]
+pub extern "C" fn krcf_likely_missing_indices(
+    shingle_size: usize,
+    base_dimension: usize,
+    gap: usize,
+    high: &[f64],
+    low: &[f64],
+    out: &mut [usize],
+) -> u8
+    ensures { λ n. ⌜
+        left n (now (out .exit))
+        ≡ Buffers.likelyMissingIndices «shingle_size» «base_dimension» gap (now (high .entry)) (now (low .entry)) (now (out .entry)) ⌝ }
+{
+    if descriptor::sizes_ok(shingle_size, base_dimension) {
+        if out.len() == 7 {
+            let found = calls::likely_missing_indices(shingle_size, base_dimension, gap, high, low);
+            let answer = found.answer;
+            let indices = found.indices;
+            return match answer {
+                Answer::Done => {
+                    put_missing(out, found.block, found.count, indices);
+                    0
+                }
+                Answer::Refused(why) => why.number(),
+            };
+        }
+        return LENGTH;
+    }
+    RANGE
+}
 
 // The point with the conditional median at the coordinates of the row from `position` on that contribute most.
 #[no_mangle]
@@ -23,7 +73,10 @@ pub extern "C" fn krcf_expected_point(
     median: &[f32],
     out: &mut [f32],
 ) -> u8
-    ensures { λ n. ⌜ filled n (now (out .exit)) ≡ Buffers.expectedPoint «shingle_size» «base_dimension» position (now (point .entry)) (now (high .entry)) (now (low .entry)) (now (median .entry)) (now (out .entry)) ⌝ }
+    ensures { λ n. ⌜
+        filled n (now (out .exit))
+        ≡ Buffers.expectedPoint «shingle_size» «base_dimension» position (now (point .entry)) (now (high .entry)) (now (low .entry))
+        (now (median .entry)) (now (out .entry)) ⌝ }
 {
     calls::expected_point(
         shingle_size,
@@ -52,7 +105,10 @@ pub extern "C" fn krcf_apply_basic_corrector(
     time_augmented: u8,
     out: &mut [f32],
 ) -> u8
-    ensures { λ n. ⌜ filled n (now (out .exit)) ≡ Buffers.applyBasicCorrector (now (point .entry)) gap «shingle_size» «base_dimension» «has_anomaly» (now («last_expected» .entry)) (now («last_anomalous» .entry)) «relative_index» «use_difference» «time_augmented» (now (out .entry)) ⌝ }
+    ensures { λ n. ⌜
+        filled n (now (out .exit))
+        ≡ Buffers.applyBasicCorrector (now (point .entry)) gap «shingle_size» «base_dimension» «has_anomaly» (now («last_expected» .entry))
+        (now («last_anomalous» .entry)) «relative_index» «use_difference» «time_augmented» (now (out .entry)) ⌝ }
 {
     if (has_anomaly <= 1) & ((use_difference <= 1) & (time_augmented <= 1)) {
         let answer = calls::apply_basic_corrector(

@@ -1,11 +1,11 @@
-// Makes the calls on a reading's buffers that standard input has, and writes a line for each: the operation, the refusal's number or 0, and a checksum of what the
-// call may write. Standard output is to be the Rust's lines; `oracle/run SOURCES sample` writes both.
+// Makes the calls on a reading's buffers that standard input has, and writes a line for each, in hexadecimal: the operation, the refusal's number or 0, and a
+// checksum of what the call may write. Standard output is to be the Rust's lines; `oracle/run SOURCES sample` writes both.
 //
-// A call is 336 bytes. The first 16: the operation (0 the expected point, 1 the corrector, 2 auto adjust), shingle size, base dimension, position or gap, the yes/no
-// of an anomaly, of differences and of time, 1 where the relative index is -1, six lengths (point, median or last expected point, last anomalous point, high,
-// low, the buffer that may be written), 1 where the state is to lack its last byte, and 0. Then 5 rows of 16 floats, 4 bytes each, the lowest first, in the order of
-// the lengths. Behind a call of auto adjust stands the state, 1310 bytes.
-ghost use Prim.Native.Nat.{_≤_, _<_};
+// A call is 336 bytes. The first 16: the operation (0 the expected point, 1 the corrector, 2 auto adjust, 3 the missing indices), shingle size, base dimension,
+// position or gap, the yes/no of an anomaly, of differences and of time, 1 where the relative index is -1, the lengths of point, median or last expected point, last
+// anomalous point, high, low and the buffer that may be written (of auto adjust: 1 where the state is to lack its last byte), two zeros. Then 5 rows of 16 floats,
+// 4 bytes each, the lowest first, in the order of the lengths. Behind a call of auto adjust stands the state, 1310 bytes.
+ghost use Prim.Native.Nat.{_<_};
 
 fn wide(b: u8) -> u32
     ensures { λ r. ⌜ r < 0x100 ⌝ }
@@ -40,11 +40,46 @@ fn size(b: u8) -> usize {
     b as usize
 }
 
-// At most a row.
-fn length(b: u8) -> usize
-    ensures { λ r. ⌜ r ≤ 16 ⌝ }
-{
-    (b % 17) as usize
+fn below_zero(b: u8) -> i32 {
+    if b == 0 {
+        return 0;
+    }
+    -1
+}
+
+// The first bytes of a call.
+struct Head {
+    shingle_size: usize,
+    base_dimension: usize,
+    at: usize,
+    has_anomaly: u8,
+    use_difference: u8,
+    time_augmented: u8,
+    relative_index: i32,
+    point: usize,
+    second: usize,
+    third: usize,
+    high: usize,
+    low: usize,
+    out: usize,
+}
+
+fn head_of(b: &[u8; 336]) -> Head {
+    Head {
+        shingle_size: size(b[1]),
+        base_dimension: size(b[2]),
+        at: size(b[3]),
+        has_anomaly: b[4],
+        use_difference: b[5],
+        time_augmented: b[6],
+        relative_index: below_zero(b[7]),
+        point: size(b[8]),
+        second: size(b[9]),
+        third: size(b[10]),
+        high: size(b[11]),
+        low: size(b[12]),
+        out: size(b[13]),
+    }
 }
 
 // Of each of these `n` elements from `at` on, or all where there are fewer.
@@ -90,23 +125,33 @@ fn mix_bytes(x: [u8; 1310]) -> u64 {
     sum
 }
 
+fn mix_numbers(x: [usize; 7]) -> u64 {
+    let mut sum = 0u64;
+    let mut i = 0usize;
+    while i < 7 {
+        sum = mix(sum, x[i] as u64);
+        i += 1;
+    }
+    sum
+}
+
 // The refusal's number or 0, and the checksum.
 struct Said {
     number: u8,
     sum: u64,
 }
 
-fn expected_point(b: &[u8; 336], x: &[f32], w: &[f64]) -> Said {
+fn expected_point(h: Head, x: &[f32], w: &[f64]) -> Said {
     let mut out = [-1.0f32; 16];
-    let n = length(b[13]);
+    let n = h.out % 17;
     let number = c_calls::krcf_expected_point(
-        size(b[1]),
-        size(b[2]),
-        size(b[3]),
-        row(x, 0, length(b[8])),
-        wide_row(w, 48, length(b[11])),
-        wide_row(w, 64, length(b[12])),
-        row(x, 16, length(b[9])),
+        h.shingle_size,
+        h.base_dimension,
+        h.at,
+        row(x, 0, h.point),
+        wide_row(w, 48, h.high),
+        wide_row(w, 64, h.low),
+        row(x, 16, h.second),
         &mut out[..n],
     );
     Said {
@@ -115,27 +160,20 @@ fn expected_point(b: &[u8; 336], x: &[f32], w: &[f64]) -> Said {
     }
 }
 
-fn relative_index(b: u8) -> i32 {
-    if b == 0 {
-        return 0;
-    }
-    -1
-}
-
-fn apply_basic_corrector(b: &[u8; 336], x: &[f32]) -> Said {
+fn apply_basic_corrector(h: Head, x: &[f32]) -> Said {
     let mut out = [-1.0f32; 16];
-    let n = length(b[13]);
+    let n = h.out % 17;
     let number = c_calls::krcf_apply_basic_corrector(
-        row(x, 0, length(b[8])),
-        size(b[3]),
-        size(b[1]),
-        size(b[2]),
-        b[4],
-        row(x, 16, length(b[9])),
-        row(x, 32, length(b[10])),
-        relative_index(b[7]),
-        b[5],
-        b[6],
+        row(x, 0, h.point),
+        h.at,
+        h.shingle_size,
+        h.base_dimension,
+        h.has_anomaly,
+        row(x, 16, h.second),
+        row(x, 32, h.third),
+        h.relative_index,
+        h.use_difference,
+        h.time_augmented,
         &mut out[..n],
     );
     Said {
@@ -148,14 +186,14 @@ fn blank_state() -> [u8; 1310] {
     [0u8; 1310]
 }
 
-fn update_auto_adjust(b: &[u8; 336], x: &[f32]) -> Said {
+fn update_auto_adjust(h: Head, x: &[f32]) -> Said {
     let mut state = blank_state();
     io::read_full(0, &mut state);
-    let n = 1310 - (b[14] % 2) as usize;
+    let n = 1310 - h.out % 2;
     let number = c_calls::krcf_update_auto_adjust(
         &mut state[..n],
-        size(b[1]),
-        row(x, 0, length(b[8])),
+        h.shingle_size,
+        row(x, 0, h.point),
     );
     Said {
         number,
@@ -163,23 +201,39 @@ fn update_auto_adjust(b: &[u8; 336], x: &[f32]) -> Said {
     }
 }
 
+fn likely_missing_indices(h: Head, w: &[f64]) -> Said {
+    let mut out = [9usize; 7];
+    let n = h.out % 8;
+    let number = c_calls::krcf_likely_missing_indices(
+        h.shingle_size,
+        h.base_dimension,
+        h.at,
+        wide_row(w, 48, h.high),
+        wide_row(w, 64, h.low),
+        &mut out[..n],
+    );
+    Said {
+        number,
+        sum: mix_numbers(out),
+    }
+}
+
 fn call(b: &[u8; 336]) -> Said {
+    let h = head_of(b);
     let singles = reals(b);
     let doubles = wides(&singles);
     let x = &singles[..];
     let w = &doubles[..];
     match b[0] {
-        0 => expected_point(b, x, w),
-        1 => apply_basic_corrector(b, x),
-        _ => update_auto_adjust(b, x),
+        0 => expected_point(h, x, w),
+        1 => apply_basic_corrector(h, x),
+        2 => update_auto_adjust(h, x),
+        _ => likely_missing_indices(h, w),
     }
 }
 
 fn write_line(operation: u8, said: Said) {
-    io::print_decimal(1, wide(operation) as u64);
-    io::write_all(1, b" ");
-    io::print_decimal(1, wide(said.number) as u64);
-    io::write_all(1, b" ");
+    io::print_hex(1, (wide(operation) * 0x100 + wide(said.number)) as u64, 4);
     io::print_hex(1, said.sum, 16);
     io::write_all(1, b"\n");
 }

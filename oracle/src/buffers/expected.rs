@@ -11,7 +11,7 @@ use crate::readings::damage::resize;
 use crate::refusals::{LENGTH, NOT_FINITE, RANGE};
 
 /// The Rust's most attributors.
-const ATTRIBUTORS: usize = 5;
+pub const ATTRIBUTORS: usize = 5;
 
 #[derive(Clone, Debug)]
 pub struct ExpectedPoint {

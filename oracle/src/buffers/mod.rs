@@ -3,6 +3,7 @@
 pub mod adjusting;
 pub mod corrector;
 pub mod expected;
+pub mod missing;
 pub mod sample;
 
 use crate::parts::vectors::list;

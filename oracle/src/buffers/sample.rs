@@ -7,6 +7,7 @@ use std::io::Result;
 use super::adjusting::AutoAdjust;
 use super::corrector::Corrector;
 use super::expected::ExpectedPoint;
+use super::missing::{MissingIndices, ROOM};
 use super::Call;
 use crate::bytes::Bytes;
 use crate::chain::STATE;
@@ -20,6 +21,7 @@ const LINES: &str = "crates/calls_replay/stdout";
 
 /// What a buffer that may be written holds before.
 const FILLING: f32 = -1.0;
+const NUMBER: usize = 9;
 const ROW: usize = 16;
 
 /// A call as it is stored.
@@ -29,7 +31,7 @@ struct Stored<'a> {
     numbers: [usize; 7],
     rows: [&'a [f32]; 5],
     out: usize,
-    state: Option<&'a [u8]>,
+    state: &'a [u8],
 }
 
 impl Stored<'_> {
@@ -42,17 +44,12 @@ impl Stored<'_> {
         for n in self.rows.map(<[f32]>::len).into_iter().chain([self.out]) {
             bytes.push((n <= ROW).then_some(n as u8)?);
         }
-        let state = self.state.unwrap_or(&[]);
-        let short = self
-            .state
-            .map_or(0, |state| STATE.wrapping_sub(state.len()));
-        bytes.extend([(short <= 1).then_some(short as u8)?, 0]);
+        bytes.extend([0, 0]);
         for row in self.rows {
             let padded = row.iter().chain(&[0.0; ROW]).take(ROW);
             bytes.extend(padded.flat_map(|x| x.to_le_bytes()));
         }
-        bytes.extend(state);
-        bytes.resize(bytes.len() + short, 0);
+        bytes.extend(self.state);
         Some(bytes)
     }
 }
@@ -142,13 +139,17 @@ impl Sampled for Corrector {
 impl Sampled for AutoAdjust {
     fn settle(&mut self) {}
 
+    /// The state may lack its last byte.
     fn stored(&self) -> Option<Vec<u8>> {
+        let short = STATE.checked_sub(self.state.len()).filter(|n| *n <= 1)?;
+        let mut state = self.state.clone();
+        state.resize(STATE, 0);
         let stored = Stored {
             operation: 2,
             numbers: [self.shingle, 0, 0, 0, 0, 0, 0],
             rows: [&self.point, &[], &[], &[], &[]],
-            state: Some(&self.state),
-            ..Stored::default()
+            out: short,
+            state: &state,
         };
         stored.bytes()
     }
@@ -156,6 +157,32 @@ impl Sampled for AutoAdjust {
     fn words(mut left: Vec<u8>) -> Vec<u64> {
         left.resize(STATE, 0);
         left.into_iter().map(u64::from).collect()
+    }
+}
+
+impl Sampled for MissingIndices {
+    fn settle(&mut self) {
+        self.out.fill(NUMBER);
+        for list in &mut self.vectors {
+            *list = narrowed(list).into_iter().map(f64::from).collect();
+        }
+    }
+
+    fn stored(&self) -> Option<Vec<u8>> {
+        let [high, low] = self.vectors.each_ref().map(|list| narrowed(list));
+        let stored = Stored {
+            operation: 3,
+            numbers: [self.shingle, self.base, self.gap, 0, 0, 0, 0],
+            rows: [&[], &[], &[], &high, &low],
+            out: self.out.len(),
+            ..Stored::default()
+        };
+        (self.out.len() <= ROOM).then(|| stored.bytes()).flatten()
+    }
+
+    fn words(mut left: Vec<usize>) -> Vec<u64> {
+        left.resize(ROOM, NUMBER);
+        left.into_iter().map(|n| n as u64).collect()
     }
 }
 
@@ -185,7 +212,7 @@ fn add<C: Sampled>(random: &mut Random, spoilt: bool, calls: &mut Vec<u8>, lines
     };
     let mix = |sum: u64, word: u64| sum.rotate_left(7).wrapping_add(word);
     let sum = C::words(left).into_iter().fold(0, mix);
-    *lines += &format!("{} {number} {sum:016x}\n", bytes[0]);
+    *lines += &format!("{:02x}{number:02x}{sum:016x}\n", bytes[0]);
     calls.extend(bytes);
 }
 
@@ -196,6 +223,7 @@ pub fn write(random: &mut Random) -> Result<()> {
         add::<ExpectedPoint>(random, spoilt, &mut calls, &mut lines);
         add::<Corrector>(random, spoilt, &mut calls, &mut lines);
         add::<AutoAdjust>(random, spoilt, &mut calls, &mut lines);
+        add::<MissingIndices>(random, spoilt, &mut calls, &mut lines);
     }
     println!(
         "{} calls on buffers, {} bytes",

@@ -4,6 +4,7 @@
 use crate::buffers::adjusting::AutoAdjust;
 use crate::buffers::corrector::Corrector;
 use crate::buffers::expected::ExpectedPoint;
+use crate::buffers::missing::MissingIndices;
 use crate::buffers::Call;
 use crate::random::Random;
 use crate::tally::Tally;
@@ -75,4 +76,8 @@ pub fn corrector(tally: &mut Tally, random: &mut Random) {
 
 pub fn adjusting(tally: &mut Tally, random: &mut Random) {
     compare::<AutoAdjust>(tally, random);
+}
+
+pub fn missing(tally: &mut Tally, random: &mut Random) {
+    compare::<MissingIndices>(tally, random);
 }

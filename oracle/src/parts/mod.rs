@@ -49,5 +49,6 @@ pub const PARTS: &[Part] = &[
     part("expected", buffers::expected),
     part("corrector", buffers::corrector),
     part("adjusting", buffers::adjusting),
+    part("missing", buffers::missing),
     part("demand3", demand3::compare),
 ];

@@ -13,12 +13,6 @@ slice-aggregate-read-full c = search needs
 read-full-requires : tie.Need-read-full-requires
 read-full-requires c κs = search needs
 
-element-copy-out-n : tie.Need-element-copy-out-n
-element-copy-out-n c = search needs
-
-cast-n : tie.Need-cast-n
-cast-n c = search needs
-
 sub-n : tie.Need-sub-n
 sub-n c = search needs
 
@@ -27,18 +21,6 @@ array-borrow-prefix-state c = search needs
 
 slice-aggregate-krcf-update-auto-adjust : tie.Need-slice-aggregate-krcf-update-auto-adjust
 slice-aggregate-krcf-update-auto-adjust c = simp length-take (omega arith)
-
-element-copy-out-size : tie.Need-element-copy-out-size
-element-copy-out-size c = search needs
-
-size-requires : tie.Need-size-requires
-size-requires c κs = search needs
-
-element-copy-out-length : tie.Need-element-copy-out-length
-element-copy-out-length c = search needs
-
-length-requires : tie.Need-length-requires
-length-requires c κs = search needs
 
 row-requires : tie.Need-row-requires
 row-requires c κs = search needs
@@ -59,15 +41,9 @@ update-auto-adjust-spec =
     blank-state-requires
     slice-aggregate-read-full
     read-full-requires
-    element-copy-out-n
-    cast-n
     sub-n
     array-borrow-prefix-state
     slice-aggregate-krcf-update-auto-adjust
-    element-copy-out-size
-    size-requires
-    element-copy-out-length
-    length-requires
     row-requires
     krcf-update-auto-adjust-requires
     mix-bytes-requires
