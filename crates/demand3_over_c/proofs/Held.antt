@@ -22,7 +22,7 @@ use Rattle.deviation.specs.Const.{zero64, one64}
 use Rattle.deviation.specs.Statistics as Statistics
 use Rattle.deviation.specs.Statistics.{fresh, reset, mean, counted, next, countable, oneMore}
 use Rattle.deviation.specs.declared.Deviation.{Deviation}
-use Rattle.deviation.specs.declared.Updated as Statistic
+use Rattle.deviation.specs.declared.Updated as Counted
 use Rattle.basicthresholder.specs.Const.{zero32, two32, two64}
 use Rattle.basicthresholder.specs.Updates.{freshThresholder, withCounted, countedGap, countedOver, primaryCounted, bothCounted, countsOk, done, refused, updated, updatePrimary, updateBoth, update, withZFactor, withScoreDifferencing}
 use Rattle.basicthresholder.specs.declared.BasicThresholder.{BasicThresholder}
@@ -92,7 +92,7 @@ counted-fits : (d : Deviation) (x : Float) → DeviationFits d → DeviationFits
 unfolding Statistics.update next
 counted-fits d x f = go (countable (d .count)) refl
   where
-    go : (c : Bool) → countable (d .count) ≡ c → DeviationFits (cond {A = Statistic.Updated} c (record { answer = Answers.Done; deviation = next d x }) (record { answer = Answers.Refused Refusals.Count; deviation = d }) .deviation)
+    go : (c : Bool) → countable (d .count) ≡ c → DeviationFits (cond {A = Counted.Updated} c (record { answer = Answers.Done; deviation = next d x }) (record { answer = Answers.Refused Refusals.Count; deviation = d }) .deviation)
     go true e = record {
       discount = f .discount;
       weight = add-fits binary64 _ _;

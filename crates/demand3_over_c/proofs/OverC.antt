@@ -115,7 +115,7 @@ module _ (xs : List ℕ) (c : Judging) (q : Kept xs c) (k : Taken xs c) where
   abbrev judgment : Judgment
   judgment = record {
     outcome = byValue xs c;
-    «relative_index» = indexAfter (stateOf xs c) (readingOf xs c) (lastOf xs c) (c .lent) (byValue xs c);
+    «relative_index» = indexAfter (readingOf xs c) (lastOf xs c) (c .lent) (byValue xs c);
     state = stateAfter (stateOf xs c) (readingOf xs c) (lastOf xs c) (c .lent) (byValue xs c);
   }
 

@@ -87,10 +87,10 @@ abbrev refusing : Answer → Bool
 refusing Answers.Done = false
 refusing (Answers.Refused why) = true
 
-done-of : (s : PredictorCorrector) (r : Reading) (l : LastDescriptor) (b : Lent) (a : Answer) → outcomeNumber (outcomeOf s r l b a) ≡ 0 → a ≡ Answers.Done
+done-of : (v : Verdict) (a : Answer) → outcomeNumber (outcomeOf v a) ≡ 0 → a ≡ Answers.Done
 unfolding outcomeOf
-done-of s r l b Answers.Done e = refl
-done-of s r l b (Answers.Refused why) e = absurd (number-above why e)
+done-of v Answers.Done e = refl
+done-of v (Answers.Refused why) e = absurd (number-above why e)
 
 passed : (a c d e f : Bool)
     → cond a (cond c (cond d (cond e (cond f Answers.Done (Answers.Refused Count)) (Answers.Refused ValuesSeen)) (Answers.Refused NotFinite)) (Answers.Refused Length)) (Answers.Refused Range) ≡ Answers.Done
@@ -152,7 +152,7 @@ module _ (xs : List ℕ) (c : Judging) where
 
   done-at : outcomeNumber byValue ≡ 0 → answerBy ≡ Answers.Done
   unfolding outcome
-  done-at e = done-of stateOf readingOf lastOf (c .lent) answerBy e
+  done-at e = done-of (verdict readingOf lastOf (c .lent) stateOf) answerBy e
 
   accepted-at : answerBy ≡ Answers.Done → byValue ≡ Accepted (verdict readingOf lastOf (c .lent) stateOf)
   unfolding outcome outcomeOf
@@ -284,7 +284,7 @@ module _ (xs : List ℕ) (c : Judging) where
     unfolding indexOver
     verdict-by Answers.Done g =
         let k = taken-by p f g in
-        let index : j .«relative_index» ≡ indexOver xs (c .reading) (c .last) (c .lent) over = d .index ∙ ap (indexAfter stateOf readingOf lastOf (c .lent)) (sym same) in
+        let index : j .«relative_index» ≡ indexOver xs (c .reading) (c .last) (c .lent) over = d .index ∙ ap (indexAfter readingOf lastOf (c .lent)) (sym same) in
         subst (λ (o : Outcome). Says o (j .«relative_index») (c .verdict) (c .verdict′)) (sym (d .says ∙ k .says-by))
         (subst (Reads (said k) (j .«relative_index»)) (sym (q .verdict)) (accepted-verdict k (j .«relative_index») index))
     verdict-by (Answers.Refused why) g =

@@ -183,23 +183,24 @@ module _ (s : PredictorCorrector) (xs : List ℕ) (k : Holds s xs) where
   z-holds x n ys h e =
       set-done (λ (u : PredictorCorrector). zFactorSet u x) n ys (with-thresholder s _ (k .fits) (z-fits (s .«basic_thresholder») x h (k .fits .thresholder))) (e ∙ rw (no-refusal s xs k))
 
+  -- What a horizon's setter leaves, and the state that it sets by its test.
+  abbrev leftBy : Updated → Left
+  leftBy u = cond (eqb (answered (u .answer)) 0) (left 0 (encodeStateOver xs (u .state))) (left (answered (u .answer)) xs)
+
+  abbrev setBy : Float → Bool → Updated
+  setBy x c =
+      let t = s .«basic_thresholder» in
+      let u = cond c (done (withScoreDifferencing t x)) (refused Refusals.Horizon t) in
+      updated (u .answer) (withThresholder s (u .thresholder))
+
   pub horizon-holds : (x : Float) (n : ℕ) (ys : List ℕ) → T (fits binary32 x) → left n ys ≡ horizonSetIn x xs → Holds (setHorizon s x .state) ys
   unfolding horizonSetIn setHorizon setScoreDifferencing
   horizon-holds x n ys h e =
-      let p : left n ys ≡ stored (setHorizon (decodeState xs) x) = e ∙ rw (no-refusal s xs k) in
-      go (isHorizon x) (p ∙ ap (λ (u : PredictorCorrector). stored (setHorizon u x)) (k .state))
+      let q : left n ys ≡ leftBy (setHorizon (decodeState xs) x) = e ∙ rw (no-refusal s xs k) in
+      go (isHorizon x) (q ∙ ap (λ (u : PredictorCorrector). leftBy (setHorizon u x)) (k .state))
     where
-      stored : Updated → Left
-      stored u = cond (eqb (answered (u .answer)) 0) (left 0 (encodeStateOver xs (u .state))) (left (answered (u .answer)) xs)
-
-      by : Bool → Updated
-      by c =
-          let t = s .«basic_thresholder» in
-          let u = cond c (done (withScoreDifferencing t x)) (refused Refusals.Horizon t) in
-          updated (u .answer) (withThresholder s (u .thresholder))
-
-      go : (c : Bool) → left n ys ≡ stored (by c) → Holds (by c .state) ys
+      go : (c : Bool) → left n ys ≡ leftBy (setBy x c) → Holds (setBy x c .state) ys
       go true q =
-          subst (Holds (by true .state)) (sym (ap (λ (l : Left). l .bytes) q))
-          (put-holds xs (by true .state) (k .size) (with-thresholder s _ (k .fits) (differencing-fits (s .«basic_thresholder») x h (k .fits .thresholder))))
+          subst (Holds (setBy x true .state)) (sym (ap (λ (l : Left). l .bytes) q))
+          (put-holds xs (setBy x true .state) (k .size) (with-thresholder s _ (k .fits) (differencing-fits (s .«basic_thresholder») x h (k .fits .thresholder))))
       go false q = subst (Holds s) (sym (ap (λ (l : Left). l .bytes) q)) k

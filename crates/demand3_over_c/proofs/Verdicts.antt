@@ -1,6 +1,6 @@
 -- A verdict comes back from its bytes, and they show its opening. Assumes nothing.
 use mathlib.Core.Path.{_≡_, refl, sym, ap, _∙_, subst}
-use mathlib.Core.Bool.{Bool, true, false, cond, not, _&&_, _||_, true≢false}
+use mathlib.Core.Bool.{Bool, true, false, not, cond, _&&_, _||_, true≢false}
 use mathlib.Core.List.{List, [], _∷_}
 use Prim.Native.Nat.{ℕ, _<_}
 use native.Mathlib.Omega.{arith}
@@ -11,11 +11,11 @@ use lib.Ieee as Ieee
 use lib.Ieee.{Float, binary32, eq, fits, ofBits}
 use lib.Ieee.Bits.{ofBits-fits}
 use lib.Ieee.Fits.{cond-fits, add-fits, div-fits}
+use Rattle.util.specs.Util.{maxf32}
 use Rattle.ieee.specs.Round.{narrow}
 use Rattle.types.specs.Codes.{isHeight, modeCode, isNone, isDifferenced}
 use Rattle.types.specs.declared.TransformMethod.{TransformMethod}
 use Rattle.deviation.specs.Statistics.{mean, deviation}
-use Rattle.util.specs.Util.{maxf32}
 use Rattle.basicthresholder.specs.Const.{zero32, one32}
 use Rattle.basicthresholder.specs.Grades.{threshold, primaryThresholdAndGrade, thresholdAndGrade, thresholdAndGradeWithFactor, gradeAgainst, gradedOr, graded, absoluteOf, easedAbsolute, thresholdFrom, thresholdBy, sixteenths, isDeviationReady, intermediateFraction, adjustedFactor, longTermDeviation, surpriseIndex}
 use Rattle.basicthresholder.specs.declared.BasicThresholder.{BasicThresholder}
@@ -59,14 +59,9 @@ module _ (t : BasicThresholder) (f : ThresholderFits t) where
 
 from-fits : (ready : Bool) (a b c d e : Float) → T (fits binary32 d) → T (fits binary32 e) → T (fits binary32 (thresholdFrom ready a b c d e))
 unfolding thresholdFrom
-from-fits ready a b c d e p q = go ready
-  where
-    t : Float
-    t = Ieee.add binary32 (Ieee.mul binary32 a (Ieee.add binary32 b c)) (Ieee.mul binary32 (Ieee.sub binary32 one32 a) d)
-
-    go : (r : Bool) → T (fits binary32 (cond (not r) (maxf32 d e) (maxf32 t e)))
-    go true = max-fits t e (add-fits binary32 (Ieee.mul binary32 a (Ieee.add binary32 b c)) (Ieee.mul binary32 (Ieee.sub binary32 one32 a) d)) q
-    go false = max-fits d e p q
+from-fits ready a b c d e p q =
+    let t = Ieee.add binary32 (Ieee.mul binary32 a (Ieee.add binary32 b c)) (Ieee.mul binary32 (Ieee.sub binary32 one32 a) d) in
+    cond-fits binary32 (not ready) (maxf32 d e) (maxf32 t e) (max-fits d e p q) (max-fits t e (add-fits binary32 _ _) q)
 
 or-fits : (x t g : Float) → T (fits binary32 x) → T (fits binary32 t) → T (fits binary32 (gradedOr x t g .threshold))
 unfolding gradedOr
