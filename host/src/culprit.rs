@@ -71,6 +71,14 @@ pub fn of_lists(refusal: Refusal, r: &Reading) -> Refused {
     Refused::new(refusal, about.unwrap_or(refusal.reason().to_string()))
 }
 
+/// What refused a call on some of a reading's lists with a gap of its own.
+pub fn of_gap(refusal: Refusal, r: &Reading) -> Refused {
+    if refusal == Refusal::ValuesSeen {
+        return Refused::new(refusal, "gap: 0, not 1 or more".to_string());
+    }
+    of_lists(refusal, r)
+}
+
 /// What refused a call on some of a reading's lists from a row's start on.
 pub fn of_start(refusal: Refusal, r: &Reading, position: usize) -> Refused {
     if refusal == Refusal::Length && lengths(r).is_none() {

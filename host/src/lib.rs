@@ -53,7 +53,9 @@ mod watch;
 pub use drawer::{Drawer, NotJudged, Withdrawal};
 pub use forest::Forest;
 pub use kept::Anomaly;
-pub use points::{apply_basic_corrector, expected_point, newest_row};
+pub use points::{
+    apply_basic_corrector, expected_point, likely_missing_indices, newest_row, MissingIndices,
+};
 pub use reading::{LastAnomaly, LastDescriptor, LentAttribution, Reading};
 pub use refusal::{Refusal, Refused};
 pub use state::STATE_BYTES;

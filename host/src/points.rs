@@ -3,7 +3,7 @@
 use crate::calls;
 use crate::culprit;
 use crate::reading::{LastAnomaly, LastDescriptor, LentAttribution, Reading};
-use crate::refusal::{Refusal, Refused};
+use crate::refusal::Refused;
 
 /// The newest row of a shingled point, a part of the caller's own slice. Refused for sizes out of
 /// range (2) and a point that is not shingle times base long (3).
@@ -76,9 +76,6 @@ pub fn apply_basic_corrector(
         &mut out,
     )
     .map_err(|refusal| {
-        if refusal == Refusal::ValuesSeen {
-            return Refused::new(refusal, "gap: 0, not 1 or more".to_string());
-        }
         let lent = Reading {
             rcf_point: point,
             last_descriptor: LastDescriptor {
@@ -87,9 +84,53 @@ pub fn apply_basic_corrector(
             },
             ..blank
         };
-        culprit::of_lists(refusal, &lent)
+        culprit::of_gap(refusal, &lent)
     })?;
     Ok(out)
+}
+
+/// What the forest's conditional field is asked for.
+#[derive(Clone, Debug, PartialEq, Eq)]
+pub struct MissingIndices {
+    /// The row that stands out, counted from the oldest.
+    pub block: usize,
+    /// The coordinates of the point to ask for, at most five; none where the field is not asked.
+    pub indices: Vec<usize>,
+}
+
+/// The coordinates whose values look missing: those that contribute most to the attribution of the
+/// corrected point, in the row that stands out since the last anomaly. Refusals: 2 to 4, and 5 for a
+/// gap of 0.
+///
+/// ```
+/// use withdrawal_watch::{likely_missing_indices, LentAttribution, Refused};
+///
+/// let attribution = LentAttribution { high: &[0.0, 0.0, 0.5, 3.0], low: &[0.0; 4] };
+/// let missing = likely_missing_indices(4, 1, 9, attribution)?;
+/// assert_eq!((missing.block, missing.indices), (3, vec![3]));
+/// let why = likely_missing_indices(4, 1, 0, attribution).unwrap_err();
+/// assert_eq!(why.to_string(), "refusal 5: gap: 0, not 1 or more");
+/// # Ok::<(), Refused>(())
+/// ```
+pub fn likely_missing_indices(
+    shingle_size: usize,
+    base_dimension: usize,
+    gap: usize,
+    attribution: LentAttribution,
+) -> Result<MissingIndices, Refused> {
+    let sizes = (shingle_size, base_dimension);
+    let [block, count, indices @ ..] = calls::likely_missing_indices(sizes, gap, attribution)
+        .map_err(|refusal| {
+            let lent = Reading {
+                attribution,
+                ..Reading::blank(shingle_size, base_dimension)
+            };
+            culprit::of_gap(refusal, &lent)
+        })?;
+    Ok(MissingIndices {
+        block,
+        indices: indices.into_iter().take(count).collect(),
+    })
 }
 
 /// The point with the forest's conditional median at the likely missing indices of the row that

@@ -33,7 +33,7 @@ pub fn likely_missing_indices(r: &Reading) -> Result<Missing, Refusal> {
         calls::likely_missing_indices(sizes, r.gap(), r.attribution)?;
     Ok(Missing {
         position: block * r.base_dimension,
-        indices: indices[..count].to_vec(),
+        indices: indices.into_iter().take(count).collect(),
     })
 }
 
