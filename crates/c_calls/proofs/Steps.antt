@@ -16,12 +16,14 @@ use Rattle.descriptor.specs.Checks.{sizesOk}
 use Rattle.predictorcorrector.specs.declared.PredictorCorrector.{PredictorCorrector}
 use Rattle.predictorcorrector.specs.declared.Updated.{Updated}
 use Rattle.layout.specs.Numbers.{writtenOf}
-use Rattle.layout.specs.Chain.{decodeState, encodeStateOver, readState}
+use Rattle.layout.specs.Places.{stateLength}
+use Rattle.layout.specs.Chain.{decodeState, encodeStateOver, stateCodesOk, readState}
+use Rattle.layout.specs.declared.StateRead.{StateRead}
 use Rattle.layout.specs.Left.{left}
 use Rattle.corrector.specs.Corrector as Corrector
 use Rattle.calls.specs.declared.Missing.{Missing}
 use Rattle.calls.specs.Calls as Calls
-use Rattle.c_calls.specs.Buffers.{filled, filledBy, placed, placedBy, likelyMissingIndices, applyBasicCorrector, correctorAnswer, codesOk, stored, storedBy, updateAutoAdjust}
+use Rattle.c_calls.specs.Buffers.{filled, filledBy, placed, placedBy, likelyMissingIndices, applyBasicCorrector, correctorAnswer, stored, storedBy, updateAutoAdjust}
 
 -- A call that was passed on, answered by n.
 pub passed-on : (a b : Answer) (n : ℕ) (new out out′ : List Float) → b ≡ a → n ≡ answered b → out′ ≡ Calls.written a new out → filled n out′ ≡ filledBy a new out
@@ -73,12 +75,12 @@ module _ (point : List Float) (gap shingle base has : ℕ) (expected anomalous :
 
 -- ---- update_auto_adjust.
 module _ (state : List ℕ) (shingle : ℕ) (point : List Float) where
-  pub bad-codes : codesOk state ≡ false → left 2 state ≡ updateAutoAdjust state shingle point
+  pub bad-codes : stateCodesOk state ≡ false → left 2 state ≡ updateAutoAdjust state shingle point
   unfolding updateAutoAdjust
   bad-codes c = rw c
 
-  module _ (c : codesOk state ≡ true) where
-    module _ (l : eqb (length state) 1310 ≡ false) where
+  module _ (c : stateCodesOk state ≡ true) where
+    module _ (l : eqb (length state) stateLength ≡ false) where
       pub bad-length : sizesOk shingle 1 ≡ true → left 3 state ≡ updateAutoAdjust state shingle point
       unfolding updateAutoAdjust
       bad-length s = rw (c, l, s)
@@ -87,10 +89,10 @@ module _ (state : List ℕ) (shingle : ℕ) (point : List Float) where
       unfolding updateAutoAdjust
       bad-size s = rw (c, l, s)
 
-    module _ (l : eqb (length state) 1310 ≡ true) (s : PredictorCorrector) (r : s ≡ readState state) (made : Updated) (m : made ≡ Calls.updateAutoAdjust s shingle point) where
-      decoded : s ≡ decodeState state
+    module _ (l : eqb (length state) stateLength ≡ true) (k : StateRead) (r : k ≡ readState state) (made : Updated) (m : made ≡ Calls.updateAutoAdjust (k .state) shingle point) where
+      decoded : k .state ≡ decodeState state
       unfolding readState
-      decoded = r ∙ rw l
+      decoded = ap (λ (u : StateRead). u .state) r ∙ rw (l, c)
 
       through : storedBy made state ≡ updateAutoAdjust state shingle point
       unfolding updateAutoAdjust
@@ -98,7 +100,7 @@ module _ (state : List ℕ) (shingle : ℕ) (point : List Float) where
           let from : made ≡ Calls.updateAutoAdjust (decodeState state) shingle point = m ∙ ap (λ (t : PredictorCorrector). Calls.updateAutoAdjust t shingle point) decoded in
           ap (λ (u : Updated). storedBy u state) from ∙ rw (c, l)
 
-      pub adjusted : (state′ : List ℕ) → made .answer ≡ Done → state′ ≡ writtenOf 1310 state (encodeStateOver state (made .state)) → left 0 state′ ≡ updateAutoAdjust state shingle point
+      pub adjusted : (state′ : List ℕ) → made .answer ≡ Done → state′ ≡ writtenOf stateLength state (encodeStateOver state (made .state)) → left 0 state′ ≡ updateAutoAdjust state shingle point
       unfolding stored writtenOf
       adjusted state′ d w =
           let whole : state′ ≡ encodeStateOver state (made .state) = w ∙ rw l in

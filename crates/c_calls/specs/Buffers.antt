@@ -1,11 +1,11 @@
 -- The calls on a reading's buffers over C: what each answers, and what stands in the slice that it may write. Of several refusals the smallest is answered; nothing
 -- inside a slice of another length is looked at.
 use Prim.Native.Nat.{ℕ}
-use mathlib.Core.Bool.{Bool, true, cond, _&&_}
+use mathlib.Core.Bool.{cond, _&&_}
 use mathlib.Core.List.{List, _∷_}
 use lib.Dec.{eqb, leb}
 use lib.IntN.{ℤ}
-use lib.ListN.{length, getD}
+use lib.ListN.{length}
 use lib.Ieee.{Float}
 use Rattle.types.specs.Refusals.{number, answered}
 use Rattle.types.specs.declared.Refusal.the-variants.{Range, Length}
@@ -15,7 +15,8 @@ use Rattle.descriptor.specs.Checks.{sizesOk}
 use Rattle.corrector.specs.Corrector as Corrector
 use Rattle.predictorcorrector.specs.declared.PredictorCorrector.{PredictorCorrector}
 use Rattle.predictorcorrector.specs.declared.Updated.{Updated}
-use Rattle.layout.specs.Chain.{decodeState, encodeStateOver}
+use Rattle.layout.specs.Places.{stateLength}
+use Rattle.layout.specs.Chain.{decodeState, encodeStateOver, stateCodesOk}
 use Rattle.layout.specs.Left.{Left, left}
 use Rattle.calls.specs.declared.Missing.{Missing}
 use Rattle.calls.specs.Calls as Calls
@@ -61,10 +62,6 @@ applyBasicCorrector point gap shingle base has expected anomalous index differen
     filledBy (correctorAnswer shingle base gap point has expected anomalous difference time (length out))
     (Corrector.applyBasicCorrector point gap shingle base (eqb has 1) expected anomalous index (eqb difference 1) (eqb time 1)) out
 
--- The state's two yes/no bytes.
-unfoldable pub codesOk : List ℕ → Bool
-codesOk xs = cond (eqb (length xs) 1310) (leb (getD xs 124 0) 1 && leb (getD xs 149 0) 1) true
-
 -- What an update leaves of the state's bytes: those of entries that do not exist stay.
 unfoldable pub stored : Answer → List ℕ → PredictorCorrector → List ℕ
 stored Done xs s = encodeStateOver xs s
@@ -76,8 +73,8 @@ storedBy c xs = left (answered (c .answer)) (stored (c .answer) xs (c .state))
 -- Where the state cannot be read, its base is taken for 1.
 unfoldable pub updateAutoAdjust : (state : List ℕ) → (shingle : ℕ) → (point : List Float) → Left
 updateAutoAdjust state shingle point =
-    cond (codesOk state)
-    (cond (eqb (length state) 1310)
+    cond (stateCodesOk state)
+    (cond (eqb (length state) stateLength)
     (storedBy (Calls.updateAutoAdjust (decodeState state) shingle point) state)
     (cond (sizesOk shingle 1) (left (number Length) state) (left (number Range) state)))
     (left (number Range) state)

@@ -1,5 +1,5 @@
 // The calls on a reading's buffers for a host that calls over C: the missing indices, the expected point, the corrector, auto adjust. Numbers, and slices of bytes,
-// sizes or floats (a pointer, then a length); a state is its 1310 bytes, as the crate layout has them. A call answers document 01's number, 0 where it is done; a
+// sizes or floats (a pointer, then a length); a state is its bytes, as the crate layout has them. A call answers document 01's number, 0 where it is done; a
 // refused one has written nothing.
 use types::Answer;
 ghost use mathlib.Core.Path.{_≡_};
@@ -129,16 +129,6 @@ pub extern "C" fn krcf_apply_basic_corrector(
     RANGE
 }
 
-// The state's two yes/no bytes. Nothing inside a slice of another length is looked at.
-fn codes_ok(state: &[u8]) -> bool
-    ensures { λ r. ⌜ r ≡ Buffers.codesOk (now (state .entry)) ⌝ }
-{
-    if state.len() == 1310 {
-        return (state[124] <= 1) & (state[149] <= 1);
-    }
-    true
-}
-
 // Within a run with auto adjust, counts the oldest row of the point.
 #[no_mangle]
 pub extern "C" fn krcf_update_auto_adjust(
@@ -148,9 +138,11 @@ pub extern "C" fn krcf_update_auto_adjust(
 ) -> u8
     ensures { λ n. ⌜ left n (now (state .exit)) ≡ Buffers.updateAutoAdjust (now (state .entry)) «shingle_size» (now (point .entry)) ⌝ }
 {
-    if codes_ok(state) {
-        if state.len() == 1310 {
-            let changed = calls::update_auto_adjust(layout::read_state(state), shingle_size, point);
+    if layout::state_codes_ok(state) {
+        if state.len() == layout::STATE_LENGTH {
+            let read = layout::read_state(state);
+            let stored = read.state;
+            let changed = calls::update_auto_adjust(stored, shingle_size, point);
             let answer = changed.answer;
             let s = changed.state;
             return match answer {

@@ -9,6 +9,12 @@ use lib.ListN.{length, getD, replicate, length-replicate}
 use lib.Ieee.{Float}
 use Rattle.types.specs.Refusals.{number, answered}
 use Rattle.types.specs.declared.Refusal.{Refusal}
+use Rattle.types.specs.declared.Refusal.the-variants as Whys
+use Rattle.types.specs.declared.Refusal.the-variants.{Range, Length}
+use Rattle.types.specs.declared.Answer.the-variants as Answers
+use Rattle.basicthresholder.specs.Updates.{setScoreDifferencing}
+use Rattle.basicthresholder.specs.declared.BasicThresholder.{BasicThresholder}
+use Rattle.basicthresholder.specs.declared.Updated as Thresholder
 use Rattle.types.specs.declared.Answer.{Answer}
 use Rattle.divector.specs.DiVector.{After, after}
 use Rattle.divector.specs.declared.Number.{Number}
@@ -17,9 +23,14 @@ use Rattle.divector.specs.declared.Block.{Block}
 use Rattle.divector.specs.declared.Block.the-variants as Places
 use Rattle.predictorcorrector.specs.declared.PredictorCorrector.{PredictorCorrector}
 use Rattle.predictorcorrector.specs.declared.Updated.{Updated}
-use Rattle.predictorcorrector.specs.State.{setHorizon}
+use Rattle.predictorcorrector.specs.State.{withThresholder, setHorizon}
+use Rattle.layout.specs.Places.{stateLength, autoThresholdAt, autoAdjustAt}
 use Rattle.layout.specs.Numbers.{writtenOf, f64Bytes, bytes8}
-use Rattle.layout.specs.Chain.{decodeState, encodeStateOver, readState}
+use Rattle.layout.specs.Chain.{decodeState, encodeStateOver, coreOf, stateCodesOk, readCore}
+use Rattle.layout.specs.InPlace.{kept}
+use Rattle.layout.specs.declared.Core.{Core}
+use Rattle.layout.specs.declared.CoreRead.the-variants as Cores
+use Rattle.layout.proofs.Taken.{core-read}
 use Rattle.layout.specs.Left.{Left, left, putInto}
 use Rattle.c_chain.specs.Vectors.{pair, numbered, numberInto, blockInto}
 use Rattle.c_chain.specs.States.{chainRefusal, chainSet, horizonSetIn, chainMade}
@@ -60,57 +71,80 @@ module _ (b : Block) (out : List ℕ) where
     unfolding blockInto
     block-unput h = rw (e, h)
 
+-- A refusal's number is not 0.
+refused-number : (why : Refusal) → eqb (number why) 0 ≡ false
+refused-number Whys.Discount = refl
+refused-number Whys.Range = refl
+refused-number Whys.Length = refl
+refused-number Whys.NotFinite = refl
+refused-number Whys.ValuesSeen = refl
+refused-number Whys.Count = refl
+refused-number Whys.Horizon = refl
+refused-number Whys.Blocks = refl
+
 -- ---- a stored state.
-whole : (a b : Bool) → _≡_ {A = ℕ} (cond a (cond b 0 2) 3) 0 → a ≡ true
-whole true b e = refl
-whole false b e = absurd (omega arith)
+-- The tests of a slice that was not read, and its refusal's number.
+refusal : (long codes : Bool) (k : Core) (why : Refusal) → cond long (cond (cond long codes true) (Cores.Read k) (Cores.Refused Range)) (Cores.Refused Length) ≡ Cores.Refused why
+    → (number why ≡ cond long (cond codes 0 2) 3) × (eqb (number why) 0 ≡ false)
+refusal true true k why e = let z : _≡_ {A = ℕ} 0 1 = cc in absurd (omega arith)
+refusal true false k why e = let w : why ≡ Range = cc in (rw w, rw w)
+refusal false codes k why e = let w : why ≡ Length = cc in (rw w, rw w)
 
-module _ (xs : List ℕ) (why : ℕ) (e : why ≡ chainRefusal xs) where
-  module _ (z : why ≡ 0) where
+module _ (xs : List ℕ) where
+  module _ (k : Core) (e : readCore xs ≡ Cores.Read k) where
+    full : eqb (length xs) stateLength ≡ true
+    full = core-read xs k e .0
+
     none : chainRefusal xs ≡ 0
-    none = sym e ∙ z
+    unfolding chainRefusal stateCodesOk
+    none = let codes = rw full at (core-read xs k e .1) in rw (full, codes)
 
-    full : eqb (length xs) 1310 ≡ true
-    unfolding chainRefusal
-    full = whole (eqb (length xs) 1310) (leb (getD xs 124 0) 1 && leb (getD xs 149 0) 1) none
+    over : (g : BasicThresholder → BasicThresholder) (t : BasicThresholder) (zs : List ℕ) → t ≡ g (k .«basic_thresholder»)
+        → zs ≡ writtenOf stateLength xs (encodeStateOver xs (kept (decodeState xs) t (k .«run_length»)))
+        → zs ≡ encodeStateOver xs (withThresholder (decodeState xs) (g (decodeState xs .«basic_thresholder»)))
+    unfolding writtenOf coreOf
+    over g t zs p q =
+        let same = core-read xs k e .2 in
+        q ∙ rw full (λ i. encodeStateOver xs (kept (decodeState xs) ((p ∙ ap (λ (c : Core). g (c .«basic_thresholder»)) same) i) (same i .«run_length»)))
 
-    module _ (s : PredictorCorrector) (r : s ≡ readState xs) where
-      state : s ≡ decodeState xs
-      unfolding readState
-      state = r ∙ rw full
-
-      over : (t : PredictorCorrector) (zs : List ℕ) → zs ≡ writtenOf 1310 xs (encodeStateOver xs t) → zs ≡ encodeStateOver xs t
-      unfolding writtenOf
-      over t zs p = p ∙ rw full
-
-      pub chain-set : (f : PredictorCorrector → PredictorCorrector) (t : PredictorCorrector) (zs : List ℕ) → t ≡ f s → zs ≡ writtenOf 1310 xs (encodeStateOver xs t)
-          → left 0 zs ≡ chainSet f xs
-      unfolding chainSet
-      chain-set f t zs p q = ap (left 0) (over t zs q ∙ ap (encodeStateOver xs) (p ∙ ap f state)) ∙ rw none
-
-      module _ (x : Float) (u : Updated) (n : ℕ) (m : u ≡ setHorizon s x) (en : n ≡ answered (u .answer)) where
-        from : u ≡ setHorizon (decodeState xs) x
-        from = m ∙ ap (λ (t : PredictorCorrector). setHorizon t x) state
-
-        number-of : n ≡ answered (setHorizon (decodeState xs) x .answer)
-        number-of = en ∙ ap (λ (v : Updated). answered (v .answer)) from
-
-        pub horizon-set : (zs : List ℕ) → n ≡ 0 → zs ≡ writtenOf 1310 xs (encodeStateOver xs (u .state)) → left 0 zs ≡ horizonSetIn x xs
-        unfolding horizonSetIn
-        horizon-set zs ez q = ap (left 0) (over (u .state) zs q ∙ ap (λ (v : Updated). encodeStateOver xs (v .state)) from) ∙ rw (none, ← number-of, ez)
-
-        pub horizon-refused : eqb n 0 ≡ false → left n xs ≡ horizonSetIn x xs
-        unfolding horizonSetIn
-        horizon-refused h = rw (none, ← number-of, h)
-
-  module _ (h : eqb why 0 ≡ false) where
-    pub chain-kept : (f : PredictorCorrector → PredictorCorrector) → left why xs ≡ chainSet f xs
+    pub chain-set : (g : BasicThresholder → BasicThresholder) (t : BasicThresholder) (zs : List ℕ) → t ≡ g (k .«basic_thresholder»)
+        → zs ≡ writtenOf stateLength xs (encodeStateOver xs (kept (decodeState xs) t (k .«run_length»)))
+        → left 0 zs ≡ chainSet (λ (s : PredictorCorrector). withThresholder s (g (s .«basic_thresholder»))) xs
     unfolding chainSet
-    chain-kept f = rw (← e, h)
+    chain-set g t zs p q = ap (left 0) (over g t zs p q) ∙ rw none
 
-    pub horizon-kept : (x : Float) → left why xs ≡ horizonSetIn x xs
+    module _ (x : Float) (u : Thresholder.Updated) (d : u ≡ setScoreDifferencing (k .«basic_thresholder») x) where
+      set-is : setScoreDifferencing (decodeState xs .«basic_thresholder») x ≡ u
+      unfolding coreOf
+      set-is = sym (d ∙ ap (λ (c : Core). setScoreDifferencing (c .«basic_thresholder») x) (core-read xs k e .2))
+
+      pub horizon-set : (zs : List ℕ) → u .answer ≡ Answers.Done → zs ≡ writtenOf stateLength xs (encodeStateOver xs (kept (decodeState xs) (u .thresholder) (k .«run_length»)))
+          → left 0 zs ≡ horizonSetIn x xs
+      unfolding horizonSetIn setHorizon
+      horizon-set zs h q =
+          let done : setScoreDifferencing (decodeState xs .«basic_thresholder») x .answer ≡ Answers.Done = ap (λ (v : Thresholder.Updated). v .answer) set-is ∙ h in
+          ap (left 0) (over (λ (t : BasicThresholder). setScoreDifferencing t x .thresholder) (u .thresholder) zs (ap (λ (v : Thresholder.Updated). v .thresholder) d) q) ∙ rw (none, done)
+
+      pub horizon-refused : (why : Refusal) (n : ℕ) → u .answer ≡ Answers.Refused why → n ≡ number why → left n xs ≡ horizonSetIn x xs
+      unfolding horizonSetIn setHorizon
+      horizon-refused why n h p =
+          let not : setScoreDifferencing (decodeState xs .«basic_thresholder») x .answer ≡ Answers.Refused why = ap (λ (v : Thresholder.Updated). v .answer) set-is ∙ h in
+          ap (λ (m : ℕ). left m xs) p ∙ rw (none, not, refused-number why)
+
+  module _ (why : Refusal) (e : readCore xs ≡ Cores.Refused why) (n : ℕ) (p : n ≡ number why) where
+    kept-by : (n ≡ chainRefusal xs) × (eqb n 0 ≡ false)
+    unfolding chainRefusal readCore stateCodesOk
+    kept-by =
+        let r = refusal (eqb (length xs) stateLength) (leb (getD xs autoThresholdAt 0) 1 && leb (getD xs autoAdjustAt 0) 1) (coreOf (decodeState xs)) why e in
+        (p ∙ r .0, ap (λ (m : ℕ). eqb m 0) p ∙ r .1)
+
+    pub chain-kept : (f : PredictorCorrector → PredictorCorrector) → left n xs ≡ chainSet f xs
+    unfolding chainSet
+    chain-kept f = rw (← (kept-by .0), kept-by .1)
+
+    pub horizon-kept : (x : Float) → left n xs ≡ horizonSetIn x xs
     unfolding horizonSetIn
-    horizon-kept x = rw (← e, h)
+    horizon-kept x = rw (← (kept-by .0), kept-by .1)
 
 -- ---- a new state.
 module _ (made made′ : Updated) (adjust : ℕ) (out : List ℕ) (m : made ≡ made′) (why : ℕ) (e : why ≡ answered (made .answer)) where
@@ -127,17 +161,17 @@ module _ (made made′ : Updated) (adjust : ℕ) (out : List ℕ) (m : made ≡ 
     made-range h = rw (← number-is, z, h)
 
     module _ (h : leb adjust 1 ≡ true) where
-      pub made-length : eqb (length out) 1310 ≡ false → left 3 out ≡ chainMade made′ adjust out
+      pub made-length : eqb (length out) stateLength ≡ false → left 3 out ≡ chainMade made′ adjust out
       unfolding chainMade
       made-length l = rw (← number-is, z, h, l)
 
-      pub made-done : (zeros zs : List ℕ) → eqb (length out) 1310 ≡ true → zeros ≡ replicate (length out) 0
-          → zs ≡ writtenOf 1310 zeros (encodeStateOver zeros (made .state)) → left 0 zs ≡ chainMade made′ adjust out
+      pub made-done : (zeros zs : List ℕ) → eqb (length out) stateLength ≡ true → zeros ≡ replicate (length out) 0
+          → zs ≡ writtenOf stateLength zeros (encodeStateOver zeros (made .state)) → left 0 zs ≡ chainMade made′ adjust out
       unfolding chainMade writtenOf
       made-done zeros zs l c w =
           let same : length zeros ≡ length out = ap length c ∙ length-replicate {A = ℕ} (length out) 0 in
-          let long : eqb (length zeros) 1310 ≡ true = rw same l in
-          let full : writtenOf 1310 zeros (encodeStateOver zeros (made .state)) ≡ encodeStateOver zeros (made .state) = rw long in
+          let long : eqb (length zeros) stateLength ≡ true = rw same l in
+          let full : writtenOf stateLength zeros (encodeStateOver zeros (made .state)) ≡ encodeStateOver zeros (made .state) = rw long in
           let over : encodeStateOver zeros (made .state) ≡ encodeStateOver (replicate (length out) 0) (made′ .state) =
           ap₂ (λ (ys : List ℕ) (t : Updated). encodeStateOver ys (t .state)) c m in
           ap (left 0) (w ∙ full ∙ over) ∙ rw (← number-is, z, h, l)

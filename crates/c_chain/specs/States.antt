@@ -1,4 +1,4 @@
--- Construction and setters of the chain's state over C: 1310 bytes, those at 124 and 149 yes/no. Of several refusals the smallest is answered; nothing inside a slice
+-- Construction and setters of the chain's stored state over C. Of several refusals the smallest is answered; nothing inside a slice
 -- of another length is looked at.
 use Prim.Native.Nat.{ℕ}
 use mathlib.Core.Bool.{cond, _&&_}
@@ -11,13 +11,14 @@ use Rattle.types.specs.declared.Refusal.the-variants.{Range, Length}
 use Rattle.predictorcorrector.specs.declared.PredictorCorrector.{PredictorCorrector}
 use Rattle.predictorcorrector.specs.declared.Updated.{Updated}
 use Rattle.predictorcorrector.specs.State.{setHorizon}
+use Rattle.layout.specs.Places.{stateLength, autoThresholdAt, autoAdjustAt}
 use Rattle.layout.specs.Chain.{decodeState, encodeStateOver}
 use Rattle.layout.specs.Left.{Left, left}
 
 -- 3 for a slice of another length, otherwise 2 for a yes/no byte above 1, otherwise 0.
 unfoldable pub chainRefusal : List ℕ → ℕ
 chainRefusal xs =
-    cond (eqb (length xs) 1310) (cond (leb (getD xs 124 0) 1 && leb (getD xs 149 0) 1) 0 (number Range)) (number Length)
+    cond (eqb (length xs) stateLength) (cond (leb (getD xs autoThresholdAt 0) 1 && leb (getD xs autoAdjustAt 0) 1) 0 (number Range)) (number Length)
 
 -- Set in place by f. The bytes of entries that do not exist stay.
 unfoldable pub chainSet : (PredictorCorrector → PredictorCorrector) → List ℕ → Left
@@ -36,6 +37,6 @@ unfoldable pub chainMade : Updated → ℕ → List ℕ → Left
 chainMade made adjust out =
     cond (eqb (answered (made .answer)) 0)
     (cond (leb adjust 1)
-    (cond (eqb (length out) 1310) (left 0 (encodeStateOver (replicate (length out) 0) (made .state))) (left (number Length) out))
+    (cond (eqb (length out) stateLength) (left 0 (encodeStateOver (replicate (length out) 0) (made .state))) (left (number Length) out))
     (left (number Range) out))
     (left (answered (made .answer)) out)

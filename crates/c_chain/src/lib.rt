@@ -1,15 +1,17 @@
-// The chain for a host that calls over C: attribution vectors, the chain's state and its setters, and judging. Numbers, and slices of bytes or floats (a pointer, then
-// a length). A state is its 1310 bytes, as the crate layout has them. A call answers document 01's number, 0 where it is done; a refused one has written nothing.
+// The chain for a host that calls over C: attribution vectors, the chain's state and its setters. Numbers, and slices of bytes or floats (a pointer, then a
+// length). A state is its bytes, as the crate layout has them. A call answers document 01's number, 0 where it is done; a refused one has written nothing.
 use divector::Block;
 use divector::Number;
+use layout::CoreRead;
 use predictorcorrector::PredictorCorrector;
+use types::Answer;
 ghost use mathlib.Core.Path.{_≡_};
 ghost use lib.Dec.{eqb};
 ghost use Rattle.divector.specs.DiVector as DiVector;
 ghost use Rattle.layout.specs.Left.{left, putInto};
 ghost use Rattle.layout.specs.Numbers.{f64Bytes, bytes8};
 ghost use Rattle.predictorcorrector.specs.State as State;
-ghost use Rattle.c_chain.specs.States.{chainRefusal, chainSet, horizonSetIn, chainMade};
+ghost use Rattle.c_chain.specs.States.{chainSet, horizonSetIn, chainMade};
 ghost use Rattle.c_chain.specs.Vectors.{pair, numbered, numberInto, blockInto};
 
 // Document 01's refusals of a yes/no byte, a code or a size, and of a length.
@@ -155,23 +157,7 @@ pub extern "C" fn krcf_max_contribution(
     put_block(out, divector::max_contribution(high, low, base))
 }
 
-// 3 for a slice of another length, 2 for a yes/no byte above 1.
-fn chain_refusal(state: &[u8]) -> u8
-    ensures { λ r. ⌜ r ≡ chainRefusal (now (state .entry)) ⌝ }
-{
-    if state.len() == 1310 {
-        if state[124] <= 1 {
-            if state[149] <= 1 {
-                return 0;
-            }
-            return RANGE;
-        }
-        return RANGE;
-    }
-    LENGTH
-}
-
-// All 1310 bytes are written: those of entries that do not exist are zero.
+// All bytes are written: those of entries that do not exist are zero.
 #[no_mangle]
 pub extern "C" fn krcf_new(
     discount: f64,
@@ -186,7 +172,7 @@ pub extern "C" fn krcf_new(
     let why = answer.number();
     if why == 0 {
         if auto_adjust <= 1 {
-            if out.len() == 1310 {
+            if out.len() == layout::STATE_LENGTH {
                 let s = made.state;
                 layout::clear(out);
                 layout::write_state(out, s);
@@ -199,43 +185,48 @@ pub extern "C" fn krcf_new(
     why
 }
 
+// Each setter changes the thresholder of a stored state: 3 for a slice of another length, 2 for a yes/no byte above 1. The chain's lower threshold is the
+// thresholder's absolute threshold.
 #[no_mangle]
 pub extern "C" fn krcf_chain_set_z_factor(state: &mut [u8], factor: f32) -> u8
     ensures { λ r. ⌜ left r (now (state .exit)) ≡ chainSet (λ s. State.zFactorSet s factor) (now (state .entry)) ⌝ }
 {
-    let why = chain_refusal(state);
-    if why == 0 {
-        let s = layout::read_state(state);
-        layout::write_state(state, s.with_z_factor(factor));
-        return 0;
+    match layout::read_core(state) {
+        CoreRead::Read(core) => {
+            let t = core.basic_thresholder;
+            layout::write_kept(state, t.set_z_factor(factor), core.run_length);
+            0
+        }
+        CoreRead::Refused(why) => why.number(),
     }
-    why
 }
 
 #[no_mangle]
 pub extern "C" fn krcf_chain_set_lower_threshold(state: &mut [u8], lower: f32) -> u8
     ensures { λ r. ⌜ left r (now (state .exit)) ≡ chainSet (λ s. State.lowerThresholdSet s lower) (now (state .entry)) ⌝ }
 {
-    let why = chain_refusal(state);
-    if why == 0 {
-        let s = layout::read_state(state);
-        layout::write_state(state, s.with_lower_threshold(lower));
-        return 0;
+    match layout::read_core(state) {
+        CoreRead::Read(core) => {
+            let t = core.basic_thresholder;
+            layout::write_kept(state, t.set_absolute_threshold(lower), core.run_length);
+            0
+        }
+        CoreRead::Refused(why) => why.number(),
     }
-    why
 }
 
 #[no_mangle]
 pub extern "C" fn krcf_chain_set_initial_threshold(state: &mut [u8], initial: f32) -> u8
     ensures { λ r. ⌜ left r (now (state .exit)) ≡ chainSet (λ s. State.initialThresholdSet s initial) (now (state .entry)) ⌝ }
 {
-    let why = chain_refusal(state);
-    if why == 0 {
-        let s = layout::read_state(state);
-        layout::write_state(state, s.with_initial_threshold(initial));
-        return 0;
+    match layout::read_core(state) {
+        CoreRead::Read(core) => {
+            let t = core.basic_thresholder;
+            layout::write_kept(state, t.set_initial_threshold(initial), core.run_length);
+            0
+        }
+        CoreRead::Refused(why) => why.number(),
     }
-    why
 }
 
 // A horizon is refused after the state.
@@ -243,17 +234,20 @@ pub extern "C" fn krcf_chain_set_initial_threshold(state: &mut [u8], initial: f3
 pub extern "C" fn krcf_chain_set_horizon(state: &mut [u8], horizon: f32) -> u8
     ensures { λ r. ⌜ left r (now (state .exit)) ≡ horizonSetIn horizon (now (state .entry)) ⌝ }
 {
-    let why = chain_refusal(state);
-    if why == 0 {
-        let s = layout::read_state(state);
-        let changed = s.with_horizon(horizon);
-        let answer = changed.answer;
-        let number = answer.number();
-        if number == 0 {
-            layout::write_state(state, changed.state);
-            return 0;
+    match layout::read_core(state) {
+        CoreRead::Read(core) => {
+            let t = core.basic_thresholder;
+            let set = t.set_score_differencing(horizon);
+            let answer = set.answer;
+            let after = set.thresholder;
+            match answer {
+                Answer::Done => {
+                    layout::write_kept(state, after, core.run_length);
+                    0
+                }
+                Answer::Refused(why) => why.number(),
+            }
         }
-        return number;
+        CoreRead::Refused(why) => why.number(),
     }
-    why
 }

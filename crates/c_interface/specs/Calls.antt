@@ -3,11 +3,11 @@
 use Prim.Native.Nat.{ℕ}
 use mathlib.Core.Bool.{cond}
 use mathlib.Core.List.{List}
-use lib.Dec.{eqb, leb}
-use lib.ListN.{length, getD}
-use Rattle.types.specs.Refusals.{number, answered}
-use Rattle.types.specs.declared.Refusal.the-variants.{Range, Length}
-use Rattle.types.specs.declared.Answer.the-variants.{Done}
+use lib.Dec.{leb}
+use Rattle.types.specs.Refusals.{number}
+use Rattle.types.specs.declared.Refusal.the-variants.{Range}
+use Rattle.types.specs.declared.Answer.{Answer}
+use Rattle.types.specs.declared.Answer.the-variants as Answers
 use Rattle.types.specs.declared.TransformMethod.{TransformMethod}
 use Rattle.types.specs.declared.MethodCode.{MethodCode}
 use Rattle.types.specs.declared.MethodCode.the-variants as Code
@@ -20,58 +20,67 @@ use Rattle.basicthresholder.specs.declared.Graded.{Graded}
 use Rattle.basicthresholder.specs.declared.Updated.{Updated}
 use Rattle.basicthresholder.specs.declared.Made.{Made}
 use Rattle.basicthresholder.specs.declared.Made.the-variants.{Ready, Refused}
-use Rattle.layout.specs.States.{decodeDeviation, encodeDeviation, decodeThresholder, encodeThresholder, encodeGraded}
+use Rattle.layout.specs.Places.{deviationLength, thresholderLength}
+use Rattle.layout.specs.States.{encodeDeviation, encodeThresholder, encodeGraded}
+use Rattle.layout.specs.declared.DeviationRead.{DeviationRead}
+use Rattle.layout.specs.declared.DeviationRead.the-variants as Stored
+use Rattle.layout.specs.declared.ThresholderRead.{ThresholderRead}
+use Rattle.layout.specs.declared.ThresholderRead.the-variants as Held
 use Rattle.layout.specs.Left.{Left, left, putInto}
 
--- ---- a stored statistic: 36 bytes.
+-- What a change leaves of the slice xs of n bytes that was read: ys, unless the change is refused.
+unfoldable pub stored : Answer → ℕ → List ℕ → List ℕ → Left
+stored Answers.Done n xs ys = putInto n xs ys
+stored (Answers.Refused why) n xs ys = left (number why) xs
+
+-- ---- a stored statistic.
 
 -- A new one.
 unfoldable pub deviationMade : MadeStatistic.Made → List ℕ → Left
-deviationMade (Statistics.Ready d) out = putInto 36 out (encodeDeviation d)
+deviationMade (Statistics.Ready d) out = putInto deviationLength out (encodeDeviation d)
 deviationMade (Statistics.Refused why) out = left (number why) out
 
--- What a change hands back is written unless it is refused.
-unfoldable pub deviationStored : Statistic.Updated → List ℕ → Left
-deviationStored u xs = cond (eqb (answered (u .answer)) 0) (left 0 (encodeDeviation (u .deviation))) (left (answered (u .answer)) xs)
+-- Changed in place by f.
+abbrev pub deviationStored : Statistic.Updated → List ℕ → Left
+deviationStored u xs = stored (u .answer) deviationLength xs (encodeDeviation (u .deviation))
 
--- Changed in place by f; 3 for a slice of another length.
-unfoldable pub deviationChanged : (Deviation → Statistic.Updated) → List ℕ → Left
-deviationChanged f xs = cond (eqb (length xs) 36) (deviationStored (f (decodeDeviation xs)) xs) (left (number Length) xs)
+unfoldable pub deviationChanged : (Deviation → Statistic.Updated) → DeviationRead → List ℕ → Left
+deviationChanged f (Stored.Read d) xs = deviationStored (f d) xs
+deviationChanged f (Stored.Refused why) xs = left (number why) xs
 
 -- A change that is never refused.
 abbrev pub deviationDone : Deviation → Statistic.Updated
-deviationDone d = record { answer = Done; deviation = d }
+deviationDone d = record { answer = Answers.Done; deviation = d }
 
--- Read by f into a slice of n bytes; 3 where either slice is of another length.
-unfoldable pub deviationRead : (Deviation → List ℕ) → ℕ → List ℕ → List ℕ → Left
-deviationRead f n xs out = cond (eqb (length xs) 36) (putInto n out (f (decodeDeviation xs))) (left (number Length) out)
+-- Read by f into a slice of n bytes.
+unfoldable pub deviationRead : (Deviation → List ℕ) → ℕ → DeviationRead → List ℕ → Left
+deviationRead f n (Stored.Read d) out = putInto n out (f d)
+deviationRead f n (Stored.Refused why) out = left (number why) out
 
--- ---- a stored thresholder: 149 bytes, the one at 124 a yes/no.
-
--- 3 for a slice of another length, otherwise 2 for a yes/no byte above 1, otherwise 0.
-unfoldable pub stateRefusal : List ℕ → ℕ
-stateRefusal xs = cond (eqb (length xs) 149) (cond (leb (getD xs 124 0) 1) 0 (number Range)) (number Length)
+-- ---- a stored thresholder.
 
 -- A new one: 1 for its discount, then 2 for the yes/no byte `adjust`, then 3.
 unfoldable pub thresholderMade : Made → ℕ → List ℕ → Left
-thresholderMade (Ready s) adjust out = cond (leb adjust 1) (putInto 149 out (encodeThresholder s)) (left (number Range) out)
+thresholderMade (Ready s) adjust out = cond (leb adjust 1) (putInto thresholderLength out (encodeThresholder s)) (left (number Range) out)
 thresholderMade (Refused why) adjust out = left (number why) out
 
-unfoldable pub thresholderStored : Updated → List ℕ → Left
-thresholderStored u xs = cond (eqb (answered (u .answer)) 0) (left 0 (encodeThresholder (u .thresholder))) (left (answered (u .answer)) xs)
-
 -- Changed in place by f.
-unfoldable pub thresholderChanged : (BasicThresholder → Updated) → List ℕ → Left
-thresholderChanged f xs = cond (eqb (stateRefusal xs) 0) (thresholderStored (f (decodeThresholder xs)) xs) (left (stateRefusal xs) xs)
+abbrev pub thresholderStored : Updated → List ℕ → Left
+thresholderStored u xs = stored (u .answer) thresholderLength xs (encodeThresholder (u .thresholder))
+
+unfoldable pub thresholderChanged : (BasicThresholder → Updated) → ThresholderRead → List ℕ → Left
+thresholderChanged f (Held.Read s) xs = thresholderStored (f s) xs
+thresholderChanged f (Held.Refused why) xs = left (number why) xs
 
 abbrev pub thresholderDone : BasicThresholder → Updated
-thresholderDone s = record { answer = Done; thresholder = s }
+thresholderDone s = record { answer = Answers.Done; thresholder = s }
 
 -- Read by f into a slice of n bytes.
-unfoldable pub thresholderRead : (BasicThresholder → List ℕ) → ℕ → List ℕ → List ℕ → Left
-thresholderRead f n xs out = cond (eqb (stateRefusal xs) 0) (putInto n out (f (decodeThresholder xs))) (left (stateRefusal xs) out)
+unfoldable pub thresholderRead : (BasicThresholder → List ℕ) → ℕ → ThresholderRead → List ℕ → Left
+thresholderRead f n (Held.Read s) out = putInto n out (f s)
+thresholderRead f n (Held.Refused why) out = left (number why) out
 
 -- Graded by f with the method of a code; 2 for a code outside its list.
-unfoldable pub gradedBy : (BasicThresholder → TransformMethod → Graded) → MethodCode → List ℕ → List ℕ → Left
-gradedBy f (Code.Known m) xs out = thresholderRead (λ s. encodeGraded (f s m)) 8 xs out
-gradedBy f (Code.Refused why) xs out = left (number why) out
+unfoldable pub gradedBy : (BasicThresholder → TransformMethod → Graded) → MethodCode → ThresholderRead → List ℕ → Left
+gradedBy f (Code.Known m) t out = thresholderRead (λ s. encodeGraded (f s m)) 8 t out
+gradedBy f (Code.Refused why) t out = left (number why) out

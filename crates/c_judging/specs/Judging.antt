@@ -2,11 +2,11 @@
 -- a slice of another length is looked at.
 use Prim.Native.Nat.{ℕ, _-_}
 use mathlib.Core.Path.{_≡_}
-use mathlib.Core.Bool.{Bool, true, false, cond, _&&_, _||_}
+use mathlib.Core.Bool.{Bool, true, cond, _&&_}
 use mathlib.Core.List.{List}
-use lib.Dec.{eqb, leb}
+use lib.Dec.{eqb}
 use lib.IntN.{ℤ}
-use lib.ListN.{length, getD}
+use lib.ListN.{length}
 use lib.Ieee.{Float}
 use Rattle.types.specs.Refusals.{number, answered}
 use Rattle.types.specs.declared.Refusal.the-variants.{Range, Length}
@@ -19,34 +19,27 @@ use Rattle.detection.specs.Judged.{outcome, outcomeNumber, stateAfter, indexAft
 use Rattle.detection.specs.declared.Outcome.{Outcome}
 use Rattle.detection.specs.declared.Outcome.the-variants.{Refused}
 use Rattle.corrector.specs.Corrector.{newestRowAnswer}
-use Rattle.layout.specs.Numbers.{le4, bytes8}
-use Rattle.layout.specs.Chain.{readState}
-use Rattle.layout.specs.Readings.{readReading, readLast}
+use Rattle.layout.specs.Places.{stateLength, readingLength, lastLength, verdictLength}
+use Rattle.layout.specs.Numbers.{bytes8}
+use Rattle.layout.specs.Chain.{decodeState, stateCodesOk}
+use Rattle.layout.specs.Readings.{decodeReading, decodeLast, readingCodesOk, lastCodesOk}
 unfoldable pub use Rattle.verdict_bytes.specs.Bytes.{told, changesState, stored, stateLeft, verdictLeft}
 
--- The state's two yes/no bytes.
-unfoldable pub stateCodesOk : List ℕ → Bool
-stateCodesOk xs = cond (eqb (length xs) 1310) (leb (getD xs 124 0) 1 && leb (getD xs 149 0) 1) true
-
--- Strategy, method and the yes/no of time augmentation.
-unfoldable pub readingCodesOk : List ℕ → Bool
-readingCodesOk xs = cond (eqb (length xs) 23) (leb (getD xs 8 0) 1 && (leb (getD xs 9 0) 5 && leb (getD xs 10 0) 1)) true
-
--- Strategy and the yes/no of an anomaly; that of its attribution behind a yes.
-unfoldable pub lastCodesOk : List ℕ → Bool
-lastCodesOk xs = cond (eqb (length xs) 23) (leb (getD xs 0 0) 1 && (leb (getD xs 9 0) 1 && (eqb (getD xs 9 0) 0 || leb (getD xs 18 0) 1))) true
-
+-- The codes and yes/no bytes of all three.
 unfoldable pub codesOk : (state reading last : List ℕ) → Bool
 codesOk state reading last = stateCodesOk state && (readingCodesOk reading && lastCodesOk last)
 
 unfoldable pub slicesOk : (state reading last verdict : ℕ) → Bool
-slicesOk state reading last verdict = eqb state 1310 && (eqb reading 23 && (eqb last 23 && eqb verdict 14))
+slicesOk state reading last verdict = eqb state stateLength && (eqb reading readingLength && (eqb last lastLength && eqb verdict verdictLength))
 
 -- The reading's sizes, as far as the slices can be read.
 unfoldable pub sizesFit : (state reading : List ℕ) → Bool
 sizesFit state reading =
-    cond (eqb (length reading) 23)
-    (cond (eqb (length state) 1310) (rangeOk (le4 reading 0) (le4 reading 4) (le4 state 154)) (sizesOk (le4 reading 0) (le4 reading 4)))
+    let r = decodeReading reading in
+    cond (eqb (length reading) readingLength)
+    (cond (eqb (length state) stateLength)
+    (rangeOk (r .«shingle_size») (r .«base_dimension») (decodeState state .«base_dimension»))
+    (sizesOk (r .«shingle_size») (r .«base_dimension»)))
     true
 
 module _ (state reading last : List ℕ) (b : Lent) where
@@ -55,24 +48,24 @@ module _ (state reading last : List ℕ) (b : Lent) where
   outcomeOver e h w v =
       cond (codesOk state reading last)
       (cond (slicesOk (length state) (length reading) (length last) v)
-      (outcome (readState state) (readReading reading) (readLast last) b e h w)
+      (outcome (decodeState state) (decodeReading reading) (decodeLast last) b e h w)
       (cond (sizesFit state reading) (Refused Length) (Refused Range)))
       (Refused Range)
 
   -- The state after an outcome, and the relative index.
   unfoldable pub stateOver : Outcome → PredictorCorrector
-  stateOver o = stateAfter (readState state) (readReading reading) (readLast last) b o
+  stateOver o = stateAfter (decodeState state) (decodeReading reading) (decodeLast last) b o
 
   unfoldable pub indexOver : Outcome → ℤ
-  indexOver o = indexAfter (readReading reading) (readLast last) b o
+  indexOver o = indexAfter (decodeReading reading) (decodeLast last) b o
 
   -- The contract: the answer n, and what stands in the slices afterwards.
   pub record Answered (n : ℕ) (e h w : List Float) (v state′ : List ℕ) (e′ h′ w′ : List Float) (v′ : List ℕ) : Type 0 where
     pub answer : n ≡ outcomeNumber (outcomeOver (length e) (length h) (length w) (length v))
     pub bytes : state′ ≡ stateLeft (outcomeOver (length e) (length h) (length w) (length v)) state (stateOver (outcomeOver (length e) (length h) (length w) (length v)))
-    pub point : e′ ≡ written (outcomeOver (length e) (length h) (length w) (length v)) e (expected (readReading reading) (readLast last) b)
-    pub highs : h′ ≡ written (outcomeOver (length e) (length h) (length w) (length v)) h (normalized (readReading reading .score) (b .high) (b .low) (b .high))
-    pub lows : w′ ≡ written (outcomeOver (length e) (length h) (length w) (length v)) w (normalized (readReading reading .score) (b .high) (b .low) (b .low))
+    pub point : e′ ≡ written (outcomeOver (length e) (length h) (length w) (length v)) e (expected (decodeReading reading) (decodeLast last) b)
+    pub highs : h′ ≡ written (outcomeOver (length e) (length h) (length w) (length v)) h (normalized (decodeReading reading .score) (b .high) (b .low) (b .high))
+    pub lows : w′ ≡ written (outcomeOver (length e) (length h) (length w) (length v)) w (normalized (decodeReading reading .score) (b .high) (b .low) (b .low))
     pub verdict : v′ ≡ verdictLeft (outcomeOver (length e) (length h) (length w) (length v)) v (indexOver (outcomeOver (length e) (length h) (length w) (length v)))
 
 -- The newest row's place in the caller's own point: the sizes and the point's length are refused before the slice that takes the place.

@@ -1,75 +1,76 @@
-// Judging for a host that calls over C. Numbers, and slices of bytes or floats (a pointer, then a length): the state in its 1310 bytes, a reading and the
-// last descriptor in 23 each, a verdict in 14, as the crate layout has them. The answer is document 01's number, 0 for an accepted reading; a refused call
+// Judging for a host that calls over C. Numbers, and slices of bytes or floats (a pointer, then a length): the state, a reading, the last descriptor and a
+// verdict in their bytes, as the crate layout has them. The answer is document 01's number, 0 for an accepted reading; a refused call
 // has written nothing.
+use detection::Outcome;
+use detection::Standing;
+use layout::Core;
+use layout::CoreRead;
+use layout::LastRead;
+use layout::ReadingRead;
 ghost use mathlib.Core.Path.{_≡_};
+ghost use mathlib.Core.Bool.{true};
 ghost use Prim.Native.Nat.{_-_};
 ghost use lib.ListN.{length};
 ghost use Rattle.descriptor.specs.Lent.{lent};
+ghost use Rattle.layout.specs.Chain.{stateCodesOk};
+ghost use Rattle.layout.specs.Readings.{readingCodesOk};
 ghost use Rattle.c_judging.specs.Judging as Judging;
+ghost use Rattle.c_judging.specs.Steps as Steps;
 
 // Document 01's refusals of a yes/no byte, a code or a size, and of a length.
 const RANGE: u8 = 2;
 
 const LENGTH: u8 = 3;
 
-// The state's two yes/no bytes. Nothing inside a slice of another length is looked at.
-fn state_codes_ok(state: &[u8]) -> bool
-    ensures { λ r. ⌜ r ≡ Judging.stateCodesOk (now (state .entry)) ⌝ }
-{
-    if state.len() == 1310 {
-        return (state[124] <= 1) & (state[149] <= 1);
-    }
-    true
-}
-
-fn reading_codes_ok(reading: &[u8]) -> bool
-    ensures { λ r. ⌜ r ≡ Judging.readingCodesOk (now (reading .entry)) ⌝ }
-{
-    if reading.len() == 23 {
-        return (reading[8] <= 1) & ((reading[9] <= 5) & (reading[10] <= 1));
-    }
-    true
-}
-
-// Behind a no the anomaly's yes/no is not looked at.
-fn last_codes_ok(last: &[u8]) -> bool
-    ensures { λ r. ⌜ r ≡ Judging.lastCodesOk (now (last .entry)) ⌝ }
-{
-    if last.len() == 23 {
-        return (last[0] <= 1) & ((last[9] <= 1) & ((last[9] == 0) | (last[18] <= 1)));
-    }
-    true
-}
-
-// The sizes, as far as the two slices can be read.
-fn sizes_fit(state: &[u8], reading: &[u8]) -> bool
-    ensures { λ r. ⌜ r ≡ Judging.sizesFit (now (state .entry)) (now (reading .entry)) ⌝ }
-{
-    if reading.len() == 23 {
-        let r = layout::read_reading(reading);
-        if state.len() == 1310 {
-            let s = layout::read_state(state);
-            return descriptor::range_ok(
-                r.shingle_size,
-                r.base_dimension,
-                s.base_dimension as usize,
-            );
-        }
-        return descriptor::sizes_ok(r.shingle_size, r.base_dimension);
-    }
-    true
-}
-
+// The codes and yes/no bytes of all three. Nothing inside a slice of another length is looked at.
 fn codes_ok(state: &[u8], reading: &[u8], last: &[u8]) -> bool
     ensures { λ r. ⌜ r ≡ Judging.codesOk (now (state .entry)) (now (reading .entry)) (now (last .entry)) ⌝ }
 {
-    state_codes_ok(state) & (reading_codes_ok(reading) & last_codes_ok(last))
+    layout::state_codes_ok(state)
+        & (layout::reading_codes_ok(reading) & layout::last_codes_ok(last))
 }
 
 fn slices_ok(state: usize, reading: usize, last: usize, verdict: usize) -> bool
     ensures { λ r. ⌜ r ≡ Judging.slicesOk state reading last verdict ⌝ }
 {
-    (state == 1310) & ((reading == 23) & ((last == 23) & (verdict == 14)))
+    (state == layout::STATE_LENGTH)
+        & ((reading == layout::READING_LENGTH)
+            & ((last == layout::LAST_LENGTH) & (verdict == layout::VERDICT_LENGTH)))
+}
+
+// The sizes, as far as the two slices can be read.
+fn sizes_fit(state: &[u8], reading: &[u8]) -> bool
+    requires { ⌜ stateCodesOk (now state) ≡ true ⌝ ∗ ⌜ readingCodesOk (now reading) ≡ true ⌝ }
+    ensures { λ r. ⌜ r ≡ Judging.sizesFit (now (state .entry)) (now (reading .entry)) ⌝ }
+{
+    match layout::read_reading(reading) {
+        ReadingRead::Read(r) => match layout::read_core(state) {
+            CoreRead::Read(core) => descriptor::range_ok(
+                r.shingle_size,
+                r.base_dimension,
+                core.base_dimension as usize,
+            ),
+            CoreRead::Refused(_) => descriptor::sizes_ok(r.shingle_size, r.base_dimension),
+        },
+        ReadingRead::Refused(_) => true,
+    }
+}
+
+fn standing_of(core: Core) -> Standing
+    ensures { λ k. ⌜ k ≡ Steps.standingOf core ⌝ }
+{
+    let basic_thresholder = core.basic_thresholder;
+    let last_actual = core.last_actual;
+    let last_expected = core.last_expected;
+    Standing {
+        basic_thresholder,
+        auto_adjust: core.auto_adjust,
+        run_length: core.run_length,
+        base_dimension: core.base_dimension as usize,
+        counts_ok: core.counts_ok,
+        last_actual,
+        last_expected,
+    }
 }
 
 #[no_mangle]
@@ -98,10 +99,19 @@ pub extern "C" fn krcf_detect_and_modify(
 {
     if codes_ok(state, reading, last) {
         if slices_ok(state.len(), reading.len(), last.len(), verdict.len()) {
-            let j = detection::detect_and_modify(
-                layout::read_state(state),
-                layout::read_reading(reading),
-                layout::read_last(last),
+            let CoreRead::Read(core) = layout::read_core(state) else {
+                return LENGTH;
+            };
+            let ReadingRead::Read(r) = layout::read_reading(reading) else {
+                return LENGTH;
+            };
+            let LastRead::Read(l) = layout::read_last(last) else {
+                return LENGTH;
+            };
+            let decision = detection::judge(
+                standing_of(core),
+                r,
+                l,
                 point,
                 scale,
                 shift,
@@ -118,7 +128,24 @@ pub extern "C" fn krcf_detect_and_modify(
                 out_high,
                 out_low,
             );
-            return verdict_bytes::put_judgment(state, verdict, j);
+            let outcome = decision.outcome;
+            let t = core.basic_thresholder;
+            let newest_expected = decision.newest_expected;
+            return match outcome {
+                Outcome::Accepted(said) => verdict_bytes::put_verdict(
+                    state,
+                    verdict,
+                    t,
+                    core.run_length,
+                    r,
+                    l,
+                    said,
+                    decision.relative_index,
+                    point,
+                    newest_expected,
+                ),
+                Outcome::Refused(why) => why.number(),
+            };
         }
         if sizes_fit(state, reading) {
             return LENGTH;

@@ -37,7 +37,7 @@ use Rattle.detection.specs.Judged.{stateAfter, indexAfter, written}
 use Rattle.detection.specs.declared.Outcome.{Outcome}
 use Rattle.detection.specs.declared.Outcome.the-variants.{Accepted}
 use Rattle.detection.specs.declared.Judgment.{Judgment}
-use Rattle.layout.specs.Chain.{readState}
+use Rattle.layout.specs.Chain.{decodeState}
 use Rattle.layout.specs.Left.{left}
 use Rattle.layout.specs.Readings.{decodeReading, strategyFrom}
 use Rattle.c_chain.specs.States.{chainMade}
@@ -46,7 +46,7 @@ use Rattle.demand3.specs.Calls as ByValue
 use Rattle.demand3.proofs.Demand3.{judged-in-turn, fresh}
 use Rattle.demand3_over_c.specs.Calls.{Judging, Call, krcf-new, krcf-chain-set-z-factor, krcf-chain-set-horizon, krcf-detect-and-modify, Kept, JudgedInTurn, SetInTurn, InTurn, zAfter, zOf, isRefused, scoreOf, kindIn, thresholdIn, gradeIn, openingIn, toldOf, shownOf}
 use Rattle.demand3_over_c.specs.Statement.{Opens, Demand3OverC}
-use Rattle.demand3_over_c.proofs.Simulation.{stateOf, readingOf, lastOf, over, byValue, Taken, taken, said, through, reading-is, score-is, state-is, refused-keeps, accepted-reads, accepted-left, simulated, opens-over-c}
+use Rattle.demand3_over_c.proofs.Simulation.{stateOf, readingOf, lastOf, over, byValue, Taken, taken, said, through, score-is, refused-keeps, accepted-reads, accepted-left, simulated, opens-over-c}
 use Rattle.demand3_over_c.proofs.Start.{Holds, new-holds, z-holds, horizon-holds}
 use Rattle.demand3_over_c.proofs.Witness.{calm-met}
 
@@ -109,8 +109,7 @@ module _ (xs : List ℕ) (c : Judging) (q : Kept xs c) (k : Taken xs c) where
   by-distance : readingOf xs c .«scoring_strategy» ≡ DISTANCE
   unfolding decodeReading strategyFrom
   by-distance =
-      ap (λ (r : Reading). r .«scoring_strategy») (reading-is (c .reading) (k .reading-size))
-      ∙ ap (λ (b : Bool). cond b «EXPECTED_INVERSE_HEIGHT» DISTANCE) (is-false (eqb (getD (c .reading) 8 0) 0) (q .distance (k .reading-size)))
+      ap (λ (b : Bool). cond b «EXPECTED_INVERSE_HEIGHT» DISTANCE) (is-false (eqb (getD (c .reading) 8 0) 0) (q .distance (k .reading-size)))
 
   abbrev judgment : Judgment
   judgment = record {
@@ -133,7 +132,7 @@ module _ (xs : List ℕ) (c : Judging) (q : Kept xs c) (k : Taken xs c) where
     low′ = c .low′;
   }
 
-  kept-by : ByValue.Kept (readState xs) callOf
+  kept-by : ByValue.Kept (decodeState xs) callOf
   kept-by =
       let same = through xs c (k .codes-ok) (k .slices-ok) in
       record {
@@ -148,31 +147,31 @@ module _ (xs : List ℕ) (c : Judging) (q : Kept xs c) (k : Taken xs c) where
         distance = by-distance;
       }
 
-  told-same : c .answer ≡ 0 → _≡_ {A = Told} (record { refused = isRefusal (answerAt (readState xs) callOf); score = readingOf xs c .score }) (record { refused = isRefused c; score = scoreOf c })
+  told-same : c .answer ≡ 0 → _≡_ {A = Told} (record { refused = isRefusal (answerAt (decodeState xs) callOf); score = readingOf xs c .score }) (record { refused = isRefused c; score = scoreOf c })
   told-same e =
-      let a : isRefusal (answerAt (readState xs) callOf) ≡ isRefused c = ap isRefusal (k .done) ∙ sym (ap not (eq-eqb (c .answer) 0 e)) in
-      let b : readingOf xs c .score ≡ scoreOf c = score-is (c .reading) (k .reading-size) in
+      let a : isRefusal (answerAt (decodeState xs) callOf) ≡ isRefused c = ap isRefusal (k .done) ∙ sym (ap not (eq-eqb (c .answer) 0 e)) in
+      let b : readingOf xs c .score ≡ scoreOf c = score-is (c .reading) in
       λ i. record { refused = a i; score = b i }
 
   abbrev shownBy-value : Shown
-  shownBy-value = shownBy (readState xs) (readingOf xs c) (byValue xs c)
+  shownBy-value = shownBy (decodeState xs) (readingOf xs c) (byValue xs c)
 
   abbrev shownBy-bytes : Shown
   shownBy-bytes = record { threshold = thresholdIn (c .verdict′); opening = openingIn (c .verdict′); ends = gradeIn (c .verdict′) }
 
-  shown-is : shownBy-value ≡ shownBy (readState xs) (readingOf xs c) (Accepted (said xs c k))
-  shown-is = ap (shownBy (readState xs) (readingOf xs c)) (k .says-by)
+  shown-is : shownBy-value ≡ shownBy (decodeState xs) (readingOf xs c) (Accepted (said xs c k))
+  shown-is = ap (shownBy (decodeState xs) (readingOf xs c)) (k .says-by)
 
-  opens-above : Opens (opened (readState xs) (readingOf xs c)) (c .verdict′) → T (lt plusZero (opened (readState xs) (readingOf xs c) .grade)) → T (lt plusZero (openingIn (c .verdict′)))
+  opens-above : Opens (opened (decodeState xs) (readingOf xs c)) (c .verdict′) → T (lt plusZero (opened (decodeState xs) (readingOf xs c) .grade)) → T (lt plusZero (openingIn (c .verdict′)))
   opens-above o h =
-      let g = opened (readState xs) (readingOf xs c) .grade in
+      let g = opened (decodeState xs) (readingOf xs c) .grade in
       let z : eqb (kindIn (c .verdict′)) 0 ≡ false = o .quiet ∙ ap (eq g) zero-is ∙ above-not-zero g h in
       subst (λ (b : Bool). T (lt plusZero (cond b zero32 one32))) (sym z) one-above
 
   judged-same : (z M : Fraction) (b : Ledger) → c .answer ≡ 0 → T (not (eq (scoreOf c) zero32)) → Judged z M b (scoreOf c) shownBy-value → Judged z M b (scoreOf c) shownBy-bytes
   judged-same z M b e n j =
       let reads = accepted-reads xs c (q .contract) k in
-      judged-by z M b (scoreOf c) (shownBy (readState xs) (readingOf xs c) (Accepted (said xs c k))) shownBy-bytes (reads .threshold) (reads .grade)
+      judged-by z M b (scoreOf c) (shownBy (decodeState xs) (readingOf xs c) (Accepted (said xs c k))) shownBy-bytes (reads .threshold) (reads .grade)
       (opens-above (opens-over-c xs c (q .contract) e n)) (subst (Judged z M b (scoreOf c)) shown-is j)
 
 -- ---- a list of calls over C, and the calls by value of its accepted ones: in turn, each with the state that the one before it returned
@@ -196,7 +195,7 @@ step-refused s c cs e m = record {
     skip : (d z : Fraction) (b : Ledger) (M : Fraction) → Agree d z b M (toldOf cs) (shownOf cs) → Agree d z b M (toldOf (krcf-detect-and-modify c ∷ cs)) (shownOf (krcf-detect-and-modify c ∷ cs))
     skip d z b M a = rw e a
 
-module _ (xs : List ℕ) (c : Judging) (cs : List Call) (q : Kept xs c) (e : c .answer ≡ 0) (k : Taken xs c) (m : Matched (readState (c .state′)) cs) where
+module _ (xs : List ℕ) (c : Judging) (cs : List Call) (q : Kept xs c) (e : c .answer ≡ 0) (k : Taken xs c) (m : Matched (decodeState (c .state′)) cs) where
   abbrev call : ByValue.Judging
   call = callOf xs c q k
 
@@ -206,7 +205,7 @@ module _ (xs : List ℕ) (c : Judging) (cs : List Call) (q : Kept xs c) (e : c .
   rest : Matched after cs
   rest = subst (λ (s : PredictorCorrector). Matched s cs) (accepted-left xs c (q .contract) k) m
 
-  told-is : ByValue.toldOf (readState xs) (detect-and-modify call ∷ rest .calls) ≡ record { refused = isRefused c; score = scoreOf c } ∷ ByValue.toldOf after (rest .calls)
+  told-is : ByValue.toldOf (decodeState xs) (detect-and-modify call ∷ rest .calls) ≡ record { refused = isRefused c; score = scoreOf c } ∷ ByValue.toldOf after (rest .calls)
   told-is = ap (λ (t : Told). t ∷ ByValue.toldOf after (rest .calls)) (told-same xs c q k e)
 
   abbrev t : Told
@@ -219,7 +218,7 @@ module _ (xs : List ℕ) (c : Judging) (cs : List Call) (q : Kept xs c) (e : c .
       go true z = not-counted t z h
       go false z = tt
 
-  agree-on : (f z : Fraction) (b : Ledger) (M : Fraction) → Agree f z b M (ByValue.toldOf (readState xs) (detect-and-modify call ∷ rest .calls)) (ByValue.shownOf (readState xs) (detect-and-modify call ∷ rest .calls))
+  agree-on : (f z : Fraction) (b : Ledger) (M : Fraction) → Agree f z b M (ByValue.toldOf (decodeState xs) (detect-and-modify call ∷ rest .calls)) (ByValue.shownOf (decodeState xs) (detect-and-modify call ∷ rest .calls))
       → Agree f z b M (toldOf (krcf-detect-and-modify c ∷ cs)) (shownOf (krcf-detect-and-modify c ∷ cs))
   agree-on f z b M a =
       either-by (counted t)
@@ -228,9 +227,9 @@ module _ (xs : List ℕ) (c : Judging) (cs : List Call) (q : Kept xs c) (e : c .
         rest .agree f z (enter f b (fractionOf (scoreOf c))) (larger M (fractionOf (scoreOf c))) (p .1),
       ))
       (rest .agree f z b M)
-      (subst (λ (ts : List Told). Agree f z b M ts (ByValue.shownOf (readState xs) (detect-and-modify call ∷ rest .calls))) told-is a)
+      (subst (λ (ts : List Told). Agree f z b M ts (ByValue.shownOf (decodeState xs) (detect-and-modify call ∷ rest .calls))) told-is a)
 
-  step-accepted : Matched (readState xs) (krcf-detect-and-modify c ∷ cs)
+  step-accepted : Matched (decodeState xs) (krcf-detect-and-modify c ∷ cs)
   step-accepted = record {
     calls = detect-and-modify call ∷ rest .calls;
     turn = (kept-by xs c q k, rest .turn);
@@ -239,12 +238,12 @@ module _ (xs : List ℕ) (c : Judging) (cs : List Call) (q : Kept xs c) (e : c .
     agree = agree-on;
   }
 
-by : (xs : List ℕ) (c : Judging) (cs : List Call) → Kept xs c → Matched (readState (c .state′)) cs → (b : Bool) → eqb (c .answer) 0 ≡ b → Matched (readState xs) (krcf-detect-and-modify c ∷ cs)
+by : (xs : List ℕ) (c : Judging) (cs : List Call) → Kept xs c → Matched (decodeState (c .state′)) cs → (b : Bool) → eqb (c .answer) 0 ≡ b → Matched (decodeState xs) (krcf-detect-and-modify c ∷ cs)
 by xs c cs q m true e = (let z = eqb-true (c .answer) 0 e in step-accepted xs c cs q z (taken xs c (sym (q .contract .answer) ∙ z)) m)
 by xs c cs q m false e =
-    step-refused (readState xs) c cs (ap not e) (subst (λ (ys : List ℕ). Matched (readState ys) cs) (refused-keeps xs c (q .contract) (eqb-false (c .answer) 0 e) .0) m)
+    step-refused (decodeState xs) c cs (ap not e) (subst (λ (ys : List ℕ). Matched (decodeState ys) cs) (refused-keeps xs c (q .contract) (eqb-false (c .answer) 0 e) .0) m)
 
-matched : (cs : List Call) (xs : List ℕ) → JudgedInTurn xs cs → Matched (readState xs) cs
+matched : (cs : List Call) (xs : List ℕ) → JudgedInTurn xs cs → Matched (decodeState xs) cs
 matched [] xs t = record { calls = []; turn = tt; many = refl; sizes = λ (h : Unit). tt; agree = λ (d z : Fraction) (b : Ledger) (M : Fraction) (a : Unit). tt }
 matched (krcf-new d auto base out n ys ∷ cs) xs t = absurd t
 matched (krcf-chain-set-z-factor x n ys ∷ cs) xs t = absurd t
@@ -256,7 +255,7 @@ module _ (d : Float) (f : T (fits binary64 d)) (i : T (isDiscount d)) where
   judged : (cs : List Call) (z : Float) (s : PredictorCorrector) (xs : List ℕ) → New d z (s .«basic_thresholder») → Holds s xs → JudgedInTurn xs cs
       → InBounds z (toldOf cs) → Demand3 d z (toldOf cs) (shownOf cs)
   judged cs z s xs n h t b =
-      let e : readState xs ≡ s = state-is xs (h .size) ∙ h .state in
+      let e : decodeState xs ≡ s = h .state in
       let m : Matched s cs = subst (λ (u : PredictorCorrector). Matched u cs) e (matched cs xs t) in
       m .agree (fractionOf d) (fractionOf z) blank none
       (judged-in-turn d z s (m .calls) f i n (m .turn)

@@ -33,8 +33,8 @@ use Rattle.detection.specs.declared.Outcome.{Outcome}
 use Rattle.detection.specs.declared.Outcome.the-variants.{Accepted, Refused}
 use Rattle.detection.specs.declared.Judgment.{Judgment}
 use Rattle.layout.specs.Numbers.{le4, f32At}
-use Rattle.layout.specs.Chain.{decodeState, encodeStateOver, readState}
-use Rattle.layout.specs.Readings.{readReading, readLast, decodeReading}
+use Rattle.layout.specs.Chain.{decodeState, encodeStateOver}
+use Rattle.layout.specs.Readings.{decodeReading, decodeLast}
 use Rattle.verdict_bytes.specs.Bytes.{told, changesState, stored, stateLeft, verdictLeft}
 use Rattle.c_judging.specs.Judging.{codesOk, slicesOk, sizesFit, outcomeOver, stateOver, indexOver, Answered}
 use Rattle.stored_state.specs.Fits.{StateFits}
@@ -47,30 +47,18 @@ use Rattle.demand3_over_c.proofs.Held.{after-fits}
 use Rattle.demand3_over_c.proofs.Index.{index-small}
 use Rattle.demand3_over_c.proofs.Verdicts.{told-reads, verdict-fits, verdict-opens}
 
--- ---- slices of their lengths are decoded
-pub state-is : (xs : List ℕ) → length xs ≡ 1310 → readState xs ≡ decodeState xs
-unfolding readState
-state-is xs h = rw (eq-eqb (length xs) 1310 h)
-
-pub reading-is : (xs : List ℕ) → length xs ≡ 23 → readReading xs ≡ decodeReading xs
-unfolding readReading
-reading-is xs h = rw (eq-eqb (length xs) 23 h)
-
-pub score-is : (xs : List ℕ) → length xs ≡ 23 → readReading xs .score ≡ f32At xs 15
+-- ---- the score that was read
+pub score-is : (xs : List ℕ) → decodeReading xs .score ≡ f32At xs 15
 unfolding decodeReading
-score-is xs h = ap (λ (r : Reading). r .score) (reading-is xs h)
+score-is xs = refl
 
 float-fits : (xs : List ℕ) (p : ℕ) → T (fits binary32 (f32At xs p))
 unfolding f32At
 float-fits xs p = ofBits-fits binary32 (le4 xs p)
 
-pub score-fits : (xs : List ℕ) → T (fits binary32 (readReading xs .score))
-unfolding readReading decodeReading
-score-fits xs = go (eqb (length xs) 23)
-  where
-    go : (c : Bool) → T (fits binary32 (cond c (decodeReading xs) (decodeReading []) .score))
-    go true = float-fits xs 15
-    go false = float-fits [] 15
+pub score-fits : (xs : List ℕ) → T (fits binary32 (decodeReading xs .score))
+unfolding decodeReading
+score-fits xs = float-fits xs 15
 
 -- ---- an answer of 0
 number-above : (why : Refusal) → number why ≡ 0 → ⊥
@@ -105,13 +93,13 @@ passed false c d e f q = absurd (true≢false (ap refusing q))
 -- ---- an accepted call
 module _ (xs : List ℕ) (c : Judging) where
   abbrev pub stateOf : PredictorCorrector
-  stateOf = readState xs
+  stateOf = decodeState xs
 
   abbrev pub readingOf : Reading
-  readingOf = readReading (c .reading)
+  readingOf = decodeReading (c .reading)
 
   abbrev pub lastOf : LastDescriptor
-  lastOf = readLast (c .last)
+  lastOf = decodeLast (c .last)
 
   abbrev pub over : Outcome
   over = outcomeOver xs (c .reading) (c .last) (c .lent) (length (c .expected)) (length (c .high)) (length (c .low)) (length (c .verdict))
@@ -191,9 +179,8 @@ module _ (xs : List ℕ) (c : Judging) where
   taken-by p q d =
       let l = long q in
       let f = entry d in
-      let e = state-is xs (l .0) in
-      let ok : stateCountsOk (decodeState xs) ≡ true = ap stateCountsOk (sym e) ∙ f .1 .1 in
-      let most : decodeState xs .«base_dimension» ≤ 16 = subst (λ (s : PredictorCorrector). s .«base_dimension» ≤ 16) e (base-of (f .0)) in
+      let ok : stateCountsOk (decodeState xs) ≡ true = f .1 .1 in
+      let most : decodeState xs .«base_dimension» ≤ 16 = base-of (f .0) in
       record {
         codes-ok = p;
         slices-ok = q;
@@ -202,7 +189,7 @@ module _ (xs : List ℕ) (c : Judging) where
         done = d;
         says = through p q ∙ accepted-at d;
         says-by = accepted-at d;
-        fits = subst StateFits (sym e) (decoded-fits xs (counted-numbers (decodeState xs) ok most));
+        fits = decoded-fits xs (counted-numbers (decodeState xs) ok most);
         index = index-small readingOf lastOf (c .lent) (stateOf .«base_dimension») (length (c .expected)) (length (c .high)) (length (c .low)) (f .0) (f .1 .0) (verdict readingOf lastOf (c .lent) stateOf);
       }
 
@@ -228,15 +215,15 @@ module _ (xs : List ℕ) (c : Judging) where
     put-back (Quiet t) = written-back (Quiet t)
     put-back (Corrected t m) = written-back (Corrected t m)
     put-back (Raised t g) = written-back (Raised t g)
-    put-back Skipped = (k .size, sym (state-is xs (k .size)))
+    put-back Skipped = (k .size, refl)
 
-    read-back : (v : Verdict) → readState (stored v xs (later v)) ≡ later v
-    read-back v = (let p = put-back v in state-is (stored v xs (later v)) (p .0) ∙ p .1)
+    read-back : (v : Verdict) → decodeState (stored v xs (later v)) ≡ later v
+    read-back v = put-back v .1
 
-    accepted-state : readState (stateLeft over xs (stateOver xs (c .reading) (c .last) (c .lent) over)) ≡ stateAfter stateOf readingOf lastOf (c .lent) byValue
+    accepted-state : decodeState (stateLeft over xs (stateOver xs (c .reading) (c .last) (c .lent) over)) ≡ stateAfter stateOf readingOf lastOf (c .lent) byValue
     unfolding stateLeft stateOver stateAfter
     accepted-state =
-        ap (λ (o : Outcome). readState (stateLeft o xs (stateOver xs (c .reading) (c .last) (c .lent) o))) (k .says)
+        ap (λ (o : Outcome). decodeState (stateLeft o xs (stateOver xs (c .reading) (c .last) (c .lent) o))) (k .says)
         ∙ read-back said ∙ ap (stateAfter stateOf readingOf lastOf (c .lent)) (sym (k .says-by))
 
     accepted-verdict : (n : ℤ) → n ≡ indexOver xs (c .reading) (c .last) (c .lent) over
@@ -274,11 +261,11 @@ module _ (xs : List ℕ) (c : Judging) where
     unfolding outcome outcomeOf
     says-refused why g = rw g
 
-    state-by : (a : Answer) → answerBy ≡ a → readState (c .state′) ≡ j .state
+    state-by : (a : Answer) → answerBy ≡ a → decodeState (c .state′) ≡ j .state
     unfolding stateAfter
-    state-by Answers.Done g = ap readState (q .bytes) ∙ accepted-state (taken-by p f g) ∙ sym (d .state)
+    state-by Answers.Done g = ap decodeState (q .bytes) ∙ accepted-state (taken-by p f g) ∙ sym (d .state)
     state-by (Answers.Refused why) g =
-        ap readState (refused-by why (same ∙ says-refused why g) q .0) ∙ sym (d .state ∙ ap (stateAfter stateOf readingOf lastOf (c .lent)) (says-refused why g))
+        ap decodeState (refused-by why (same ∙ says-refused why g) q .0) ∙ sym (d .state ∙ ap (stateAfter stateOf readingOf lastOf (c .lent)) (says-refused why g))
 
     verdict-by : (a : Answer) → answerBy ≡ a → Says (j .outcome) (j .«relative_index») (c .verdict) (c .verdict′)
     unfolding indexOver
@@ -305,11 +292,11 @@ module _ (xs : List ℕ) (c : Judging) where
   pub accepted-reads : Contract xs c → (k : Taken) → Reads (said k) (indexOver xs (c .reading) (c .last) (c .lent) over) (c .verdict′)
   accepted-reads q k = subst (Reads (said k) _) (sym (q .verdict)) (accepted-verdict k _ refl)
 
-  pub accepted-left : Contract xs c → Taken → readState (c .state′) ≡ stateAfter stateOf readingOf lastOf (c .lent) byValue
-  accepted-left q k = ap readState (q .bytes) ∙ accepted-state k
+  pub accepted-left : Contract xs c → Taken → decodeState (c .state′) ≡ stateAfter stateOf readingOf lastOf (c .lent) byValue
+  accepted-left q k = ap decodeState (q .bytes) ∙ accepted-state k
 
   pub opens-over-c : Contract xs c → c .answer ≡ 0 → T (not (eq (scoreOf c) zero32)) → Opens (opened stateOf readingOf) (c .verdict′)
   opens-over-c q z n =
       let k = taken (sym (q .answer) ∙ z) in
       verdict-opens stateOf readingOf lastOf (c .lent) _ (c .verdict′) (accepted-reads q k)
-      (ap (λ (x : Float). eq x zero32) (score-is (c .reading) (k .reading-size)) ∙ is-false (eq (scoreOf c) zero32) n)
+      (ap (λ (x : Float). eq x zero32) (score-is (c .reading)) ∙ is-false (eq (scoreOf c) zero32) n)

@@ -34,17 +34,17 @@ use Rattle.detection.specs.declared.Verdict.{Verdict}
 use Rattle.detection.specs.declared.Verdict.the-variants.{Quiet, Corrected, Raised, Skipped}
 use Rattle.detection.specs.declared.Outcome.{Outcome}
 use Rattle.layout.specs.Numbers.{le4, f32At, i32At, signed, flagAt}
-use Rattle.layout.specs.Chain.{readState, encodeStateOver}
+use Rattle.layout.specs.Chain.{decodeState, encodeStateOver, stateCodesOk}
 use Rattle.layout.specs.Left.{left}
-use Rattle.layout.specs.Readings.{readReading, readLast, decodeReading, decodeLast, decodeAnomaly, strategyFrom, methodFrom}
+use Rattle.layout.specs.Readings.{readingCodesOk, lastCodesOk, decodeReading, decodeLast, decodeAnomaly, strategyFrom, methodFrom}
 use Rattle.verdict_bytes.specs.Bytes.{changesState, stored, stateLeft, verdictLeft}
 use Rattle.c_chain.specs.States.{chainMade}
-use Rattle.c_judging.specs.Judging.{codesOk, stateCodesOk, readingCodesOk, lastCodesOk, slicesOk, outcomeOver, stateOver, indexOver}
+use Rattle.c_judging.specs.Judging.{codesOk, slicesOk, outcomeOver, stateOver, indexOver}
 use Rattle.demand3_over_c.specs.Calls.{krcf-new, JudgedInTurn, InTurn, Made, zOf, toldOf}
 use Rattle.demand3_over_c.specs.Calm.{nought, one, reading, last, said, judging, judgings, made, eleven}
 use Rattle.demand3.specs.Calm.{buffers}
 use Rattle.demand3_over_c.proofs.Held.{after-fits}
-use Rattle.demand3_over_c.proofs.Simulation.{state-is, score-fits, codes, slices, Taken, taken-by}
+use Rattle.demand3_over_c.proofs.Simulation.{score-fits, codes, slices, Taken, taken-by}
 use Rattle.demand3_over_c.proofs.Start.{Holds, new-holds, put-holds}
 
 none-fits : T (fits binary64 nought)
@@ -72,10 +72,10 @@ in-turn (suc n) xs = (
 
 -- ---- by value
 abbrev answerFrom : PredictorCorrector → Answer
-answerFrom s = answerOf (readReading reading) (readLast last) buffers (s .«base_dimension») 1 1 1 (stateCountsOk s)
+answerFrom s = answerOf (decodeReading reading) (decodeLast last) buffers (s .«base_dimension») 1 1 1 (stateCountsOk s)
 
 abbrev nextFrom : PredictorCorrector → PredictorCorrector
-nextFrom s = after (readReading reading) (readLast last) buffers s (verdict (readReading reading) (readLast last) buffers s)
+nextFrom s = after (decodeReading reading) (decodeLast last) buffers s (verdict (decodeReading reading) (decodeLast last) buffers s)
 
 abbrev AllDone : ℕ → PredictorCorrector → Type 0
 AllDone zero s = Unit
@@ -89,8 +89,8 @@ left-holds r l b s xs (Raised t g) h k = put-holds xs _ (k .size) (after-fits r 
 left-holds r l b s xs Skipped h k = k
 
 module _ (xs : List ℕ) (s : PredictorCorrector) (k : Holds s xs) (d : answerFrom s ≡ Answers.Done) where
-  same : readState xs ≡ s
-  same = state-is xs (k .size) ∙ k .state
+  same : decodeState xs ≡ s
+  same = k .state
 
   ok : (codes xs (judging xs) ≡ true) × (slices xs (judging xs) ≡ true)
   unfolding codesOk stateCodesOk readingCodesOk lastCodesOk slicesOk
@@ -108,13 +108,13 @@ module _ (xs : List ℕ) (s : PredictorCorrector) (k : Holds s xs) (d : answerFr
   next-holds : Holds (nextFrom s) (judging xs .state′)
   unfolding stateLeft stateOver stateAfter
   next-holds =
-      let e : judging xs .state′ ≡ stored (verdict (readReading reading) (readLast last) buffers (readState xs)) xs (nextFrom (readState xs)) =
+      let e : judging xs .state′ ≡ stored (verdict (decodeReading reading) (decodeLast last) buffers (decodeState xs)) xs (nextFrom (decodeState xs)) =
       ap (λ (o : Outcome). stateLeft o xs (stateOver xs reading last buffers o)) (taken-here .says) in
-      let here : Holds (readState xs) xs = subst (λ (u : PredictorCorrector). Holds u xs) (sym same) k in
-      let there = left-holds (readReading reading) (readLast last) buffers (readState xs) xs (verdict (readReading reading) (readLast last) buffers (readState xs)) score-fits-here here in
-      subst (λ (u : PredictorCorrector). Holds (nextFrom u) (judging xs .state′)) same (subst (Holds (nextFrom (readState xs))) (sym e) there)
+      let here : Holds (decodeState xs) xs = subst (λ (u : PredictorCorrector). Holds u xs) (sym same) k in
+      let there = left-holds (decodeReading reading) (decodeLast last) buffers (decodeState xs) xs (verdict (decodeReading reading) (decodeLast last) buffers (decodeState xs)) score-fits-here here in
+      subst (λ (u : PredictorCorrector). Holds (nextFrom u) (judging xs .state′)) same (subst (Holds (nextFrom (decodeState xs))) (sym e) there)
     where
-      score-fits-here : T (fits binary32 (readReading reading .score))
+      score-fits-here : T (fits binary32 (decodeReading reading .score))
       score-fits-here = score-fits reading
 
 accepted-in-turn : (n : ℕ) (xs : List ℕ) (s : PredictorCorrector) → Holds s xs → AllDone n s → accepted (toldOf (judgings n xs)) ≡ n
@@ -128,7 +128,7 @@ eleven-done : AllDone 11 (new nought false 1 .state)
 unfolding answerOf rangeOk sizesOk lengthsOk dimension pointsOk rowsOk neighboursOk lastPointsOk finiteOk numbersFinite lastFinite every seenOk isLater
     stateCountsOk countsOk countable listCountable firstCountable new freshState freshList
     lt le eq ne ofBits round add sub mul div ofInt
-    readReading decodeReading readLast decodeLast decodeAnomaly f32At i32At signed le4 flagAt strategyFrom methodFrom
+    decodeReading decodeLast decodeAnomaly f32At i32At signed le4 flagAt strategyFrom methodFrom
     verdict decided opening after entered updateScore runEnded State.updateScore
     updatePrimary updated primaryCounted countedOver countedGap Statistics.update next oneMore Statistics.factor Statistics.mean Statistics.deviation Statistics.isEmpty Statistics.positiveRoot narrow
     primaryThresholdAndGrade threshold thresholdBy primaryGrade gradeOver isDeviationReady countsReady minf32

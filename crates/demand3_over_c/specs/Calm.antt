@@ -9,7 +9,7 @@ use Rattle.detection.specs.Judging as Exits
 use Rattle.detection.specs.Judged.{outcomeNumber, written}
 use Rattle.detection.specs.declared.Outcome.{Outcome}
 use Rattle.layout.specs.Chain.{encodeStateOver}
-use Rattle.layout.specs.Readings.{readReading, readLast}
+use Rattle.layout.specs.Readings.{decodeReading, decodeLast}
 use Rattle.c_judging.specs.Judging.{stateLeft, verdictLeft, outcomeOver, stateOver, indexOver}
 pub use Rattle.demand3.specs.Calm.{nought, one}
 use Rattle.demand3.specs.Calm.{ones, buffers}
@@ -37,9 +37,9 @@ judging xs = record {
   low = ones;
   verdict = replicate 14 0;
   state′ = stateLeft (said xs) xs (stateOver xs reading last buffers (said xs));
-  expected′ = written (said xs) ones (Exits.expected (readReading reading) (readLast last) buffers);
-  high′ = written (said xs) ones (normalized (readReading reading .score) ones ones ones);
-  low′ = written (said xs) ones (normalized (readReading reading .score) ones ones ones);
+  expected′ = written (said xs) ones (Exits.expected (decodeReading reading) (decodeLast last) buffers);
+  high′ = written (said xs) ones (normalized (decodeReading reading .score) ones ones ones);
+  low′ = written (said xs) ones (normalized (decodeReading reading .score) ones ones ones);
   verdict′ = verdictLeft (said xs) (replicate 14 0) (indexOver xs reading last buffers (said xs));
 }
 

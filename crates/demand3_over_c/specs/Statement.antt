@@ -18,8 +18,8 @@ use Rattle.detection.specs.declared.Outcome.the-variants.{Accepted, Refused}
 use Rattle.detection.specs.declared.Judgment.{Judgment}
 use Rattle.detection.specs.Judged.{Judged, outcomeNumber}
 use Rattle.layout.specs.Numbers.{i32At}
-use Rattle.layout.specs.Chain.{readState}
-use Rattle.layout.specs.Readings.{readReading, readLast}
+use Rattle.layout.specs.Chain.{decodeState}
+use Rattle.layout.specs.Readings.{decodeReading, decodeLast}
 use Rattle.c_judging.specs.Judging.{codesOk, slicesOk}
 use Rattle.demand3.specs.Calls.{thresholdOf, gradeOf, opened}
 use Rattle.demand3_over_c.specs.Calls.{Judging, Call, krcf-new, Contract, InTurn, zOf, scoreOf, toldOf, shownOf, kindIn, thresholdIn, gradeIn}
@@ -56,7 +56,7 @@ Says (Refused why) n ys ys′ = ys′ ≡ ys
 -- The call's answer, and the bytes and buffers that it left, are those of the judgment j, which left the buffers e, h and w.
 pub record Simulated (c : Judging) (j : Judgment) (e h w : List Float) : Type 0 where
   pub answer : c .answer ≡ outcomeNumber (j .outcome)
-  pub state : readState (c .state′) ≡ j .state
+  pub state : decodeState (c .state′) ≡ j .state
   pub verdict : Says (j .outcome) (j .«relative_index») (c .verdict) (c .verdict′)
   pub point : c .expected′ ≡ e
   pub highs : c .high′ ≡ h
@@ -75,9 +75,9 @@ pub record Demand3OverC : Type 0 where
   -- Codes and lengths in order, a call is the judgment by value of the decoded state, whatever the strategy, accepted or refused.
   pub simulated : (xs : List ℕ) (c : Judging) → Contract xs c
       → codesOk xs (c .reading) (c .last) ≡ true → slicesOk (length xs) (length (c .reading)) (length (c .last)) (length (c .verdict)) ≡ true
-      → (j : Judgment) (e h w : List Float) → Judged (readState xs) (readReading (c .reading)) (readLast (c .last)) (c .lent) j (c .expected) (c .high) (c .low) e h w
+      → (j : Judgment) (e h w : List Float) → Judged (decodeState xs) (decodeReading (c .reading)) (decodeLast (c .last)) (c .lent) j (c .expected) (c .high) (c .low) e h w
       → Simulated c j e h w
-  pub opens : (xs : List ℕ) (c : Judging) → Contract xs c → c .answer ≡ 0 → T (not (eq (scoreOf c) zero32)) → Opens (opened (readState xs) (readReading (c .reading))) (c .verdict′)
+  pub opens : (xs : List ℕ) (c : Judging) → Contract xs c → c .answer ≡ 0 → T (not (eq (scoreOf c) zero32)) → Opens (opened (decodeState xs) (decodeReading (c .reading))) (c .verdict′)
   -- "A single statement about the list of readings": a list of calls that begins with `krcf_new`, each over the bytes that the one before it left.
   pub demand-3 : (d : Float) (auto base : ℕ) (out : List ℕ) (n : ℕ) (xs : List ℕ) (cs : List Call)
       → InTurn (krcf-new d auto base out n xs ∷ cs) → InBounds (zOf cs) (toldOf cs)

@@ -13,16 +13,17 @@ use lib.Ieee.Bits.{ofBits-toBits, toBits-lt}
 use borrow.Author.Tests.{lt-ltb, le-ltb}
 use Rattle.deviation.specs.declared.Deviation.{Deviation}
 use Rattle.basicthresholder.specs.declared.BasicThresholder.{BasicThresholder}
+use Rattle.layout.specs.Places.{deviationLength, thresholderLength}
 use Rattle.layout.specs.Numbers.{le4, le8, bytes4, bytes8, signed, unsigned, f32At, f64At, i32At, flagAt, f32Bytes, f64Bytes, i32Bytes, flagBytes}
 use Rattle.layout.specs.States.{joined, deviationAt, decodeDeviation, decodeThresholder, encodeDeviation, encodeThresholder}
 use Rattle.layout.specs.Fits.{DeviationFits, ThresholderFits}
 
 -- ---- how many bytes.
-pub deviation-length : (d : Deviation) → length (encodeDeviation d) ≡ 36
+pub deviation-length : (d : Deviation) → length (encodeDeviation d) ≡ deviationLength
 unfolding joined encodeDeviation f64Bytes i32Bytes bytes8 bytes4
 deviation-length d = refl
 
-pub thresholder-length : (s : BasicThresholder) → length (encodeThresholder s) ≡ 149
+pub thresholder-length : (s : BasicThresholder) → length (encodeThresholder s) ≡ thresholderLength
 unfolding joined encodeThresholder encodeDeviation f32Bytes f64Bytes i32Bytes flagBytes bytes8 bytes4
 thresholder-length s = refl
 

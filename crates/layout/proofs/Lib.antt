@@ -2,3 +2,5 @@ pub mod Signs
 pub mod Pasting
 pub mod Laws
 pub mod Rows
+pub mod InPlace
+pub mod Taken

@@ -11,6 +11,7 @@ use lib.IntN.{ℤ}
 use lib.Ieee.{Float}
 use Rattle.deviation.specs.declared.Deviation.{Deviation}
 use Rattle.basicthresholder.specs.declared.BasicThresholder.{BasicThresholder}
+use Rattle.layout.specs.Places.{deviationLength, thresholderLength, autoThresholdAt, verdictLength}
 use Rattle.layout.specs.Numbers.{bytes4, bytes8, f32Bytes, f64Bytes, i32Bytes, flagByte, flagBytes, pasted}
 use Rattle.layout.specs.Readings.{verdictBytes}
 use Rattle.layout.specs.Parts.{singles, doubles}
@@ -18,10 +19,10 @@ use Rattle.layout.specs.States.{joined, encodeDeviation, encodeThreshold
 
 -- ---- one paste after another.
 module _ (xs : List ℕ) (at : ℕ) (ys : List ℕ) where
-  front : at ≤ length xs → length (take at xs ++ ys) ≡ at + length ys
+  pub front : at ≤ length xs → length (take at xs ++ ys) ≡ at + length ys
   front h = length-append (take at xs) ys ∙ ap (λ (n : ℕ). n + length ys) (length-take-le at xs h)
 
-  pasted-split : pasted xs at ys ≡ (take at xs ++ ys) ++ drop (at + length ys) xs
+  pub pasted-split : pasted xs at ys ≡ (take at xs ++ ys) ++ drop (at + length ys) xs
   unfolding pasted
   pasted-split = sym (append-assoc (take at xs) ys (drop (at + length ys) xs))
 
@@ -86,7 +87,7 @@ four xs at a b c d h =
 
 -- ---- what is put over a list, part by part. A place is the length of what stands before.
 module _ (xs : List ℕ) where
-  pub deviation-pasted : (at : ℕ) (d : Deviation) → at + 36 ≤ length xs
+  pub deviation-pasted : (at : ℕ) (d : Deviation) → at + deviationLength ≤ length xs
       → pasted (pasted (pasted xs at (doubles (d .discount) (d .weight))) (at + 16) (doubles (d .«sum_squared») (d .sum))) (at + 32) (i32Bytes (d .count))
       ≡ pasted xs at (encodeDeviation d)
   unfolding encodeDeviation joined doubles f64Bytes i32Bytes bytes8 bytes4
@@ -94,11 +95,11 @@ module _ (xs : List ℕ) where
       ap (λ (l : List ℕ). pasted l (at + 32) (i32Bytes (d .count))) (pasted-next xs at (doubles (d .discount) (d .weight)) (doubles (d .«sum_squared») (d .sum)) (omega arith))
       ∙ pasted-next xs at (doubles (d .discount) (d .weight) ++ doubles (d .«sum_squared») (d .sum)) (i32Bytes (d .count)) (omega arith)
 
-  pub thresholder-pasted : (s : BasicThresholder) → 149 ≤ length xs
+  pub thresholder-pasted : (s : BasicThresholder) → thresholderLength ≤ length xs
       → pasted (pasted (pasted (set (pasted (pasted (pasted (pasted (pasted (pasted xs
       0 (f32Bytes (s .elasticity))) 4 (i32Bytes (s .count))) 8 (singles (s .«score_differencing») (s .«last_score»)))
       16 (encodeDeviation (s .«primary_deviation»))) 52 (encodeDeviation (s .«secondary_deviation»))) 88 (encodeDeviation (s .«threshold_deviation»)))
-      124 (flagByte (s .«auto_threshold»))) 125 (singles (s .«absolute_threshold») (s .«absolute_score_fraction»)))
+      autoThresholdAt (flagByte (s .«auto_threshold»))) 125 (singles (s .«absolute_threshold») (s .«absolute_score_fraction»)))
       133 (singles (s .«lower_threshold») (s .«factor_adjustment_threshold»))) 141 (singles (s .«initial_threshold») (s .«z_factor»))
       ≡ pasted xs 0 (encodeThresholder s)
   unfolding encodeThresholder encodeDeviation joined singles f32Bytes f64Bytes i32Bytes flagBytes bytes8 bytes4
@@ -109,11 +110,11 @@ module _ (xs : List ℕ) where
       let a = singles (s .«absolute_threshold») (s .«absolute_score_fraction») in
       let b = singles (s .«lower_threshold») (s .«factor_adjustment_threshold») in
       let c = singles (s .«initial_threshold») (s .«z_factor») in
-      ap (λ (l : List ℕ). pasted (pasted (pasted (set l 124 flag) 125 a) 133 b) 141 c) (pasted-all xs 0 first (omega arith))
+      ap (λ (l : List ℕ). pasted (pasted (pasted (set l autoThresholdAt flag) 125 a) 133 b) 141 c) (pasted-all xs 0 first (omega arith))
       ∙ ap (λ (l : List ℕ). pasted (pasted (pasted l 125 a) 133 b) 141 c) (set-next xs 0 (joined first) flag (omega arith))
       ∙ pasted-onwards xs (joined first ++ (flag ∷ [])) (a ∷ b ∷ c ∷ []) (omega arith)
 
-  pub verdict-pasted : (kind mode : ℕ) (t g : Float) (n : ℤ) → length xs ≡ 14
+  pub verdict-pasted : (kind mode : ℕ) (t g : Float) (n : ℤ) → length xs ≡ verdictLength
       → pasted (pasted (set (set xs 0 kind) 1 mode) 2 (singles t g)) 10 (i32Bytes n) ≡ verdictBytes kind mode t g n
   unfolding verdictBytes joined singles f32Bytes i32Bytes bytes4
   verdict-pasted kind mode t g n h =

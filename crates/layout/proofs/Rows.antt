@@ -6,15 +6,16 @@ use native.Mathlib.Nat.{not-suc-le-zero, le-of-suc-le-suc}
 use native.Mathlib.Numerals.{add-one}
 use native.Mathlib.Omega.{arith}
 use lib.ListN.{length, getD, set, take, drop, length-replicate, replicate, getD-replicate, drop-of-length-le}
+use borrow.Author.Tests.{eq-eqb}
 use lib.Seq.{drop-cons, take-suc, append-snoc, set-at, take-all, length-take-le}
 use Rattle.deviation.specs.Const.{zero64}
 use Rattle.deviation.specs.Statistics.{fresh}
 use Rattle.deviation.specs.declared.Deviation.{Deviation}
 use Rattle.predictorcorrector.specs.declared.PredictorCorrector.{PredictorCorrector}
-use Rattle.layout.specs.Numbers.{f32Bytes, f64Bytes, i32Bytes, flagByte, flagBytes, bytes4, bytes8, pasted}
+use Rattle.layout.specs.Places.{deviationLength, stateLength, actualAt, expectedAt}
+use Rattle.layout.specs.Numbers.{pasted, writtenOf}
 use Rattle.layout.specs.Chain.{entries, filled, listOver, encodeHead, encodeStateOver}
-use Rattle.layout.specs.States.{joined, encodeDeviation, encodeThresholder}
-use Rattle.layout.proofs.Pasting.{pasted-onwards, set-next}
+use Rattle.layout.specs.States.{encodeDeviation}
 
 -- ---- goal over a slice that was start, as far as i.
 set-onwards : (start goal : List ℕ) (i d : ℕ) → length goal ≡ length start → i < length start
@@ -48,24 +49,15 @@ getD-any (x ∷ xs) zero a b h = refl
 getD-any (x ∷ xs) (suc i) a b h = getD-any xs i a b (le-of-suc-le-suc h)
 
 pub over-next : (xs : List ℕ) (at : ℕ) (ds : List Deviation) (i : ℕ) (out after : List ℕ) (d : Deviation) → out ≡ listOver xs at ds i
-    → after ≡ pasted out (at + 36 * i) (encodeDeviation (getD ds i d)) → i < length ds → after ≡ listOver xs at ds (i + 1)
+    → after ≡ pasted out (at + deviationLength * i) (encodeDeviation (getD ds i d)) → i < length ds → after ≡ listOver xs at ds (i + 1)
 unfolding listOver
 over-next xs at ds i out after d e p h = p ∙ rw (add-one, e, getD-any ds i d (fresh zero64) h)
 
 -- ---- a state written: what stands before the lists, then the lists.
-abbrev headOver : List ℕ → PredictorCorrector → List ℕ
-headOver xs s =
-    pasted (pasted (set (pasted xs 0 (encodeThresholder (s .«basic_thresholder»))) 149 (flagByte (s .«auto_adjust»))) 150 (bytes4 (s .«run_length»))) 154 (bytes4 (s .«base_dimension»))
-
-module _ (xs : List ℕ) (s : PredictorCorrector) (n : ℕ) (h : length xs ≡ 1310) (e : n ≡ entries (s .«auto_adjust») (s .«base_dimension»)) where
-  head-pasted : headOver xs s ≡ pasted xs 0 (encodeHead s)
-  unfolding encodeHead encodeThresholder encodeDeviation joined f32Bytes f64Bytes i32Bytes flagBytes bytes8 bytes4
-  head-pasted =
-      let flag = flagByte (s .«auto_adjust») in
-      let first = encodeThresholder (s .«basic_thresholder») in
-      ap (λ (l : List ℕ). pasted (pasted l 150 (bytes4 (s .«run_length»))) 154 (bytes4 (s .«base_dimension»))) (set-next xs 0 first flag (omega arith))
-      ∙ pasted-onwards xs (first ++ (flag ∷ [])) (bytes4 (s .«run_length») ∷ bytes4 (s .«base_dimension») ∷ []) (omega arith)
-
-  pub state-pasted : listOver (listOver (headOver xs s) 158 (s .«deviations_actual») n) 734 (s .«deviations_expected») n ≡ encodeStateOver xs s
-  unfolding encodeStateOver
-  state-pasted = ap₂ (λ (head : List ℕ) (k : ℕ). listOver (listOver head 158 (s .«deviations_actual») k) 734 (s .«deviations_expected») k) head-pasted e
+pub state-pasted : (xs head over all : List ℕ) (s : PredictorCorrector) (n : ℕ) → length xs ≡ stateLength → n ≡ entries (s .«auto_adjust») (s .«base_dimension»)
+    → head ≡ pasted xs 0 (encodeHead s) → over ≡ listOver head actualAt (s .«deviations_actual») n → all ≡ listOver over expectedAt (s .«deviations_expected») n
+    → all ≡ writtenOf stateLength xs (encodeStateOver xs s)
+unfolding encodeStateOver writtenOf
+state-pasted xs head over all s n long e h o a =
+    rw (eq-eqb (length xs) stateLength long)
+    (a ∙ (λ i. listOver (o i) expectedAt (s .«deviations_expected») n) ∙ (λ i. listOver (listOver (h i) actualAt (s .«deviations_actual») (e i)) expectedAt (s .«deviations_expected») (e i)))

@@ -1,15 +1,23 @@
--- The chain's stored state, 1310 bytes: the thresholder's 149, auto adjust in 1, run length and base dimension in 4 each, then the two lists of statistics,
--- from 158 and from 734 on, with room for 16. Of a list only the entries that exist are read and written.
-use Prim.Native.Nat.{ℕ, zero, suc, _+_, _*_}
-use mathlib.Core.Bool.{Bool, false, cond}
+-- The chain's stored state: the thresholder, auto adjust in 1 byte, run length and base dimension in 4 each, then the two lists of statistics with room for 16.
+-- Of a list only the entries that exist are read and written.
+use Prim.Native.Nat.{ℕ, zero, suc, _+_, _-_, _*_}
+use mathlib.Core.Bool.{Bool, true, false, cond, _&&_}
 use mathlib.Core.List.{List, [], _∷_}
 use lib.Dec.{eqb, leb}
 use lib.ListN.{length, getD, set, replicate}
+use Rattle.types.specs.declared.Refusal.{Refusal}
+use Rattle.types.specs.declared.Refusal.the-variants.{Range, Length}
+use Rattle.types.specs.declared.Answer.the-variants as Answers
 use Rattle.deviation.specs.declared.Deviation.{Deviation}
 use Rattle.deviation.specs.Statistics.{fresh}
 use Rattle.deviation.specs.Const.{zero64}
 use Rattle.predictorcorrector.specs.declared.PredictorCorrector.{PredictorCorrector}
-use Rattle.predictorcorrector.specs.State.{state, new}
+use Rattle.predictorcorrector.specs.State.{state, new, stateCountsOk}
+use Rattle.layout.specs.Places.{deviationLength, autoThresholdAt, stateLength, autoAdjustAt, runLengthAt, baseDimensionAt, actualAt, expectedAt}
+use Rattle.layout.specs.declared.Core.{Core}
+use Rattle.layout.specs.declared.StateRead.{StateRead}
+use Rattle.layout.specs.declared.CoreRead.{CoreRead}
+use Rattle.layout.specs.declared.CoreRead.the-variants.{Read, Refused}
 use Rattle.layout.specs.Numbers.{le4, flagAt, bytes4, flagBytes, pasted}
 use Rattle.layout.specs.States.{joined, deviationAt, encodeDeviation, decodeThresholder, encodeThresholder}
 
@@ -28,18 +36,18 @@ emptyList = replicate 16 (fresh zero64)
 
 -- The list stored from place i on, of which the first n entries exist.
 unfoldable pub listAt : List ℕ → ℕ → ℕ → List Deviation
-listAt xs i n = filled (λ (k : ℕ). deviationAt xs (i + 36 * k)) n emptyList
+listAt xs i n = filled (λ (k : ℕ). deviationAt xs (i + deviationLength * k)) n emptyList
 
 unfoldable pub decodeState : List ℕ → PredictorCorrector
 decodeState xs =
-    let auto = flagAt xs 149 in
-    let base = le4 xs 154 in
-    state (decodeThresholder xs) auto (le4 xs 150) base (listAt xs 158 (entries auto base)) (listAt xs 734 (entries auto base))
+    let auto = flagAt xs autoAdjustAt in
+    let base = le4 xs baseDimensionAt in
+    state (decodeThresholder xs) auto (le4 xs runLengthAt) base (listAt xs actualAt (entries auto base)) (listAt xs expectedAt (entries auto base))
 
 -- The first n entries of a list put over xs from place i on.
 unfoldable pub listOver : List ℕ → ℕ → List Deviation → ℕ → List ℕ
 listOver xs i ds zero = xs
-listOver xs i ds (suc n) = pasted (listOver xs i ds n) (i + 36 * n) (encodeDeviation (getD ds n (fresh zero64)))
+listOver xs i ds (suc n) = pasted (listOver xs i ds n) (i + deviationLength * n) (encodeDeviation (getD ds n (fresh zero64)))
 
 -- What stands before the lists.
 unfoldable pub encodeHead : PredictorCorrector → List ℕ
@@ -51,8 +59,31 @@ encodeHead s =
 unfoldable pub encodeStateOver : List ℕ → PredictorCorrector → List ℕ
 encodeStateOver xs s =
     let n = entries (s .«auto_adjust») (s .«base_dimension») in
-    listOver (listOver (pasted xs 0 (encodeHead s)) 158 (s .«deviations_actual») n) 734 (s .«deviations_expected») n
+    listOver (listOver (pasted xs 0 (encodeHead s)) actualAt (s .«deviations_actual») n) expectedAt (s .«deviations_expected») n
 
--- The state of 1310 bytes; of any other slice the new state with discount 0 and base 1, without auto adjust.
-unfoldable pub readState : List ℕ → PredictorCorrector
-readState xs = cond (eqb (length xs) 1310) (decodeState xs) (new zero64 false 1 .state)
+-- What the calls need of a state: all but its lists, of which the last entry of each, and refusal 6's test.
+unfoldable pub coreOf : PredictorCorrector → Core
+coreOf s = record {
+  «basic_thresholder» = s .«basic_thresholder»;
+  «auto_adjust» = s .«auto_adjust»;
+  «run_length» = s .«run_length»;
+  «base_dimension» = s .«base_dimension»;
+  «counts_ok» = stateCountsOk s;
+  «last_actual» = getD (s .«deviations_actual») (s .«base_dimension» - 1) (fresh zero64);
+  «last_expected» = getD (s .«deviations_expected») (s .«base_dimension» - 1) (fresh zero64);
+}
+
+-- The two yes/no bytes hold 0 or 1. Nothing inside a slice of another length is looked at.
+unfoldable pub stateCodesOk : List ℕ → Bool
+stateCodesOk xs = cond (eqb (length xs) stateLength) (leb (getD xs autoThresholdAt 0) 1 && leb (getD xs autoAdjustAt 0) 1) true
+
+-- What stands beside a refusal: a state that means nothing, as beside a refused construction.
+unfoldable pub unread : Refusal → StateRead
+unread why = record { answer = Answers.Refused why; state = new zero64 false 0 .state }
+
+-- What is read of a slice: 3 for another length, then 2 for a yes/no byte above 1.
+unfoldable pub readState : List ℕ → StateRead
+readState xs = cond (eqb (length xs) stateLength) (cond (stateCodesOk xs) (record { answer = Answers.Done; state = decodeState xs }) (unread Range)) (unread Length)
+
+unfoldable pub readCore : List ℕ → CoreRead
+readCore xs = cond (eqb (length xs) stateLength) (cond (stateCodesOk xs) (Read (coreOf (decodeState xs))) (Refused Range)) (Refused Length)

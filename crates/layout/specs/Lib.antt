@@ -1,7 +1,9 @@
+pub mod Places
 pub mod Numbers
 pub mod States
 pub mod Fits
 pub mod Chain
+pub mod InPlace
 pub mod Readings
 pub mod Left
 pub mod Parts

@@ -1,12 +1,13 @@
--- The numbers of a reading and of the descriptor before it, 23 bytes each, and a verdict's 14: little-endian, without gaps.
+-- The numbers of a reading, of the descriptor before it, and of a verdict: little-endian, without gaps.
 use Prim.Native.Nat.{ℕ}
-use mathlib.Core.Bool.{cond}
+use mathlib.Core.Bool.{Bool, true, cond, _&&_, _||_}
 use mathlib.Core.List.{List, [], _∷_}
-use lib.Dec.{eqb}
+use lib.Dec.{eqb, leb}
 use lib.IntN.{ℤ}
 use lib.ListN.{length, getD}
 use lib.Ieee.{Float}
 use Rattle.types.specs.Codes.{methodOf}
+use Rattle.types.specs.declared.Refusal.the-variants as Why
 use Rattle.types.specs.declared.ScoringStrategy.{ScoringStrategy}
 use Rattle.types.specs.declared.ScoringStrategy.the-variants.{«EXPECTED_INVERSE_HEIGHT», DISTANCE}
 use Rattle.types.specs.declared.TransformMethod.{TransformMethod}
@@ -16,6 +17,11 @@ use Rattle.types.specs.declared.MethodCode.the-variants.{Known, Refused}
 use Rattle.descriptor.specs.declared.Reading.{Reading}
 use Rattle.descriptor.specs.declared.LastAnomaly.{LastAnomaly}
 use Rattle.descriptor.specs.declared.LastDescriptor.{LastDescriptor}
+use Rattle.layout.specs.Places.{readingLength, strategyAt, methodAt, timeAugmentedAt, lastLength, lastStrategyAt, hasAnomalyAt, hasAttributionAt}
+use Rattle.layout.specs.declared.ReadingRead.{ReadingRead}
+use Rattle.layout.specs.declared.ReadingRead.the-variants as Reads
+use Rattle.layout.specs.declared.LastRead.{LastRead}
+use Rattle.layout.specs.declared.LastRead.the-variants as Lasts
 use Rattle.layout.specs.Numbers.{le4, f32At, i32At, flagAt, f32Bytes, i32Bytes}
 use Rattle.layout.specs.States.{joined}
 
@@ -31,9 +37,9 @@ unfoldable pub decodeReading : List ℕ → Reading
 decodeReading xs = record {
   «shingle_size» = le4 xs 0;
   «base_dimension» = le4 xs 4;
-  «scoring_strategy» = strategyFrom (getD xs 8 0);
-  «transform_method» = methodFrom (methodOf (getD xs 9 0));
-  «time_augmented» = flagAt xs 10;
+  «scoring_strategy» = strategyFrom (getD xs strategyAt 0);
+  «transform_method» = methodFrom (methodOf (getD xs methodAt 0));
+  «time_augmented» = flagAt xs timeAugmentedAt;
   «values_seen» = le4 xs 11;
   score = f32At xs 15;
   «corrected_score» = f32At xs 19;
@@ -43,25 +49,36 @@ unfoldable pub decodeAnomaly : List ℕ → LastAnomaly
 decodeAnomaly xs = record {
   «relative_index» = i32At xs 10;
   «values_seen» = le4 xs 14;
-  «has_attribution» = flagAt xs 18;
+  «has_attribution» = flagAt xs hasAttributionAt;
   score = f32At xs 19;
 }
 
 unfoldable pub decodeLast : List ℕ → LastDescriptor
 decodeLast xs = record {
-  «scoring_strategy» = strategyFrom (getD xs 0 0);
+  «scoring_strategy» = strategyFrom (getD xs lastStrategyAt 0);
   score = f32At xs 1;
   threshold = f32At xs 5;
-  «has_anomaly» = flagAt xs 9;
+  «has_anomaly» = flagAt xs hasAnomalyAt;
   anomaly = decodeAnomaly xs;
 }
 
--- What a reading call answers: of a slice of another length what zeros would give.
-unfoldable pub readReading : List ℕ → Reading
-readReading xs = cond (eqb (length xs) 23) (decodeReading xs) (decodeReading [])
+-- The codes and yes/no bytes are in their lists; an anomaly's attribution is looked at behind a yes. Nothing inside a slice of another length is looked at.
+unfoldable pub readingCodesOk : List ℕ → Bool
+readingCodesOk xs =
+    cond (eqb (length xs) readingLength) (leb (getD xs strategyAt 0) 1 && (leb (getD xs methodAt 0) 5 && leb (getD xs timeAugmentedAt 0) 1)) true
 
-unfoldable pub readLast : List ℕ → LastDescriptor
-readLast xs = cond (eqb (length xs) 23) (decodeLast xs) (decodeLast [])
+unfoldable pub lastCodesOk : List ℕ → Bool
+lastCodesOk xs =
+    cond (eqb (length xs) lastLength)
+    (leb (getD xs lastStrategyAt 0) 1 && (leb (getD xs hasAnomalyAt 0) 1 && (eqb (getD xs hasAnomalyAt 0) 0 || leb (getD xs hasAttributionAt 0) 1)))
+    true
+
+-- What is read of a slice: 3 for another length, then 2 for a code outside its list.
+unfoldable pub readReading : List ℕ → ReadingRead
+readReading xs = cond (eqb (length xs) readingLength) (cond (readingCodesOk xs) (Reads.Read (decodeReading xs)) (Reads.Refused Why.Range)) (Reads.Refused Why.Length)
+
+unfoldable pub readLast : List ℕ → LastRead
+readLast xs = cond (eqb (length xs) lastLength) (cond (lastCodesOk xs) (Lasts.Read (decodeLast xs)) (Lasts.Refused Why.Range)) (Lasts.Refused Why.Length)
 
 -- A verdict's kind (0 quiet, 1 corrected, 2 raised, 3 skipped), its correction mode's code, threshold, grade and relative index.
 unfoldable pub verdictBytes : ℕ → ℕ → Float → Float → ℤ → List ℕ

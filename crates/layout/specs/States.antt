@@ -1,15 +1,18 @@
--- The stored state: the fields in the Rust's order without gaps. A statistic has 36 bytes, a thresholder 149.
+-- A stored statistic and a stored thresholder: the fields in the Rust's order without gaps.
 use Prim.Native.Nat.{ℕ, _+_}
-use mathlib.Core.Bool.{false, cond}
+use mathlib.Core.Bool.{cond}
 use mathlib.Core.List.{List, [], _∷_, _++_}
-use lib.Dec.{eqb}
-use lib.ListN.{length}
+use lib.Dec.{eqb, leb}
+use lib.ListN.{length, getD}
+use Rattle.types.specs.declared.Refusal.the-variants.{Range, Length}
 use Rattle.deviation.specs.declared.Deviation.{Deviation}
-use Rattle.deviation.specs.Statistics.{fresh}
-use Rattle.deviation.specs.Const.{zero64}
 use Rattle.basicthresholder.specs.declared.BasicThresholder.{BasicThresholder}
 use Rattle.basicthresholder.specs.declared.Graded.{Graded}
-use Rattle.basicthresholder.specs.Updates.{freshThresholder}
+use Rattle.layout.specs.Places.{deviationLength, thresholderLength, autoThresholdAt}
+use Rattle.layout.specs.declared.DeviationRead.{DeviationRead}
+use Rattle.layout.specs.declared.DeviationRead.the-variants as Statistics
+use Rattle.layout.specs.declared.ThresholderRead.{ThresholderRead}
+use Rattle.layout.specs.declared.ThresholderRead.the-variants as Thresholders
 use Rattle.layout.specs.Numbers.{f32At, f64At, i32At, flagAt, f32Bytes, f64Bytes, i32Bytes, flagBytes}
 
 -- The statistic from place i on.
@@ -42,7 +45,7 @@ decodeThresholder xs = record {
   «primary_deviation» = deviationAt xs 16;
   «secondary_deviation» = deviationAt xs 52;
   «threshold_deviation» = deviationAt xs 88;
-  «auto_threshold» = flagAt xs 124;
+  «auto_threshold» = flagAt xs autoThresholdAt;
   «absolute_threshold» = f32At xs 125;
   «absolute_score_fraction» = f32At xs 129;
   «lower_threshold» = f32At xs 133;
@@ -63,9 +66,12 @@ encodeThresholder s =
 unfoldable pub encodeGraded : Graded → List ℕ
 encodeGraded g = joined (f32Bytes (g .threshold) ∷ f32Bytes (g .grade) ∷ [])
 
--- What a reading call answers: the state of a slice of its length, of any other slice a fresh state with discount 0.
-unfoldable pub readDeviation : List ℕ → Deviation
-readDeviation xs = cond (eqb (length xs) 36) (decodeDeviation xs) (fresh zero64)
+-- What is read of a slice: 3 for another length, then 2 for a yes/no byte above 1.
+unfoldable pub readDeviation : List ℕ → DeviationRead
+readDeviation xs = cond (eqb (length xs) deviationLength) (Statistics.Read (decodeDeviation xs)) (Statistics.Refused Length)
 
-unfoldable pub readThresholder : List ℕ → BasicThresholder
-readThresholder xs = cond (eqb (length xs) 149) (decodeThresholder xs) (freshThresholder zero64 false)
+unfoldable pub readThresholder : List ℕ → ThresholderRead
+readThresholder xs =
+    cond (eqb (length xs) thresholderLength)
+    (cond (leb (getD xs autoThresholdAt 0) 1) (Thresholders.Read (decodeThresholder xs)) (Thresholders.Refused Range))
+    (Thresholders.Refused Length)

@@ -7,19 +7,109 @@ use descriptor::LastDescriptor;
 use descriptor::Reading;
 use deviation::Deviation;
 use predictorcorrector::PredictorCorrector;
+use types::Answer;
 use types::MethodCode;
+use types::Refusal;
 use types::ScoringStrategy;
 use types::TransformMethod;
 ghost use mathlib.Core.Path.{_≡_};
 ghost use mathlib.Core.List.{[], _∷_};
 ghost use Prim.Native.Nat.{_+_, _*_, _≤_, _<_};
 ghost use lib.ListN.{length, replicate};
+ghost use Rattle.deviation.specs.Statistics.{reset, counted};
+ghost use Rattle.predictorcorrector.specs.Lists.{changed, stepped, firstCountable};
+ghost use Rattle.predictorcorrector.specs.State.{longerRun};
 ghost use Rattle.types.specs.Codes as Codes;
+ghost use Rattle.layout.specs.Places.{deviationLength, thresholderLength, stateLength, expectedAt, listLength, readingLength, lastLength, verdictLength};
 ghost use Rattle.layout.specs.Numbers as Numbers;
 ghost use Rattle.layout.specs.States as States;
 ghost use Rattle.layout.specs.Chain as Chain;
 ghost use Rattle.layout.specs.Readings as Readings;
+ghost use Rattle.layout.specs.InPlace as InPlace;
+ghost use Rattle.layout.specs.Parts as Parts;
 ghost use Rattle.layout.specs.Parts.{singles, doubles};
+
+// How many bytes the records have.
+pub const DEVIATION_LENGTH: usize = 36;
+
+pub const THRESHOLDER_LENGTH: usize = 149;
+
+pub const STATE_LENGTH: usize = 1310;
+
+pub const READING_LENGTH: usize = 23;
+
+pub const LAST_LENGTH: usize = 23;
+
+pub const VERDICT_LENGTH: usize = 14;
+
+// Where parts of the state stand. It begins with its thresholder.
+const AUTO_THRESHOLD_AT: usize = 124;
+
+const AUTO_ADJUST_AT: usize = 149;
+
+const RUN_LENGTH_AT: usize = 150;
+
+const BASE_DIMENSION_AT: usize = 154;
+
+const ACTUAL_AT: usize = 158;
+
+const EXPECTED_AT: usize = 734;
+
+// The codes and yes/no bytes of a reading and of the last descriptor.
+const STRATEGY_AT: usize = 8;
+
+const METHOD_AT: usize = 9;
+
+const TIME_AUGMENTED_AT: usize = 10;
+
+const LAST_STRATEGY_AT: usize = 0;
+
+const HAS_ANOMALY_AT: usize = 9;
+
+const HAS_ATTRIBUTION_AT: usize = 18;
+
+// A statistic of 36 bytes.
+pub enum DeviationRead {
+    Read(Deviation),
+    Refused(Refusal),
+}
+
+pub enum ThresholderRead {
+    Read(BasicThresholder),
+    Refused(Refusal),
+}
+
+// What the calls on a stored state need of it: all but its lists, of which the last entry of each, and whether refusal 6 lets its counts pass.
+pub struct Core {
+    pub basic_thresholder: BasicThresholder,
+    pub auto_adjust: bool,
+    pub run_length: u32,
+    pub base_dimension: u32,
+    pub counts_ok: bool,
+    pub last_actual: Deviation,
+    pub last_expected: Deviation,
+}
+
+// An enum cannot hold the state's lists, so the answer stands beside it.
+pub struct StateRead {
+    pub answer: Answer,
+    pub state: PredictorCorrector,
+}
+
+pub enum CoreRead {
+    Read(Core),
+    Refused(Refusal),
+}
+
+pub enum ReadingRead {
+    Read(Reading),
+    Refused(Refusal),
+}
+
+pub enum LastRead {
+    Read(LastDescriptor),
+    Refused(Refusal),
+}
 
 fn wide(b: u8) -> u32
     ensures { λ r. ⌜ (r ≡ b) × (r < 0x100) ⌝ }
@@ -101,7 +191,7 @@ fn flag_at(bytes: &[u8], at: usize) -> bool
 }
 
 fn deviation_at(bytes: &[u8], at: usize) -> Deviation
-    requires { ⌜ at + 36 ≤ length (now bytes) ⌝ }
+    requires { ⌜ at + deviationLength ≤ length (now bytes) ⌝ }
     ensures { λ r. ⌜ r ≡ States.deviationAt (now (bytes .entry)) at ⌝ }
 {
     Deviation {
@@ -114,7 +204,7 @@ fn deviation_at(bytes: &[u8], at: usize) -> Deviation
 }
 
 fn thresholder_of(bytes: &[u8]) -> BasicThresholder
-    requires { ⌜ 149 ≤ length (now bytes) ⌝ }
+    requires { ⌜ thresholderLength ≤ length (now bytes) ⌝ }
     ensures { λ r. ⌜ r ≡ States.decodeThresholder (now (bytes .entry)) ⌝ }
 {
     let primary = deviation_at(bytes, 16);
@@ -128,7 +218,7 @@ fn thresholder_of(bytes: &[u8]) -> BasicThresholder
         primary_deviation: primary,
         secondary_deviation: secondary,
         threshold_deviation: third,
-        auto_threshold: flag_at(bytes, 124),
+        auto_threshold: flag_at(bytes, AUTO_THRESHOLD_AT),
         absolute_threshold: f32_at(bytes, 125),
         absolute_score_fraction: f32_at(bytes, 129),
         lower_threshold: f32_at(bytes, 133),
@@ -138,24 +228,27 @@ fn thresholder_of(bytes: &[u8]) -> BasicThresholder
     }
 }
 
-// The statistic of 36 bytes; of a slice of another length an empty one.
-pub fn read_deviation(bytes: &[u8]) -> Deviation
+// 3 for a slice of another length.
+pub fn read_deviation(bytes: &[u8]) -> DeviationRead
     ensures { λ r. ⌜ r ≡ States.readDeviation (now (bytes .entry)) ⌝ }
 {
-    if bytes.len() == 36 {
-        return deviation_at(bytes, 0);
+    if bytes.len() == DEVIATION_LENGTH {
+        return DeviationRead::Read(deviation_at(bytes, 0));
     }
-    Deviation::default()
+    DeviationRead::Refused(Refusal::Length)
 }
 
-// The thresholder of 149 bytes; of a slice of another length a new one with discount 0.
-pub fn read_thresholder(bytes: &[u8]) -> BasicThresholder
+// 3 for a slice of another length, then 2 for a yes/no byte above 1.
+pub fn read_thresholder(bytes: &[u8]) -> ThresholderRead
     ensures { λ r. ⌜ r ≡ States.readThresholder (now (bytes .entry)) ⌝ }
 {
-    if bytes.len() == 149 {
-        return thresholder_of(bytes);
+    if bytes.len() == THRESHOLDER_LENGTH {
+        if bytes[AUTO_THRESHOLD_AT] <= 1 {
+            return ThresholderRead::Read(thresholder_of(bytes));
+        }
+        return ThresholderRead::Refused(Refusal::Range);
     }
-    BasicThresholder::default()
+    ThresholderRead::Refused(Refusal::Length)
 }
 
 fn put4(out: &mut [u8], at: usize, n: u32)
@@ -200,7 +293,7 @@ fn flag_byte(b: bool) -> u8
 }
 
 fn put_deviation(out: &mut [u8], at: usize, d: Deviation)
-    requires { ⌜ at + 36 ≤ length (now out) ⌝ }
+    requires { ⌜ at + deviationLength ≤ length (now out) ⌝ }
     ensures { λ _. ⌜ now (out .exit) ≡ Numbers.pasted (now (out .entry)) at (States.encodeDeviation d) ⌝ }
 {
     put_doubles(out, at, d.discount, d.weight);
@@ -210,7 +303,7 @@ fn put_deviation(out: &mut [u8], at: usize, d: Deviation)
 
 // A thresholder stands first, alone or in the chain's state.
 fn put_thresholder(out: &mut [u8], s: BasicThresholder)
-    requires { ⌜ 149 ≤ length (now out) ⌝ }
+    requires { ⌜ thresholderLength ≤ length (now out) ⌝ }
     ensures { λ _. ⌜ now (out .exit) ≡ Numbers.pasted (now (out .entry)) 0 (States.encodeThresholder s) ⌝ }
 {
     put4(out, 0, ieee::f32_to_bits(s.elasticity));
@@ -219,7 +312,7 @@ fn put_thresholder(out: &mut [u8], s: BasicThresholder)
     put_deviation(out, 16, s.primary_deviation);
     put_deviation(out, 52, s.secondary_deviation);
     put_deviation(out, 88, s.threshold_deviation);
-    out[124] = flag_byte(s.auto_threshold);
+    out[AUTO_THRESHOLD_AT] = flag_byte(s.auto_threshold);
     put_singles(out, 125, s.absolute_threshold, s.absolute_score_fraction);
     put_singles(out, 133, s.lower_threshold, s.factor_adjustment_threshold);
     put_singles(out, 141, s.initial_threshold, s.z_factor);
@@ -227,17 +320,17 @@ fn put_thresholder(out: &mut [u8], s: BasicThresholder)
 
 // Each of these writes a slice of its length, and leaves any other as it is.
 pub fn write_deviation(out: &mut [u8], d: Deviation)
-    ensures { λ _. ⌜ now (out .exit) ≡ Numbers.writtenOf 36 (now (out .entry)) (States.encodeDeviation d) ⌝ }
+    ensures { λ _. ⌜ now (out .exit) ≡ Numbers.writtenOf deviationLength (now (out .entry)) (States.encodeDeviation d) ⌝ }
 {
-    if out.len() == 36 {
+    if out.len() == DEVIATION_LENGTH {
         put_deviation(out, 0, d);
     }
 }
 
 pub fn write_thresholder(out: &mut [u8], s: BasicThresholder)
-    ensures { λ _. ⌜ now (out .exit) ≡ Numbers.writtenOf 149 (now (out .entry)) (States.encodeThresholder s) ⌝ }
+    ensures { λ _. ⌜ now (out .exit) ≡ Numbers.writtenOf thresholderLength (now (out .entry)) (States.encodeThresholder s) ⌝ }
 {
-    if out.len() == 149 {
+    if out.len() == THRESHOLDER_LENGTH {
         put_thresholder(out, s);
     }
 }
@@ -313,75 +406,347 @@ fn empty_list() -> [Deviation; 16]
 
 // The first n entries of a list that is stored from `at` on; those behind them all zero.
 fn list_at(bytes: &[u8], at: usize, n: usize) -> [Deviation; 16]
-    requires { ⌜ n ≤ 16 ⌝ ∗ ⌜ at ≤ 734 ⌝ ∗ ⌜ at + 576 ≤ length (now bytes) ⌝ }
+    requires { ⌜ n ≤ 16 ⌝ ∗ ⌜ at ≤ expectedAt ⌝ ∗ ⌜ at + listLength ≤ length (now bytes) ⌝ }
     ensures { λ r. ⌜ r ≡ Chain.listAt (now (bytes .entry)) at n ⌝ }
 {
     let mut out = empty_list();
     let mut i = 0usize;
     while i < n {
-        out[i] = deviation_at(bytes, at + 36 * i);
+        out[i] = deviation_at(bytes, at + DEVIATION_LENGTH * i);
         i += 1;
     }
     out
 }
 
 fn state_of(bytes: &[u8]) -> PredictorCorrector
-    requires { ⌜ length (now bytes) ≡ 1310 ⌝ }
+    requires { ⌜ length (now bytes) ≡ stateLength ⌝ }
     ensures { λ r. ⌜ r ≡ Chain.decodeState (now (bytes .entry)) ⌝ }
 {
-    let auto_adjust = flag_at(bytes, 149);
-    let base_dimension = read4(bytes, 154);
+    let auto_adjust = flag_at(bytes, AUTO_ADJUST_AT);
+    let base_dimension = read4(bytes, BASE_DIMENSION_AT);
     let n = entries(auto_adjust, base_dimension);
     PredictorCorrector {
         basic_thresholder: thresholder_of(bytes),
         auto_adjust,
-        run_length: read4(bytes, 150),
+        run_length: read4(bytes, RUN_LENGTH_AT),
         base_dimension,
-        deviations_actual: list_at(bytes, 158, n),
-        deviations_expected: list_at(bytes, 734, n),
+        deviations_actual: list_at(bytes, ACTUAL_AT, n),
+        deviations_expected: list_at(bytes, EXPECTED_AT, n),
     }
 }
 
-// The chain's state of 1310 bytes; of a slice of another length a new one with discount 0 and base 1.
-pub fn read_state(bytes: &[u8]) -> PredictorCorrector
+// The state's two yes/no bytes hold 0 or 1. Nothing inside a slice of another length is looked at.
+pub fn state_codes_ok(bytes: &[u8]) -> bool
+    ensures { λ r. ⌜ r ≡ Chain.stateCodesOk (now (bytes .entry)) ⌝ }
+{
+    if bytes.len() == STATE_LENGTH {
+        return (bytes[AUTO_THRESHOLD_AT] <= 1) & (bytes[AUTO_ADJUST_AT] <= 1);
+    }
+    true
+}
+
+// The counts of a stored list's first n entries take an update.
+fn counts_at(bytes: &[u8], at: usize, n: usize) -> bool
+    requires { ⌜ n ≤ 16 ⌝ ∗ ⌜ at ≤ expectedAt ⌝ ∗ ⌜ at + listLength ≤ length (now bytes) ⌝ }
+    ensures { λ r. ⌜ r ≡ firstCountable n (Chain.listAt (now (bytes .entry)) at n) ⌝ }
+{
+    let mut i = 0usize;
+    while i < n {
+        if deviation::countable(i32_at(bytes, at + DEVIATION_LENGTH * i + 32)) {
+            i += 1;
+        } else {
+            return false;
+        }
+    }
+    true
+}
+
+// The entry before `base` of a stored list whose first n entries exist.
+fn last_entry(bytes: &[u8], at: usize, n: usize, base: usize) -> Deviation
+    requires { ⌜ n ≤ 16 ⌝ ∗ ⌜ at ≤ expectedAt ⌝ ∗ ⌜ at + listLength ≤ length (now bytes) ⌝ }
+    ensures { λ r. ⌜ r ≡ Parts.lastOf (now (bytes .entry)) at n base ⌝ }
+{
+    if (n == base) & (1 <= n) {
+        return deviation_at(bytes, at + DEVIATION_LENGTH * (n - 1));
+    }
+    Deviation::default()
+}
+
+fn core_of(bytes: &[u8]) -> Core
+    requires { ⌜ length (now bytes) ≡ stateLength ⌝ }
+    ensures { λ r. ⌜ r ≡ Chain.coreOf (Chain.decodeState (now (bytes .entry))) ⌝ }
+{
+    let auto_adjust = flag_at(bytes, AUTO_ADJUST_AT);
+    let run_length = read4(bytes, RUN_LENGTH_AT);
+    let base_dimension = read4(bytes, BASE_DIMENSION_AT);
+    let n = entries(auto_adjust, base_dimension);
+    let t = thresholder_of(bytes);
+    Core {
+        basic_thresholder: t,
+        auto_adjust,
+        run_length,
+        base_dimension,
+        counts_ok: (run_length <= 16777215)
+            & (t.counts_ok() & (counts_at(bytes, ACTUAL_AT, n) & counts_at(bytes, EXPECTED_AT, n))),
+        last_actual: last_entry(bytes, ACTUAL_AT, n, base_dimension as usize),
+        last_expected: last_entry(bytes, EXPECTED_AT, n, base_dimension as usize),
+    }
+}
+
+// Beside a refusal stands what stands beside a refused construction, a state that means nothing.
+fn unread(why: Refusal) -> StateRead
+    ensures { λ r. ⌜ r ≡ Chain.unread why ⌝ }
+{
+    let made = PredictorCorrector::new(0.0, false, 0);
+    let state = made.state;
+    StateRead {
+        answer: Answer::Refused(why),
+        state,
+    }
+}
+
+// The whole state by value: 3 for a slice of another length, then 2 for a yes/no byte above 1.
+pub fn read_state(bytes: &[u8]) -> StateRead
     ensures { λ r. ⌜ r ≡ Chain.readState (now (bytes .entry)) ⌝ }
 {
-    if bytes.len() == 1310 {
-        return state_of(bytes);
+    if bytes.len() == STATE_LENGTH {
+        if state_codes_ok(bytes) {
+            return StateRead {
+                answer: Answer::Done,
+                state: state_of(bytes),
+            };
+        }
+        return unread(Refusal::Range);
     }
-    let made = PredictorCorrector::new(0.0, false, 1);
-    made.state
+    unread(Refusal::Length)
+}
+
+// The same without its lists.
+pub fn read_core(bytes: &[u8]) -> CoreRead
+    ensures { λ r. ⌜ r ≡ Chain.readCore (now (bytes .entry)) ⌝ }
+{
+    if bytes.len() == STATE_LENGTH {
+        if state_codes_ok(bytes) {
+            return CoreRead::Read(core_of(bytes));
+        }
+        return CoreRead::Refused(Refusal::Range);
+    }
+    CoreRead::Refused(Refusal::Length)
 }
 
 // The first n entries of a list, written from `at` on; the bytes of those behind them stay.
 fn put_list(out: &mut [u8], at: usize, list: [Deviation; 16], n: usize)
-    requires { ⌜ n ≤ 16 ⌝ ∗ ⌜ at ≤ 734 ⌝ ∗ ⌜ at + 576 ≤ length (now out) ⌝ }
+    requires { ⌜ n ≤ 16 ⌝ ∗ ⌜ at ≤ expectedAt ⌝ ∗ ⌜ at + listLength ≤ length (now out) ⌝ }
     ensures { λ _. ⌜ now (out .exit) ≡ Chain.listOver (now (out .entry)) at list n ⌝ }
 {
     let mut i = 0usize;
     while i < n {
-        put_deviation(out, at + 36 * i, list[i]);
+        put_deviation(out, at + DEVIATION_LENGTH * i, list[i]);
         i += 1;
     }
 }
 
-pub fn write_state(out: &mut [u8], s: PredictorCorrector)
-    ensures { λ _. ⌜ now (out .exit) ≡ Numbers.writtenOf 1310 (now (out .entry)) (Chain.encodeStateOver (now (out .entry)) s) ⌝ }
+// The first n entries of a list stored from `at` on, each read and written back in place: a NaN gets its one pattern.
+fn settle_list(out: &mut [u8], at: usize, n: usize)
+    requires { ⌜ n ≤ 16 ⌝ ∗ ⌜ at ≤ expectedAt ⌝ ∗ ⌜ at + listLength ≤ length (now out) ⌝ }
+    ensures { λ _. ⌜ now (out .exit) ≡ Chain.listOver (now (out .entry)) at (Chain.listAt (now (out .entry)) at n) n ⌝ }
 {
-    if out.len() == 1310 {
-        let n = entries(s.auto_adjust, s.base_dimension);
-        let actual = s.deviations_actual;
-        let expected = s.deviations_expected;
-        put_thresholder(out, s.basic_thresholder);
-        out[149] = flag_byte(s.auto_adjust);
-        put4(out, 150, s.run_length);
-        put4(out, 154, s.base_dimension);
-        put_list(out, 158, actual, n);
-        put_list(out, 734, expected, n);
+    let mut i = 0usize;
+    while i < n {
+        let d = deviation_at(out, at + DEVIATION_LENGTH * i);
+        put_deviation(out, at + DEVIATION_LENGTH * i, d);
+        i += 1;
     }
 }
 
-// Code 0 is the height strategy's, and any other is taken for DISTANCE; a method's code outside its list for NONE. Callers refuse such codes.
+// Each reset in place.
+fn reset_list(out: &mut [u8], at: usize, n: usize)
+    requires { ⌜ n ≤ 16 ⌝ ∗ ⌜ at ≤ expectedAt ⌝ ∗ ⌜ at + listLength ≤ length (now out) ⌝ }
+    ensures { λ _. ⌜ now (out .exit) ≡ Chain.listOver (now (out .entry)) at (changed reset n (Chain.listAt (now (out .entry)) at n)) n ⌝ }
+{
+    let mut i = 0usize;
+    while i < n {
+        let d = deviation_at(out, at + DEVIATION_LENGTH * i);
+        put_deviation(out, at + DEVIATION_LENGTH * i, d.reset());
+        i += 1;
+    }
+}
+
+// Each counts its number of a row in place.
+fn count_list(out: &mut [u8], at: usize, n: usize, row: &[f32])
+    requires { ⌜ n ≤ 16 ⌝ ∗ ⌜ at ≤ expectedAt ⌝ ∗ ⌜ at + listLength ≤ length (now out) ⌝ ∗ ⌜ n ≤ length (now row) ⌝ }
+    ensures { λ _. ⌜ now (out .exit) ≡ Chain.listOver (now (out .entry)) at (stepped counted n (Chain.listAt (now (out .entry)) at n) (now (row .entry))) n ⌝ }
+{
+    let mut i = 0usize;
+    while i < n {
+        let d = deviation_at(out, at + DEVIATION_LENGTH * i);
+        put_deviation(
+            out,
+            at + DEVIATION_LENGTH * i,
+            d.counted(std::num::f32_to_f64_with_nan(row[i])),
+        );
+        i += 1;
+    }
+}
+
+// The same for a base dimension, as the struct's lists have it: at most 16 entries; a base over 16 or a shorter row changes none.
+fn settle_row(out: &mut [u8], at: usize, base: usize)
+    requires { ⌜ at ≤ expectedAt ⌝ ∗ ⌜ at + listLength ≤ length (now out) ⌝ }
+    ensures { λ _. ⌜ now (out .exit) ≡ Parts.rowKeptOver (now (out .entry)) at base ⌝ }
+{
+    if base <= 16 {
+        settle_list(out, at, base);
+        return;
+    }
+    settle_list(out, at, 16);
+}
+
+fn reset_row(out: &mut [u8], at: usize, base: usize)
+    requires { ⌜ at ≤ expectedAt ⌝ ∗ ⌜ at + listLength ≤ length (now out) ⌝ }
+    ensures { λ _. ⌜ now (out .exit) ≡ Parts.rowResetOver (now (out .entry)) at base ⌝ }
+{
+    if base <= 16 {
+        reset_list(out, at, base);
+        return;
+    }
+    settle_list(out, at, 16);
+}
+
+fn count_row(out: &mut [u8], at: usize, base: usize, row: &[f32])
+    requires { ⌜ at ≤ expectedAt ⌝ ∗ ⌜ at + listLength ≤ length (now out) ⌝ }
+    ensures { λ _. ⌜ now (out .exit) ≡ Parts.rowCountedOver (now (out .entry)) at base (now (row .entry)) ⌝ }
+{
+    if base <= 16 {
+        if base <= row.len() {
+            count_list(out, at, base, row);
+            return;
+        }
+        settle_list(out, at, base);
+        return;
+    }
+    settle_list(out, at, 16);
+}
+
+// What stands before the lists.
+fn put_head(
+    out: &mut [u8],
+    t: BasicThresholder,
+    auto_adjust: bool,
+    run_length: u32,
+    base_dimension: u32,
+)
+    requires { ⌜ length (now out) ≡ stateLength ⌝ }
+    ensures { λ _. ⌜ now (out .exit) ≡ Numbers.pasted (now (out .entry)) 0 (Parts.head t «auto_adjust» «run_length» «base_dimension») ⌝ }
+{
+    put_thresholder(out, t);
+    out[AUTO_ADJUST_AT] = flag_byte(auto_adjust);
+    put4(out, RUN_LENGTH_AT, run_length);
+    put4(out, BASE_DIMENSION_AT, base_dimension);
+}
+
+// One more of a run, up to 16,777,216.
+pub fn longer_run(n: u32) -> u32
+    ensures { λ r. ⌜ r ≡ longerRun n ⌝ }
+{
+    if n <= 16777215 {
+        return n + 1;
+    }
+    n
+}
+
+// Each of these gives a stored state another thresholder, and writes the two lists with auto adjust only. A slice of another length is left alone.
+
+// With another run length too; the lists as they are.
+pub fn write_kept(out: &mut [u8], t: BasicThresholder, run_length: u32)
+    ensures { λ _. ⌜ now (out .exit) ≡ Numbers.writtenOf stateLength (now (out .entry)) (Chain.encodeStateOver (now (out .entry)) (InPlace.kept (Chain.decodeState (now (out .entry))) t «run_length»)) ⌝ }
+{
+    if out.len() == STATE_LENGTH {
+        let auto_adjust = flag_at(out, AUTO_ADJUST_AT);
+        let base = read4(out, BASE_DIMENSION_AT);
+        put_head(out, t, auto_adjust, run_length, base);
+        if auto_adjust {
+            settle_row(out, ACTUAL_AT, base as usize);
+            settle_row(out, EXPECTED_AT, base as usize);
+        }
+    }
+}
+
+// A run of this length ends: with auto adjust it is 0, and both lists are reset.
+pub fn write_ended(out: &mut [u8], t: BasicThresholder, run_length: u32)
+    ensures { λ _. ⌜ now (out .exit) ≡ Numbers.writtenOf stateLength (now (out .entry)) (Chain.encodeStateOver (now (out .entry)) (InPlace.ended (Chain.decodeState (now (out .entry))) t «run_length»)) ⌝ }
+{
+    if out.len() == STATE_LENGTH {
+        let auto_adjust = flag_at(out, AUTO_ADJUST_AT);
+        if auto_adjust {
+            let base = read4(out, BASE_DIMENSION_AT);
+            put_head(out, t, auto_adjust, 0, base);
+            reset_row(out, ACTUAL_AT, base as usize);
+            reset_row(out, EXPECTED_AT, base as usize);
+            return;
+        }
+        write_kept(out, t, run_length);
+    }
+}
+
+// `update_auto_adjust`: within a run with auto adjust, the first list counts the oldest row, the first of the point, and the run is one longer.
+pub fn write_adjusted(out: &mut [u8], t: BasicThresholder, run_length: u32, point: &[f32])
+    ensures { λ _. ⌜ now (out .exit) ≡ Numbers.writtenOf stateLength (now (out .entry)) (Chain.encodeStateOver (now (out .entry)) (InPlace.adjusted (Chain.decodeState (now (out .entry))) t «run_length» (now (point .entry)))) ⌝ }
+{
+    if out.len() == STATE_LENGTH {
+        let auto_adjust = flag_at(out, AUTO_ADJUST_AT);
+        if auto_adjust & (0 < run_length) {
+            let base = read4(out, BASE_DIMENSION_AT);
+            let longer = longer_run(run_length);
+            put_head(out, t, auto_adjust, longer, base);
+            count_row(out, ACTUAL_AT, base as usize, point);
+            settle_row(out, EXPECTED_AT, base as usize);
+            return;
+        }
+        write_kept(out, t, run_length);
+    }
+}
+
+// The candidate branch: the lists count the newest rows of the point and of the expected point.
+pub fn write_counted(
+    out: &mut [u8],
+    t: BasicThresholder,
+    run_length: u32,
+    newest: &[f32],
+    newest_expected: &[f32],
+)
+    ensures { λ _. ⌜ now (out .exit) ≡ Numbers.writtenOf stateLength (now (out .entry)) (Chain.encodeStateOver (now (out .entry)) (InPlace.counted (Chain.decodeState (now (out .entry))) t «run_length» (now (newest .entry)) (now («newest_expected» .entry)))) ⌝ }
+{
+    if out.len() == STATE_LENGTH {
+        let auto_adjust = flag_at(out, AUTO_ADJUST_AT);
+        let base = read4(out, BASE_DIMENSION_AT);
+        put_head(out, t, auto_adjust, run_length, base);
+        if auto_adjust {
+            count_row(out, ACTUAL_AT, base as usize, newest);
+            count_row(out, EXPECTED_AT, base as usize, newest_expected);
+        }
+    }
+}
+
+pub fn write_state(out: &mut [u8], s: PredictorCorrector)
+    ensures { λ _. ⌜ now (out .exit) ≡ Numbers.writtenOf stateLength (now (out .entry)) (Chain.encodeStateOver (now (out .entry)) s) ⌝ }
+{
+    if out.len() == STATE_LENGTH {
+        let n = entries(s.auto_adjust, s.base_dimension);
+        let actual = s.deviations_actual;
+        let expected = s.deviations_expected;
+        put_head(
+            out,
+            s.basic_thresholder,
+            s.auto_adjust,
+            s.run_length,
+            s.base_dimension,
+        );
+        put_list(out, ACTUAL_AT, actual, n);
+        put_list(out, EXPECTED_AT, expected, n);
+    }
+}
+
+// Code 0 is the height strategy's, and any other is taken for DISTANCE; a method's code outside its list for NONE. Such codes are refused first.
 fn strategy_of(code: u8) -> ScoringStrategy
     ensures { λ r. ⌜ r ≡ Readings.strategyFrom code ⌝ }
 {
@@ -408,91 +773,100 @@ fn size_at(bytes: &[u8], at: usize) -> usize
 }
 
 fn reading_of(bytes: &[u8]) -> Reading
-    requires { ⌜ length (now bytes) ≡ 23 ⌝ }
+    requires { ⌜ length (now bytes) ≡ readingLength ⌝ }
     ensures { λ r. ⌜ r ≡ Readings.decodeReading (now (bytes .entry)) ⌝ }
 {
-    let strategy = strategy_of(bytes[8]);
-    let method = method_of(bytes[9]);
+    let strategy = strategy_of(bytes[STRATEGY_AT]);
+    let method = method_of(bytes[METHOD_AT]);
     Reading {
         shingle_size: size_at(bytes, 0),
         base_dimension: size_at(bytes, 4),
         scoring_strategy: strategy,
         transform_method: method,
-        time_augmented: flag_at(bytes, 10),
+        time_augmented: flag_at(bytes, TIME_AUGMENTED_AT),
         values_seen: size_at(bytes, 11),
         score: f32_at(bytes, 15),
         corrected_score: f32_at(bytes, 19),
     }
 }
 
-// A reading's 23 bytes; of a slice of another length all zeros.
-pub fn read_reading(bytes: &[u8]) -> Reading
+// Strategy, method and the yes/no of time augmentation are in their lists. Nothing inside a slice of another length is looked at.
+pub fn reading_codes_ok(bytes: &[u8]) -> bool
+    ensures { λ r. ⌜ r ≡ Readings.readingCodesOk (now (bytes .entry)) ⌝ }
+{
+    if bytes.len() == READING_LENGTH {
+        return (bytes[STRATEGY_AT] <= 1)
+            & ((bytes[METHOD_AT] <= 5) & (bytes[TIME_AUGMENTED_AT] <= 1));
+    }
+    true
+}
+
+// 3 for a slice of another length, then 2 for a code outside its list.
+pub fn read_reading(bytes: &[u8]) -> ReadingRead
     ensures { λ r. ⌜ r ≡ Readings.readReading (now (bytes .entry)) ⌝ }
 {
-    if bytes.len() == 23 {
-        return reading_of(bytes);
+    if bytes.len() == READING_LENGTH {
+        if reading_codes_ok(bytes) {
+            return ReadingRead::Read(reading_of(bytes));
+        }
+        return ReadingRead::Refused(Refusal::Range);
     }
-    Reading {
-        shingle_size: 0,
-        base_dimension: 0,
-        scoring_strategy: ScoringStrategy::EXPECTED_INVERSE_HEIGHT,
-        transform_method: TransformMethod::NONE,
-        time_augmented: false,
-        values_seen: 0,
-        score: 0.0,
-        corrected_score: 0.0,
-    }
+    ReadingRead::Refused(Refusal::Length)
 }
 
 fn anomaly_of(bytes: &[u8]) -> LastAnomaly
-    requires { ⌜ length (now bytes) ≡ 23 ⌝ }
+    requires { ⌜ length (now bytes) ≡ lastLength ⌝ }
     ensures { λ r. ⌜ r ≡ Readings.decodeAnomaly (now (bytes .entry)) ⌝ }
 {
     LastAnomaly {
         relative_index: i32_at(bytes, 10),
         values_seen: size_at(bytes, 14),
-        has_attribution: flag_at(bytes, 18),
+        has_attribution: flag_at(bytes, HAS_ATTRIBUTION_AT),
         score: f32_at(bytes, 19),
     }
 }
 
 fn last_of(bytes: &[u8]) -> LastDescriptor
-    requires { ⌜ length (now bytes) ≡ 23 ⌝ }
+    requires { ⌜ length (now bytes) ≡ lastLength ⌝ }
     ensures { λ r. ⌜ r ≡ Readings.decodeLast (now (bytes .entry)) ⌝ }
 {
-    let strategy = strategy_of(bytes[0]);
+    let strategy = strategy_of(bytes[LAST_STRATEGY_AT]);
     let anomaly = anomaly_of(bytes);
     LastDescriptor {
         scoring_strategy: strategy,
         score: f32_at(bytes, 1),
         threshold: f32_at(bytes, 5),
-        has_anomaly: flag_at(bytes, 9),
+        has_anomaly: flag_at(bytes, HAS_ANOMALY_AT),
         anomaly,
     }
 }
 
-// The last descriptor's 23 bytes; of a slice of another length all zeros.
-pub fn read_last(bytes: &[u8]) -> LastDescriptor
-    ensures { λ r. ⌜ r ≡ Readings.readLast (now (bytes .entry)) ⌝ }
+// Strategy and the yes/no of an anomaly are in their lists, behind a yes that of its attribution too. Nothing inside a slice of another length is looked at.
+pub fn last_codes_ok(bytes: &[u8]) -> bool
+    ensures { λ r. ⌜ r ≡ Readings.lastCodesOk (now (bytes .entry)) ⌝ }
 {
-    if bytes.len() == 23 {
-        return last_of(bytes);
+    if bytes.len() == LAST_LENGTH {
+        return (bytes[LAST_STRATEGY_AT] <= 1)
+            & ((bytes[HAS_ANOMALY_AT] <= 1)
+                & ((bytes[HAS_ANOMALY_AT] == 0) | (bytes[HAS_ATTRIBUTION_AT] <= 1)));
     }
-    LastDescriptor {
-        scoring_strategy: ScoringStrategy::EXPECTED_INVERSE_HEIGHT,
-        score: 0.0,
-        threshold: 0.0,
-        has_anomaly: false,
-        anomaly: LastAnomaly {
-            relative_index: 0,
-            values_seen: 0,
-            has_attribution: false,
-            score: 0.0,
-        },
-    }
+    true
 }
 
-// A verdict by its parts, 14 bytes.
+// 3 for a slice of another length, then 2 for a code outside its list.
+pub fn read_last(bytes: &[u8]) -> LastRead
+    ensures { λ r. ⌜ r ≡ Readings.readLast (now (bytes .entry)) ⌝ }
+{
+    if bytes.len() == LAST_LENGTH {
+        if last_codes_ok(bytes) {
+            return LastRead::Read(last_of(bytes));
+        }
+        return LastRead::Refused(Refusal::Range);
+    }
+    LastRead::Refused(Refusal::Length)
+}
+
+// A verdict by its parts.
 pub fn write_verdict(
     out: &mut [u8],
     kind: u8,
@@ -501,9 +875,9 @@ pub fn write_verdict(
     grade: f32,
     relative_index: i32,
 )
-    ensures { λ _. ⌜ now (out .exit) ≡ Numbers.writtenOf 14 (now (out .entry)) (Readings.verdictBytes kind mode threshold grade «relative_index») ⌝ }
+    ensures { λ _. ⌜ now (out .exit) ≡ Numbers.writtenOf verdictLength (now (out .entry)) (Readings.verdictBytes kind mode threshold grade «relative_index») ⌝ }
 {
-    if out.len() == 14 {
+    if out.len() == VERDICT_LENGTH {
         out[0] = kind;
         out[1] = mode;
         put_singles(out, 2, threshold, grade);

@@ -1,4 +1,4 @@
-// Judges the readings of standard input with `detect_and_modify` and writes one line for each: its title, the refusal's number or 0, the verdict's 14 bytes, a
+// Judges the readings of standard input with `krcf_detect_and_modify` and writes one line for each: its title, the refusal's number or 0, the verdict's 14 bytes, a
 // checksum of the state's bytes afterwards, and one of the three buffers. Standard input has the readings of oracle/exits.txt, and standard output is to be the
 // Rust's lines, both as `oracle/run SOURCES sample` writes them.
 //
@@ -108,7 +108,7 @@ fn write_line(b: &[u8; 1783], number: u8, verdict: &[u8; 14], buffers: u64) {
     io::write_all(1, b" ");
     write_verdict(verdict);
     io::write_all(1, b" ");
-    io::print_hex(1, mix_bytes(part(b, 40, 1310)), 16);
+    io::print_hex(1, mix_bytes(part(b, 40, layout::STATE_LENGTH)), 16);
     io::write_all(1, b" ");
     io::print_hex(1, buffers, 16);
     io::write_all(1, b"\n");
@@ -128,10 +128,11 @@ fn show(given: [u8; 1783]) {
     let mut expected = [-1.0f32; 8];
     let mut high = [-1.0f64; 8];
     let mut low = [-1.0f64; 8];
-    let judgment = detection::detect_and_modify(
-        layout::read_state(part(&b, 40, 1310)),
-        layout::read_reading(part(&b, 1350, 23)),
-        layout::read_last(part(&b, 1373, 23)),
+    let mut verdict = [0u8; 14];
+    let number = c_judging::krcf_detect_and_modify(
+        &mut b[40..1350],
+        part(&given, 1350, layout::READING_LENGTH),
+        part(&given, 1373, layout::LAST_LENGTH),
         row(x, 0, d),
         row(x, 8, base),
         row(x, 16, base),
@@ -147,9 +148,8 @@ fn show(given: [u8; 1783]) {
         &mut expected[..d],
         &mut high[..d],
         &mut low[..d],
+        &mut verdict,
     );
-    let mut verdict = [0u8; 14];
-    let number = verdict_bytes::put_judgment(&mut b[40..1350], &mut verdict, judgment);
     write_line(&b, number, &verdict, mix_buffers(expected, high, low));
 }
 

@@ -6,8 +6,8 @@ use borrow.Author.Needs.{needs}
 use Rattle.c_calls.proofs.krcf_update_auto_adjust.Statement.{statement}
 use Rattle.c_calls.proofs.krcf_update_auto_adjust.Tie as tie
 
-codes-ok-requires : tie.Need-codes-ok-requires
-codes-ok-requires c κs = search needs
+state-codes-ok-requires : tie.Need-state-codes-ok-requires
+state-codes-ok-requires c κs = search needs
 
 read-state-requires : tie.Need-read-state-requires
 read-state-requires c κs = search needs
@@ -31,13 +31,13 @@ same-length : tie.Need-same-length
 same-length c = search needs
 
 returns : tie.Need-returns
-returns c = adjusted (now (c .before .before .before .before .before .before .before .before .before .before .before .before .before .before .before .before .args .state)) (c .before .before .before .before .before .before .before .before .before .before .before .before .before .before .before .before .args .shingle-size) (now (c .before .before .before .before .before .before .before .before .before .before .before .before .before .before .before .before .args .point)) (sym (c .before .before .before .before .before .before .before .before .before .before .before .before .codes-ok .ensures) ∙ c .before .before .before .before .before .before .before .before .before .before .before .if1 .taken) (eq-eqb _ _ (c .before .before .before .before .before .before .before .before .before .before .if2 .taken)) _ (c .before .before .before .before .before .before .before .before .read-state .ensures) _ (c .before .before .before .before .before .before .before .update-auto-adjust .ensures) _ (c .before .before .before .before .enum-told .given .1) (c .before .before .write-state .ensures)
+returns c = adjusted (now (c .before .before .before .before .before .before .before .before .before .before .before .before .before .before .before .before .before .args .state)) (c .before .before .before .before .before .before .before .before .before .before .before .before .before .before .before .before .before .args .shingle-size) (now (c .before .before .before .before .before .before .before .before .before .before .before .before .before .before .before .before .before .args .point)) (sym (c .before .before .before .before .before .before .before .before .before .before .before .before .before .state-codes-ok .ensures) ∙ c .before .before .before .before .before .before .before .before .before .before .before .before .if1 .taken) (eq-eqb _ _ (c .before .before .before .before .before .before .before .before .before .before .before .if2 .taken)) _ (c .before .before .before .before .before .before .before .before .before .read-state .ensures) _ (c .before .before .before .before .before .before .before .update-auto-adjust .ensures) _ (c .before .before .before .before .enum-told .given .1) (c .before .before .write-state .ensures)
 
 same-length-2 : tie.Need-same-length-2
 same-length-2 c = search needs
 
 returns-2 : tie.Need-returns-2
-returns-2 c = unadjusted (now (c .before .before .before .before .before .before .before .before .before .before .before .before .before .before .args .state)) (c .before .before .before .before .before .before .before .before .before .before .before .before .before .before .args .shingle-size) (now (c .before .before .before .before .before .before .before .before .before .before .before .before .before .before .args .point)) (sym (c .before .before .before .before .before .before .before .before .before .before .codes-ok .ensures) ∙ c .before .before .before .before .before .before .before .before .before .if1 .taken) (eq-eqb _ _ (c .before .before .before .before .before .before .before .before .if2 .taken)) _ (c .before .before .before .before .before .before .read-state .ensures) _ (c .before .before .before .before .before .update-auto-adjust .ensures) _ _ (c .before .before .answer .given .1) (c .number .ensures)
+returns-2 c = unadjusted (now (c .before .before .before .before .before .before .before .before .before .before .before .before .before .before .before .args .state)) (c .before .before .before .before .before .before .before .before .before .before .before .before .before .before .before .args .shingle-size) (now (c .before .before .before .before .before .before .before .before .before .before .before .before .before .before .before .args .point)) (sym (c .before .before .before .before .before .before .before .before .before .before .before .state-codes-ok .ensures) ∙ c .before .before .before .before .before .before .before .before .before .before .if1 .taken) (eq-eqb _ _ (c .before .before .before .before .before .before .before .before .before .if2 .taken)) _ (c .before .before .before .before .before .before .before .read-state .ensures) _ (c .before .before .before .before .before .update-auto-adjust .ensures) _ _ (c .before .before .answer .given .1) (c .number .ensures)
 
 sizes-ok-requires : tie.Need-sizes-ok-requires
 sizes-ok-requires c κs = search needs
@@ -46,25 +46,25 @@ same-length-3 : tie.Need-same-length-3
 same-length-3 c = search needs
 
 returns-3 : tie.Need-returns-3
-returns-3 c = bad-length (now (c .before .before .before .before .before .before .before .before .args .state)) (c .before .before .before .before .before .before .before .before .args .shingle-size) (now (c .before .before .before .before .before .before .before .before .args .point)) (sym (c .before .before .before .before .codes-ok .ensures) ∙ c .before .before .before .if1 .taken) (ne-eqb _ _ (c .before .before .if2 .left)) (sym (c .before .sizes-ok .ensures) ∙ c .if3 .taken)
+returns-3 c = bad-length (now (c .before .before .before .before .before .before .before .before .args .state)) (c .before .before .before .before .before .before .before .before .args .shingle-size) (now (c .before .before .before .before .before .before .before .before .args .point)) (sym (c .before .before .before .before .state-codes-ok .ensures) ∙ c .before .before .before .if1 .taken) (ne-eqb _ _ (c .before .before .if2 .left)) (sym (c .before .sizes-ok .ensures) ∙ c .if3 .taken)
 
 same-length-4 : tie.Need-same-length-4
 same-length-4 c = search needs
 
 returns-4 : tie.Need-returns-4
-returns-4 c = bad-size (now (c .before .before .before .before .before .before .before .before .args .state)) (c .before .before .before .before .before .before .before .before .args .shingle-size) (now (c .before .before .before .before .before .before .before .before .args .point)) (sym (c .before .before .before .before .codes-ok .ensures) ∙ c .before .before .before .if1 .taken) (ne-eqb _ _ (c .before .before .if2 .left)) (sym (c .before .sizes-ok .ensures) ∙ c .if3 .left)
+returns-4 c = bad-size (now (c .before .before .before .before .before .before .before .before .args .state)) (c .before .before .before .before .before .before .before .before .args .shingle-size) (now (c .before .before .before .before .before .before .before .before .args .point)) (sym (c .before .before .before .before .state-codes-ok .ensures) ∙ c .before .before .before .if1 .taken) (ne-eqb _ _ (c .before .before .if2 .left)) (sym (c .before .sizes-ok .ensures) ∙ c .if3 .left)
 
 same-length-5 : tie.Need-same-length-5
 same-length-5 c = search needs
 
 returns-5 : tie.Need-returns-5
-returns-5 c = bad-codes (now (c .before .before .before .before .before .args .state)) (c .before .before .before .before .before .args .shingle-size) (now (c .before .before .before .before .before .args .point)) (sym (c .before .codes-ok .ensures) ∙ c .if1 .left)
+returns-5 c = bad-codes (now (c .before .before .before .before .before .args .state)) (c .before .before .before .before .before .args .shingle-size) (now (c .before .before .before .before .before .args .point)) (sym (c .before .state-codes-ok .ensures) ∙ c .if1 .left)
 
 pub krcf-update-auto-adjust-spec : {M : Type 1} → statement M
 krcf-update-auto-adjust-spec =
     tie.close
     (tie.spec
-    codes-ok-requires
+    state-codes-ok-requires
     read-state-requires
     update-auto-adjust-requires
     enum-told

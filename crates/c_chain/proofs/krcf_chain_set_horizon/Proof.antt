@@ -1,52 +1,68 @@
 use denote.Ref.{now}
-use borrow.Author.Tests.{ne-eqb}
+use mathlib.Core.Path.{sym, _∙_}
 use Rattle.c_chain.proofs.Steps.{horizon-set, horizon-refused, horizon-kept}
 use borrow.Author.Needs.{needs}
 use Rattle.c_chain.proofs.krcf_chain_set_horizon.Statement.{statement}
 use Rattle.c_chain.proofs.krcf_chain_set_horizon.Tie as tie
 
-chain-refusal-requires : tie.Need-chain-refusal-requires
-chain-refusal-requires c κs = search needs
+read-core-requires : tie.Need-read-core-requires
+read-core-requires c κs = search needs
 
-read-state-requires : tie.Need-read-state-requires
-read-state-requires c κs = search needs
+enum-known-core : tie.Need-enum-known-core
+enum-known-core c = search needs
 
-with-horizon-requires : tie.Need-with-horizon-requires
-with-horizon-requires c κs = search needs
+set-score-differencing-requires : tie.Need-set-score-differencing-requires
+set-score-differencing-requires c κs = search needs
+
+enum-told : tie.Need-enum-told
+enum-told c = search needs
+
+write-kept-requires : tie.Need-write-kept-requires
+write-kept-requires c κs = search needs
+
+enum-known-answer : tie.Need-enum-known-answer
+enum-known-answer c = search needs
 
 number-requires : tie.Need-number-requires
 number-requires c κs = search needs
 
-write-state-requires : tie.Need-write-state-requires
-write-state-requires c κs = search needs
+enum-known-why : tie.Need-enum-known-why
+enum-known-why c = search needs
+
+number-requires-2 : tie.Need-number-requires-2
+number-requires-2 c κs = search needs
 
 same-length : tie.Need-same-length
 same-length c = search needs
 
 returns : tie.Need-returns
-returns c = horizon-set (now (c .before .before .before .before .before .before .before .before .before .before .before .before .before .args .state)) _ (c .before .before .before .before .before .before .before .before .before .before .chain-refusal .ensures) (c .before .before .before .before .before .before .before .before .before .if1 .taken) _ (c .before .before .before .before .before .before .before .read-state .ensures) (c .before .before .before .before .before .before .before .before .before .before .before .before .before .args .horizon) _ _ (c .before .before .before .before .before .before .with-horizon .ensures) (c .before .before .before .before .before .number .ensures) _ (c .before .before .before .before .if2 .taken) (c .before .before .write-state .ensures)
+returns c = horizon-set (now (c .before .before .before .before .before .before .before .before .before .before .before .before .before .before .before .args .state)) _ (sym (c .before .before .before .before .before .before .before .before .before .before .before .before .read-core .ensures) ∙ c .before .before .before .before .before .before .before .before .before .before .core .given .1) (c .before .before .before .before .before .before .before .before .before .before .before .before .before .before .before .args .horizon) _ (c .before .before .before .before .before .before .before .set-score-differencing .ensures) _ (c .before .before .before .before .enum-told .given .1) (c .before .before .write-kept .ensures)
 
 same-length-2 : tie.Need-same-length-2
 same-length-2 c = search needs
 
 returns-2 : tie.Need-returns-2
-returns-2 c = horizon-refused (now (c .before .before .before .before .before .before .before .before .before .args .state)) _ (c .before .before .before .before .before .before .chain-refusal .ensures) (c .before .before .before .before .before .if1 .taken) _ (c .before .before .before .read-state .ensures) (c .before .before .before .before .before .before .before .before .before .args .horizon) _ _ (c .before .before .with-horizon .ensures) (c .before .number .ensures) (ne-eqb _ _ (c .if2 .left))
+returns-2 c = horizon-refused (now (c .before .before .before .before .before .before .before .before .before .before .before .before .before .args .state)) _ (sym (c .before .before .before .before .before .before .before .before .before .before .read-core .ensures) ∙ c .before .before .before .before .before .before .before .before .core .given .1) (c .before .before .before .before .before .before .before .before .before .before .before .before .before .args .horizon) _ (c .before .before .before .before .before .set-score-differencing .ensures) _ _ (c .before .before .answer .given .1) (c .number .ensures)
 
 same-length-3 : tie.Need-same-length-3
 same-length-3 c = search needs
 
 returns-3 : tie.Need-returns-3
-returns-3 c = horizon-kept (now (c .before .before .before .before .args .state)) _ (c .before .chain-refusal .ensures) (ne-eqb _ _ (c .if1 .left)) (c .before .before .before .before .args .horizon)
+returns-3 c = horizon-kept (now (c .before .before .before .before .before .before .before .args .state)) _ (sym (c .before .before .before .before .read-core .ensures) ∙ c .before .before .why .given .1) _ (c .number2 .ensures) (c .before .before .before .before .before .before .before .args .horizon)
 
 pub krcf-chain-set-horizon-spec : {M : Type 1} → statement M
 krcf-chain-set-horizon-spec =
     tie.close
     (tie.spec
-    chain-refusal-requires
-    read-state-requires
-    with-horizon-requires
+    read-core-requires
+    enum-known-core
+    set-score-differencing-requires
+    enum-told
+    write-kept-requires
+    enum-known-answer
     number-requires
-    write-state-requires
+    enum-known-why
+    number-requires-2
     same-length
     returns
     same-length-2

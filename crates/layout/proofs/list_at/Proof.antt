@@ -6,6 +6,7 @@ use native.Mathlib.Omega.{arith}
 use lib.ListN.{length}
 use denote.Ref.{now}
 use Rattle.deviation.specs.declared.Deviation.{Deviation}
+use Rattle.layout.specs.Places.{deviationLength, expectedAt, listLength}
 use Rattle.layout.specs.States.{deviationAt}
 use Rattle.layout.specs.Chain.{filled, listAt}
 use Rattle.layout.proofs.Rows.{filled-next}
@@ -14,7 +15,7 @@ use Rattle.layout.proofs.list_at.Statement.{statement}
 use Rattle.layout.proofs.list_at.Tie as tie
 
 abbrev Inv-loop : tie.InvT-loop
-Inv-loop bytes at n out₀ i₀ out i = (i ≤ n) × (n ≤ 16) × (at ≤ 734) × (at + 576 ≤ length bytes) × (out ≡ filled (λ (k : ℕ). deviationAt bytes (at + 36 * k)) i out₀)
+Inv-loop bytes at n out₀ i₀ out i = (i ≤ n) × (n ≤ 16) × (at ≤ expectedAt) × (at + listLength ≤ length bytes) × (out ≡ filled (λ (k : ℕ). deviationAt bytes (at + deviationLength * k)) i out₀)
 
 abbrev μ-loop : tie.MeasureT-loop
 μ-loop bytes at n out₀ i₀ out i = n - i
@@ -52,7 +53,7 @@ loop-again c = (omega arith, c .before .before .loop .inv .1, c .before .before 
 
 returns : tie.Need-returns Inv-loop μ-loop
 unfolding listAt
-returns c = c .before .loop .inv .4 ∙ ap₂ (λ (k : ℕ) (l : List Deviation). filled (λ (j : ℕ). deviationAt (now (c .before .before .before .before .args .bytes)) (c .before .before .before .before .args .at + 36 * j)) k l) (le-antisymm (c .before .loop .inv .0) (c .loop-test .left)) (c .before .before .empty-list .ensures)
+returns c = c .before .loop .inv .4 ∙ ap₂ (λ (k : ℕ) (l : List Deviation). filled (λ (j : ℕ). deviationAt (now (c .before .before .before .before .args .bytes)) (c .before .before .before .before .args .at + deviationLength * j)) k l) (le-antisymm (c .before .loop .inv .0) (c .loop-test .left)) (c .before .before .empty-list .ensures)
 
 pub list-at-spec : {M : Type 1} → statement M
 list-at-spec =

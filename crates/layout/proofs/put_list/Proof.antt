@@ -4,6 +4,7 @@ use native.Mathlib.Nat.{le-antisymm}
 use native.Mathlib.Omega.{arith}
 use lib.ListN.{length}
 use denote.Ref.{now}
+use Rattle.layout.specs.Places.{expectedAt, listLength}
 use Rattle.layout.specs.Chain.{listOver}
 use Rattle.layout.proofs.Rows.{over-next}
 use borrow.Author.Needs.{needs}
@@ -11,7 +12,7 @@ use Rattle.layout.proofs.put_list.Statement.{statement}
 use Rattle.layout.proofs.put_list.Tie as tie
 
 abbrev Inv-loop : tie.InvT-loop
-Inv-loop out₀ at n list i₀ out i = (i ≤ n) × (n ≤ 16) × (at ≤ 734) × (at + 576 ≤ length out₀) × (length out ≡ length out₀) × (out ≡ listOver out₀ at list i)
+Inv-loop out₀ at n list i₀ out i = (i ≤ n) × (n ≤ 16) × (at ≤ expectedAt) × (at + listLength ≤ length out₀) × (length out ≡ length out₀) × (out ≡ listOver out₀ at list i)
 
 abbrev μ-loop : tie.MeasureT-loop
 μ-loop out₀ at n list i₀ out i = n - i

@@ -11,12 +11,9 @@ returns : tie.Need-returns
 unfolding readDeviation
 returns c = simp (eq-eqb _ _ (c .before .if1 .taken), c .deviation-at .ensures)
 
-default-requires : tie.Need-default-requires
-default-requires c κs = search needs
-
 returns-2 : tie.Need-returns-2
 unfolding readDeviation
-returns-2 c = simp (ne-eqb _ _ (c .before .if1 .left), c .default .ensures)
+returns-2 c = simp (ne-eqb _ _ (c .if1 .left))
 
 pub read-deviation-spec : {M : Type 1} → statement M
-read-deviation-spec = tie.close (tie.spec deviation-at-requires returns default-requires returns-2)
+read-deviation-spec = tie.close (tie.spec deviation-at-requires returns returns-2)

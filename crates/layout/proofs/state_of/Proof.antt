@@ -2,6 +2,7 @@ use mathlib.Core.Path.{_≡_, _∙_, ap, ap₂}
 use Prim.Native.Nat.{ℕ}
 use mathlib.Core.Bool.{Bool}
 use denote.Ref.{now}
+use Rattle.layout.specs.Places.{actualAt, expectedAt}
 use Rattle.layout.specs.Chain.{decodeState, entries, listAt}
 use borrow.Author.Needs.{needs}
 use Rattle.layout.proofs.state_of.Statement.{statement}
@@ -37,8 +38,8 @@ returns c =
       «auto_adjust» = c .before .before .before .before .before .before .flag-at .ensures i;
       «run_length» = c .before .before .read42 .ensures i;
       «base_dimension» = c .before .before .before .before .before .read4 .ensures i;
-      «deviations_actual» = (c .before .list-at .ensures ∙ ap (listAt (now (c .before .before .before .before .before .before .before .before .args .bytes)) 158) n) i;
-      «deviations_expected» = (c .list-at2 .ensures ∙ ap (listAt (now (c .before .before .before .before .before .before .before .before .args .bytes)) 734) n) i;
+      «deviations_actual» = (c .before .list-at .ensures ∙ ap (listAt (now (c .before .before .before .before .before .before .before .before .args .bytes)) actualAt) n) i;
+      «deviations_expected» = (c .list-at2 .ensures ∙ ap (listAt (now (c .before .before .before .before .before .before .before .before .args .bytes)) expectedAt) n) i;
     }
 
 pub state-of-spec : {M : Type 1} → statement M

@@ -34,23 +34,20 @@ array-read-near c = search needs
 cast-near : tie.Need-cast-near
 cast-near c = search needs
 
+sub-krcf-detect-and-modify : tie.Need-sub-krcf-detect-and-modify
+sub-krcf-detect-and-modify c = search needs
+
+part-b-start : tie.Need-part-b-start
+part-b-start c = search needs
+
+part-b-end : tie.Need-part-b-end
+part-b-end c = search needs
+
 part-requires : tie.Need-part-requires
 part-requires c κs = search needs
 
-read-state-requires : tie.Need-read-state-requires
-read-state-requires c κs = search needs
-
 part-requires-2 : tie.Need-part-requires-2
 part-requires-2 c κs = search needs
-
-read-reading-requires : tie.Need-read-reading-requires
-read-reading-requires c κs = search needs
-
-part-requires-3 : tie.Need-part-requires-3
-part-requires-3 c κs = search needs
-
-read-last-requires : tie.Need-read-last-requires
-read-last-requires c κs = search needs
 
 row-requires : tie.Need-row-requires
 row-requires c κs = search needs
@@ -91,38 +88,26 @@ row-requires-8 c κs = search needs
 array-borrow-prefix-expected : tie.Need-array-borrow-prefix-expected
 array-borrow-prefix-expected c = search needs
 
-slice-aggregate-detect-and-modify : tie.Need-slice-aggregate-detect-and-modify
-slice-aggregate-detect-and-modify c = simp length-take (omega arith)
+slice-aggregate-krcf-detect-and-modify : tie.Need-slice-aggregate-krcf-detect-and-modify
+slice-aggregate-krcf-detect-and-modify c = simp length-take (omega arith)
 
 array-borrow-prefix-high : tie.Need-array-borrow-prefix-high
 array-borrow-prefix-high c = search needs
 
-slice-aggregate-detect-and-modify-2 : tie.Need-slice-aggregate-detect-and-modify-2
-slice-aggregate-detect-and-modify-2 c = simp length-take (omega arith)
+slice-aggregate-krcf-detect-and-modify-2 : tie.Need-slice-aggregate-krcf-detect-and-modify-2
+slice-aggregate-krcf-detect-and-modify-2 c = simp length-take (omega arith)
 
 array-borrow-prefix-low : tie.Need-array-borrow-prefix-low
 array-borrow-prefix-low c = search needs
 
-slice-aggregate-detect-and-modify-3 : tie.Need-slice-aggregate-detect-and-modify-3
-slice-aggregate-detect-and-modify-3 c = simp length-take (omega arith)
+slice-aggregate-krcf-detect-and-modify-3 : tie.Need-slice-aggregate-krcf-detect-and-modify-3
+slice-aggregate-krcf-detect-and-modify-3 c = simp length-take (omega arith)
 
-detect-and-modify-requires : tie.Need-detect-and-modify-requires
-detect-and-modify-requires c κs = search needs
+slice-aggregate-krcf-detect-and-modify-4 : tie.Need-slice-aggregate-krcf-detect-and-modify-4
+slice-aggregate-krcf-detect-and-modify-4 c = search needs
 
-sub-put-judgment : tie.Need-sub-put-judgment
-sub-put-judgment c = search needs
-
-part-b-start : tie.Need-part-b-start
-part-b-start c = search needs
-
-part-b-end : tie.Need-part-b-end
-part-b-end c = omega (arith, c .before .before .before .before .before .before .before .before .before .before .before .before .before .before .before .before .before .before .before .before .before .before .before .before .before .before .before .before .before .before .before .before .before .before .good)
-
-slice-aggregate-put-judgment : tie.Need-slice-aggregate-put-judgment
-slice-aggregate-put-judgment c = search needs
-
-put-judgment-requires : tie.Need-put-judgment-requires
-put-judgment-requires c κs = search needs
+krcf-detect-and-modify-requires : tie.Need-krcf-detect-and-modify-requires
+krcf-detect-and-modify-requires c κs = search needs
 
 mix-buffers-requires : tie.Need-mix-buffers-requires
 mix-buffers-requires c κs = search needs
@@ -147,12 +132,11 @@ show-spec =
     cast-base
     array-read-near
     cast-near
+    sub-krcf-detect-and-modify
+    part-b-start
+    part-b-end
     part-requires
-    read-state-requires
     part-requires-2
-    read-reading-requires
-    part-requires-3
-    read-last-requires
     row-requires
     row-requires-2
     row-requires-3
@@ -166,17 +150,13 @@ show-spec =
     wide-row-requires-4
     row-requires-8
     array-borrow-prefix-expected
-    slice-aggregate-detect-and-modify
+    slice-aggregate-krcf-detect-and-modify
     array-borrow-prefix-high
-    slice-aggregate-detect-and-modify-2
+    slice-aggregate-krcf-detect-and-modify-2
     array-borrow-prefix-low
-    slice-aggregate-detect-and-modify-3
-    detect-and-modify-requires
-    sub-put-judgment
-    part-b-start
-    part-b-end
-    slice-aggregate-put-judgment
-    put-judgment-requires
+    slice-aggregate-krcf-detect-and-modify-3
+    slice-aggregate-krcf-detect-and-modify-4
+    krcf-detect-and-modify-requires
     mix-buffers-requires
     write-line-requires
     returns)

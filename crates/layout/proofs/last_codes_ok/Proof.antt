@@ -1,0 +1,36 @@
+use borrow.Author.Tests.{eq-eqb, ne-eqb}
+use Rattle.layout.specs.Readings.{lastCodesOk}
+use borrow.Author.Needs.{needs}
+use Rattle.layout.proofs.last_codes_ok.Statement.{statement}
+use Rattle.layout.proofs.last_codes_ok.Tie as tie
+
+shared-slice-read-result : tie.Need-shared-slice-read-result
+shared-slice-read-result c = search needs
+
+shared-slice-read-result-2 : tie.Need-shared-slice-read-result-2
+shared-slice-read-result-2 c = search needs
+
+shared-slice-read-result-3 : tie.Need-shared-slice-read-result-3
+shared-slice-read-result-3 c = search needs
+
+shared-slice-read-result-4 : tie.Need-shared-slice-read-result-4
+shared-slice-read-result-4 c = search needs
+
+returns : tie.Need-returns
+unfolding lastCodesOk
+returns c = simp (eq-eqb _ _ (c .before .before .before .before .if1 .taken))
+
+returns-2 : tie.Need-returns-2
+unfolding lastCodesOk
+returns-2 c = simp (ne-eqb _ _ (c .if1 .left))
+
+pub last-codes-ok-spec : {M : Type 1} → statement M
+last-codes-ok-spec =
+    tie.close
+    (tie.spec
+    shared-slice-read-result
+    shared-slice-read-result-2
+    shared-slice-read-result-3
+    shared-slice-read-result-4
+    returns
+    returns-2)
