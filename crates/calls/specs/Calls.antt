@@ -52,6 +52,11 @@ expectedAnswer shingle base position point high low median out =
     (expectedFinite point high low median)
     Done
 
+-- The buffer afterwards.
+abbrev pub expectedLeft : (shingle base position : ℕ) → (point high low median out : List Float) → List Float
+expectedLeft shingle base position point high low median out =
+    written (expectedAnswer shingle base position point high low median (length out)) (expectedPoint high low position base point median) out
+
 -- ---- apply_basic_corrector
 unfoldable pub correctorLengths : (d point out : ℕ) → Bool → (expected anomalous : ℕ) → Bool
 correctorLengths d point out hasAnomaly expected anomalous = eqb point d && (eqb out d && lastPointsOk hasAnomaly d expected anomalous)
@@ -73,6 +78,13 @@ correctorAnswer shingle base gap point hasAnomaly expected anomalous out =
     (correctorLengths (dimension shingle base) (length point) out hasAnomaly (length expected) (length anomalous))
     (correctorFinite point hasAnomaly expected anomalous)
     (gapAnswer gap)
+
+-- The buffer afterwards.
+abbrev pub correctorLeft : (shingle base gap : ℕ) → (point : List Float) → Bool → (expected anomalous : List Float) → ℤ → Bool → Bool → (out : List Float) → List Float
+correctorLeft shingle base gap point hasAnomaly expected anomalous relativeIndex useDifference timeAugmented out =
+    written (correctorAnswer shingle base gap point hasAnomaly expected anomalous (length out))
+    (applyBasicCorrector point gap shingle base hasAnomaly expected anomalous relativeIndex useDifference timeAugmented)
+    out
 
 -- ---- likely_missing_indices: what the forest's conditional field is asked for
 unfoldable pub missingAnswer : (shingle base gap : ℕ) → (high low : List Float) → Answer

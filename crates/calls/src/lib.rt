@@ -6,7 +6,6 @@ use types::Answer;
 use types::Refusal;
 ghost use mathlib.Core.Path.{_≡_};
 ghost use lib.ListN.{length};
-ghost use Rattle.corrector.specs.Corrector as Corrector;
 ghost use Rattle.calls.specs.Calls as Calls;
 
 fn first_refusal(sizes: bool, lengths: bool, finite: bool, last: Answer) -> Answer
@@ -43,7 +42,8 @@ fn expected_answer(
     median: &[f32],
     out: usize,
 ) -> Answer
-    ensures { λ r. ⌜ r ≡ Calls.expectedAnswer «shingle_size» base position (now (point .entry)) (now (high .entry)) (now (low .entry)) (now (median .entry)) out ⌝ }
+    ensures { λ r. ⌜ r ≡ Calls.expectedAnswer
+        «shingle_size» base position (now (point .entry)) (now (high .entry)) (now (low .entry)) (now (median .entry)) out ⌝ }
 {
     let d = descriptor::dimension(shingle_size, base);
     first_refusal(
@@ -70,7 +70,11 @@ pub fn expected_point(
     median: &[f32],
     out: &mut [f32],
 ) -> Answer
-    ensures { λ r. ⌜ r ≡ Calls.expectedAnswer «shingle_size» base position (now (point .entry)) (now (high .entry)) (now (low .entry)) (now (median .entry)) (length (now (out .entry))) ⌝ ∗ ⌜ now (out .exit) ≡ Calls.written (Calls.expectedAnswer «shingle_size» base position (now (point .entry)) (now (high .entry)) (now (low .entry)) (now (median .entry)) (length (now (out .entry)))) (Corrector.expectedPoint (now (high .entry)) (now (low .entry)) position base (now (point .entry)) (now (median .entry))) (now (out .entry)) ⌝ }
+    ensures { λ r. ⌜ r ≡ Calls.expectedAnswer
+        «shingle_size» base position (now (point .entry)) (now (high .entry)) (now (low .entry)) (now (median .entry))
+        (length (now (out .entry))) ⌝ ∗ ⌜ now (out .exit) ≡ Calls.expectedLeft
+        «shingle_size» base position (now (point .entry)) (now (high .entry)) (now (low .entry)) (now (median .entry))
+        (now (out .entry)) ⌝ }
 {
     let answer = expected_answer(
         shingle_size,
@@ -125,7 +129,8 @@ fn corrector_answer(
     anomalous: &[f32],
     out: usize,
 ) -> Answer
-    ensures { λ r. ⌜ r ≡ Calls.correctorAnswer «shingle_size» base gap (now (point .entry)) «has_anomaly» (now (expected .entry)) (now (anomalous .entry)) out ⌝ }
+    ensures { λ r. ⌜ r ≡ Calls.correctorAnswer
+        «shingle_size» base gap (now (point .entry)) «has_anomaly» (now (expected .entry)) (now (anomalous .entry)) out ⌝ }
 {
     let d = descriptor::dimension(shingle_size, base);
     first_refusal(
@@ -152,7 +157,11 @@ pub fn apply_basic_corrector(
     time_augmented: bool,
     out: &mut [f32],
 ) -> Answer
-    ensures { λ r. ⌜ r ≡ Calls.correctorAnswer «shingle_size» base gap (now (point .entry)) «has_anomaly» (now («last_expected» .entry)) (now («last_anomalous» .entry)) (length (now (out .entry))) ⌝ ∗ ⌜ now (out .exit) ≡ Calls.written (Calls.correctorAnswer «shingle_size» base gap (now (point .entry)) «has_anomaly» (now («last_expected» .entry)) (now («last_anomalous» .entry)) (length (now (out .entry)))) (Corrector.applyBasicCorrector (now (point .entry)) gap «shingle_size» base «has_anomaly» (now («last_expected» .entry)) (now («last_anomalous» .entry)) «relative_index» «use_difference» «time_augmented») (now (out .entry)) ⌝ }
+    ensures { λ r. ⌜ r ≡ Calls.correctorAnswer
+        «shingle_size» base gap (now (point .entry)) «has_anomaly» (now («last_expected» .entry))
+        (now («last_anomalous» .entry)) (length (now (out .entry))) ⌝ ∗ ⌜ now (out .exit) ≡ Calls.correctorLeft
+        «shingle_size» base gap (now (point .entry)) «has_anomaly» (now («last_expected» .entry))
+        (now («last_anomalous» .entry)) «relative_index» «use_difference» «time_augmented» (now (out .entry)) ⌝ }
 {
     let answer = corrector_answer(
         shingle_size,
