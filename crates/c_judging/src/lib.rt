@@ -95,7 +95,11 @@ pub extern "C" fn krcf_detect_and_modify(
     out_low: &mut [f64],
     verdict: &mut [u8],
 ) -> u8
-    ensures { λ n. ⌜ Judging.Answered (now (state .entry)) (now (reading .entry)) (now (last .entry)) (lent (now (point .entry)) (now (scale .entry)) (now (shift .entry)) (now («difference_deviations» .entry)) (now («last_expected» .entry)) (now («last_anomalous» .entry)) (now (high .entry)) (now (low .entry)) (now (median .entry)) (now («ideal_high» .entry)) (now («ideal_low» .entry)) (now (neighbours .entry))) n (now (expected .entry)) (now («out_high» .entry)) (now («out_low» .entry)) (now (verdict .entry)) (now (state .exit)) (now (expected .exit)) (now («out_high» .exit)) (now («out_low» .exit)) (now (verdict .exit)) ⌝ }
+    ensures { λ n. ⌜ Judging.Answered (now (state .entry)) (now (reading .entry)) (now (last .entry)) (lent (now (point .entry)) (now (scale .entry))
+        (now (shift .entry)) (now («difference_deviations» .entry)) (now («last_expected» .entry)) (now («last_anomalous» .entry))
+        (now (high .entry)) (now (low .entry)) (now (median .entry)) (now («ideal_high» .entry)) (now («ideal_low» .entry))
+        (now (neighbours .entry))) n (now (expected .entry)) (now («out_high» .entry)) (now («out_low» .entry)) (now (verdict .entry))
+        (now (state .exit)) (now (expected .exit)) (now («out_high» .exit)) (now («out_low» .exit)) (now (verdict .exit)) ⌝ }
 {
     if codes_ok(state, reading, last) {
         if slices_ok(state.len(), reading.len(), last.len(), verdict.len()) {
@@ -162,7 +166,9 @@ pub extern "C" fn krcf_newest_row(
     base_dimension: usize,
     out: &mut [u8],
 ) -> u8
-    ensures { λ r. ⌜ (r ≡ Judging.newestAnswer «shingle_size» «base_dimension» (length (now (point .entry))) (length (now (out .entry)))) × (now (out .exit) ≡ Judging.newestBytes «shingle_size» «base_dimension» (length (now (point .entry))) (now (out .entry))) ⌝ }
+    ensures { λ r. ⌜ (r ≡ Judging.newestAnswer «shingle_size» «base_dimension» (length (now (point .entry)))
+        (length (now (out .entry)))) × (now (out .exit) ≡ Judging.newestBytes «shingle_size» «base_dimension» (length (now (point .entry)))
+        (now (out .entry))) ⌝ }
 {
     let number = corrector::newest_row_answer(shingle_size, base_dimension, point.len()).number();
     if number == 0 {

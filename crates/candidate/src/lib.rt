@@ -148,7 +148,8 @@ pub fn is_data_drift(
     newest_expected: &[f32],
     noise: &[f32],
 ) -> bool
-    ensures { λ b. ⌜ b ≡ Candidate.driftAt (Candidate.isCandidate r l «run_length» «shingle_size» threshold) «auto_adjust» «run_length» (r .«base_dimension») actual expected (now (newest .entry)) (now («newest_expected» .entry)) (now (noise .entry)) ⌝ }
+    ensures { λ b. ⌜ b ≡ Candidate.driftAt (Candidate.isCandidate r l «run_length» «shingle_size» threshold) «auto_adjust» «run_length»
+        (r .«base_dimension») actual expected (now (newest .entry)) (now («newest_expected» .entry)) (now (noise .entry)) ⌝ }
 {
     let candidate = is_candidate(r, l, run_length, shingle_size, threshold);
     is_drift_at(

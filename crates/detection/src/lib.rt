@@ -91,8 +91,13 @@ fn noise_pass(
     last_expected: &[f32],
     last_anomalous: &[f32],
 ) -> f32
-    requires { ⌜ length (now point) ≤ 1024 ⌝ ∗ ⌜ CorrectorSteps.Correcting (length (now point)) gap (r .«shingle_size») (r .«base_dimension») (l .«has_anomaly») (length (now «last_expected»)) (length (now «last_anomalous»)) (length (now point)) ⌝ }
-    ensures { λ f. ⌜ f ≡ Pass.centeredTransformPass (r .«base_dimension») (now (scale .entry)) (now (shift .entry)) (now («difference_deviations» .entry)) (Corrector.applyBasicCorrector (now (point .entry)) gap (r .«shingle_size») (r .«base_dimension») (l .«has_anomaly») (now («last_expected» .entry)) (now («last_anomalous» .entry)) (l .anomaly .«relative_index») (isDifferenced (r .«transform_method»)) (r .«time_augmented»)) ⌝ }
+    requires { ⌜ length (now point) ≤ 1024 ⌝
+        ∗ ⌜ CorrectorSteps.Correcting (length (now point)) gap (r .«shingle_size») (r .«base_dimension») (l .«has_anomaly»)
+        (length (now «last_expected»)) (length (now «last_anomalous»)) (length (now point)) ⌝ }
+    ensures { λ f. ⌜ f ≡ Pass.centeredTransformPass (r .«base_dimension») (now (scale .entry)) (now (shift .entry))
+        (now («difference_deviations» .entry)) (Corrector.applyBasicCorrector (now (point .entry)) gap (r .«shingle_size») (r .«base_dimension»)
+        (l .«has_anomaly») (now («last_expected» .entry)) (now («last_anomalous» .entry)) (l .anomaly .«relative_index») (isDifferenced
+        (r .«transform_method»)) (r .«time_augmented»)) ⌝ }
 {
     let base = r.base_dimension;
     if !scoring::is_recent(l.has_anomaly, gap, r.shingle_size) {
@@ -134,7 +139,8 @@ fn box_of(
     difference_deviations: &[f32],
 ) -> [f32; 16]
     requires { ⌜ r .«base_dimension» ≤ 16 ⌝ }
-    ensures { λ u. ⌜ take (r .«base_dimension») u ≡ Box.uncertaintyBox (now (point .entry)) start (now (scale .entry)) (now (shift .entry)) (now («difference_deviations» .entry)) (isDifferenced (r .«transform_method»)) (replicate (r .«base_dimension») zero32) ⌝ }
+    ensures { λ u. ⌜ take (r .«base_dimension») u ≡ Box.uncertaintyBox (now (point .entry)) start (now (scale .entry)) (now (shift .entry))
+        (now («difference_deviations» .entry)) (isDifferenced (r .«transform_method»)) (replicate (r .«base_dimension») zero32) ⌝ }
 {
     let base = r.base_dimension;
     let method = r.transform_method;
@@ -236,7 +242,9 @@ fn find_way(
     out_high: usize,
     out_low: usize,
 ) -> Way
-    ensures { λ y. ⌜ y ≡ Steps.way r l (lent (now (point .entry)) (now (scale .entry)) (now (shift .entry)) (now («difference_deviations» .entry)) (now («last_expected» .entry)) (now («last_anomalous» .entry)) (now (high .entry)) (now (low .entry)) (now (median .entry)) (now («ideal_high» .entry)) (now («ideal_low» .entry)) (now (neighbours .entry))) t base expected «out_high» «out_low» «counts_ok» ⌝ }
+    ensures { λ y. ⌜ y ≡ Steps.way r l (lent (now (point .entry)) (now (scale .entry)) (now (shift .entry)) (now («difference_deviations» .entry))
+        (now («last_expected» .entry)) (now («last_anomalous» .entry)) (now (high .entry)) (now (low .entry)) (now (median .entry))
+        (now («ideal_high» .entry)) (now («ideal_low» .entry)) (now (neighbours .entry))) t base expected «out_high» «out_low» «counts_ok» ⌝ }
 {
     let answer = descriptor::answer(
         r,
@@ -392,8 +400,17 @@ fn expected_exits(
     out_high: &mut [f64],
     out_low: &mut [f64],
 ) -> Decision
-    requires { ⌜ Steps.Branching r l (Steps.branch (now point) (now scale) (now «difference_deviations») (now high) (now low) (now median)) ⌝ ∗ ⌜ Steps.Writing (Steps.branch (now point) (now scale) (now «difference_deviations») (now high) (now low) (now median)) (length (now expected)) (length (now «out_high»)) (length (now «out_low»)) ⌝ ∗ ⌜ block ≡ Judging.block r l (Steps.branch (now point) (now scale) (now «difference_deviations») (now high) (now low) (now median)) ⌝ ∗ ⌜ start ≡ Judging.start r l (Steps.branch (now point) (now scale) (now «difference_deviations») (now high) (now low) (now median)) ⌝ ∗ ⌜ length edges ≡ 16 ⌝ }
-    ensures { λ j. ⌜ Decided.Decided r l (Steps.branch (now (point .entry)) (now (scale .entry)) (now («difference_deviations» .entry)) (now (high .entry)) (now (low .entry)) (now (median .entry))) (Steps.expectedOutcome k r l (Steps.branch (now (point .entry)) (now (scale .entry)) (now («difference_deviations» .entry)) (now (high .entry)) (now (low .entry)) (now (median .entry))) (take (r .«base_dimension») edges) threshold grade) j (now (expected .entry)) (now («out_high» .entry)) (now («out_low» .entry)) (now (expected .exit)) (now («out_high» .exit)) (now («out_low» .exit)) ⌝ }
+    requires { ⌜ Steps.Branching r l (Steps.branch (now point) (now scale) (now «difference_deviations») (now high) (now low) (now median)) ⌝
+        ∗ ⌜ Steps.Writing (Steps.branch (now point) (now scale) (now «difference_deviations») (now high) (now low) (now median))
+        (length (now expected)) (length (now «out_high»)) (length (now «out_low»)) ⌝
+        ∗ ⌜ block ≡ Judging.block r l (Steps.branch (now point) (now scale) (now «difference_deviations») (now high) (now low) (now median)) ⌝
+        ∗ ⌜ start ≡ Judging.start r l (Steps.branch (now point) (now scale) (now «difference_deviations») (now high) (now low) (now median)) ⌝
+        ∗ ⌜ length edges ≡ 16 ⌝ }
+    ensures { λ j. ⌜ Decided.Decided r l (Steps.branch (now (point .entry)) (now (scale .entry)) (now («difference_deviations» .entry))
+        (now (high .entry)) (now (low .entry)) (now (median .entry))) (Steps.expectedOutcome k r l (Steps.branch (now (point .entry))
+        (now (scale .entry)) (now («difference_deviations» .entry)) (now (high .entry)) (now (low .entry)) (now (median .entry)))
+        (take (r .«base_dimension») edges) threshold grade) j (now (expected .entry)) (now («out_high» .entry)) (now («out_low» .entry))
+        (now (expected .exit)) (now («out_high» .exit)) (now («out_low» .exit)) ⌝ }
 {
     let base = r.base_dimension;
     let row = corrector::expected_row(high, low, start, base, point, median);
@@ -448,8 +465,16 @@ fn past_noise(
     out_high: &mut [f64],
     out_low: &mut [f64],
 ) -> Decision
-    requires { ⌜ Steps.Branching r l (Steps.late (now point) (now scale) (now shift) (now «difference_deviations») (now high) (now low) (now median) (now «ideal_high») (now «ideal_low») (now neighbours)) ⌝ ∗ ⌜ Steps.Writing (Steps.late (now point) (now scale) (now shift) (now «difference_deviations») (now high) (now low) (now median) (now «ideal_high») (now «ideal_low») (now neighbours)) (length (now expected)) (length (now «out_high»)) (length (now «out_low»)) ⌝ }
-    ensures { λ j. ⌜ Decided.Decided r l (Steps.late (now (point .entry)) (now (scale .entry)) (now (shift .entry)) (now («difference_deviations» .entry)) (now (high .entry)) (now (low .entry)) (now (median .entry)) (now («ideal_high» .entry)) (now («ideal_low» .entry)) (now (neighbours .entry))) (Steps.lateOutcome k r l (Steps.late (now (point .entry)) (now (scale .entry)) (now (shift .entry)) (now («difference_deviations» .entry)) (now (high .entry)) (now (low .entry)) (now (median .entry)) (now («ideal_high» .entry)) (now («ideal_low» .entry)) (now (neighbours .entry))) threshold grade) j (now (expected .entry)) (now («out_high» .entry)) (now («out_low» .entry)) (now (expected .exit)) (now («out_high» .exit)) (now («out_low» .exit)) ⌝ }
+    requires { ⌜ Steps.Branching r l (Steps.late (now point) (now scale) (now shift) (now «difference_deviations») (now high) (now low) (now median)
+        (now «ideal_high») (now «ideal_low») (now neighbours)) ⌝
+        ∗ ⌜ Steps.Writing (Steps.late (now point) (now scale) (now shift) (now «difference_deviations») (now high) (now low) (now median)
+        (now «ideal_high») (now «ideal_low») (now neighbours)) (length (now expected)) (length (now «out_high»)) (length (now «out_low»)) ⌝ }
+    ensures { λ j. ⌜ Decided.Decided r l (Steps.late (now (point .entry)) (now (scale .entry)) (now (shift .entry))
+        (now («difference_deviations» .entry)) (now (high .entry)) (now (low .entry)) (now (median .entry)) (now («ideal_high» .entry))
+        (now («ideal_low» .entry)) (now (neighbours .entry))) (Steps.lateOutcome k r l (Steps.late (now (point .entry)) (now (scale .entry))
+        (now (shift .entry)) (now («difference_deviations» .entry)) (now (high .entry)) (now (low .entry)) (now (median .entry))
+        (now («ideal_high» .entry)) (now («ideal_low» .entry)) (now (neighbours .entry))) threshold grade) j (now (expected .entry))
+        (now («out_high» .entry)) (now («out_low» .entry)) (now (expected .exit)) (now («out_high» .exit)) (now («out_low» .exit)) ⌝ }
 {
     let base = r.base_dimension;
     let block = scoring::anomaly_block(r, l, high, low);
@@ -518,7 +543,14 @@ pub fn judge(
     out_high: &mut [f64],
     out_low: &mut [f64],
 ) -> Decision
-    ensures { λ j. ⌜ Decided.Decided r l (lent (now (point .entry)) (now (scale .entry)) (now (shift .entry)) (now («difference_deviations» .entry)) (now («last_expected» .entry)) (now («last_anomalous» .entry)) (now (high .entry)) (now (low .entry)) (now (median .entry)) (now («ideal_high» .entry)) (now («ideal_low» .entry)) (now (neighbours .entry))) (Decided.decision r l (lent (now (point .entry)) (now (scale .entry)) (now (shift .entry)) (now («difference_deviations» .entry)) (now («last_expected» .entry)) (now («last_anomalous» .entry)) (now (high .entry)) (now (low .entry)) (now (median .entry)) (now («ideal_high» .entry)) (now («ideal_low» .entry)) (now (neighbours .entry))) k (length (now (expected .entry))) (length (now («out_high» .entry))) (length (now («out_low» .entry)))) j (now (expected .entry)) (now («out_high» .entry)) (now («out_low» .entry)) (now (expected .exit)) (now («out_high» .exit)) (now («out_low» .exit)) ⌝ }
+    ensures { λ j. ⌜ Decided.Decided r l (lent (now (point .entry)) (now (scale .entry)) (now (shift .entry)) (now («difference_deviations» .entry))
+        (now («last_expected» .entry)) (now («last_anomalous» .entry)) (now (high .entry)) (now (low .entry)) (now (median .entry))
+        (now («ideal_high» .entry)) (now («ideal_low» .entry)) (now (neighbours .entry))) (Decided.decision r l (lent (now (point .entry))
+        (now (scale .entry)) (now (shift .entry)) (now («difference_deviations» .entry)) (now («last_expected» .entry))
+        (now («last_anomalous» .entry)) (now (high .entry)) (now (low .entry)) (now (median .entry)) (now («ideal_high» .entry))
+        (now («ideal_low» .entry)) (now (neighbours .entry))) k (length (now (expected .entry))) (length (now («out_high» .entry)))
+        (length (now («out_low» .entry)))) j (now (expected .entry)) (now («out_high» .entry)) (now («out_low» .entry)) (now (expected .exit))
+        (now («out_high» .exit)) (now («out_low» .exit)) ⌝ }
 {
     let way = find_way(
         k.basic_thresholder,
@@ -709,7 +741,10 @@ pub fn detect_and_modify(
     out_high: &mut [f64],
     out_low: &mut [f64],
 ) -> Judgment
-    ensures { λ j. ⌜ Judged.Judged s r l (lent (now (point .entry)) (now (scale .entry)) (now (shift .entry)) (now («difference_deviations» .entry)) (now («last_expected» .entry)) (now («last_anomalous» .entry)) (now (high .entry)) (now (low .entry)) (now (median .entry)) (now («ideal_high» .entry)) (now («ideal_low» .entry)) (now (neighbours .entry))) j (now (expected .entry)) (now («out_high» .entry)) (now («out_low» .entry)) (now (expected .exit)) (now («out_high» .exit)) (now («out_low» .exit)) ⌝ }
+    ensures { λ j. ⌜ Judged.Judged s r l (lent (now (point .entry)) (now (scale .entry)) (now (shift .entry)) (now («difference_deviations» .entry))
+        (now («last_expected» .entry)) (now («last_anomalous» .entry)) (now (high .entry)) (now (low .entry)) (now (median .entry))
+        (now («ideal_high» .entry)) (now («ideal_low» .entry)) (now (neighbours .entry))) j (now (expected .entry)) (now («out_high» .entry))
+        (now («out_low» .entry)) (now (expected .exit)) (now («out_high» .exit)) (now («out_low» .exit)) ⌝ }
 {
     let decision = judge(
         standing_of(s),

@@ -714,7 +714,8 @@ pub fn write_counted(
     newest: &[f32],
     newest_expected: &[f32],
 )
-    ensures { λ _. ⌜ now (out .exit) ≡ Numbers.writtenOf stateLength (now (out .entry)) (Chain.encodeStateOver (now (out .entry)) (InPlace.counted (Chain.decodeState (now (out .entry))) t «run_length» (now (newest .entry)) (now («newest_expected» .entry)))) ⌝ }
+    ensures { λ _. ⌜ now (out .exit) ≡ Numbers.writtenOf stateLength (now (out .entry)) (Chain.encodeStateOver (now (out .entry)) (InPlace.counted
+        (Chain.decodeState (now (out .entry))) t «run_length» (now (newest .entry)) (now («newest_expected» .entry)))) ⌝ }
 {
     if out.len() == STATE_LENGTH {
         let auto_adjust = flag_at(out, AUTO_ADJUST_AT);

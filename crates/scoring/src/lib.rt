@@ -195,7 +195,10 @@ pub fn in_shingle(
     ideal_low: &[f64],
     threshold: f32,
 ) -> bool
-    ensures { λ b. ⌜ b ≡ (ltb (Scores.gapOf (r .«values_seen») (l .«has_anomaly») (l .anomaly .«values_seen»)) (r .«shingle_size») && not (Corrector.trigger (now (high .entry)) (now (low .entry)) (Scores.gapOf (r .«values_seen») (l .«has_anomaly») (l .anomaly .«values_seen»)) (r .«base_dimension») (now («ideal_high» .entry)) (now («ideal_low» .entry)) (l .«has_anomaly») (l .anomaly .«has_attribution») (l .anomaly .score) threshold)) ⌝ }
+    ensures { λ b. ⌜ b ≡ (ltb (Scores.gapOf (r .«values_seen») (l .«has_anomaly») (l .anomaly .«values_seen»)) (r .«shingle_size») && not
+        (Corrector.trigger (now (high .entry)) (now (low .entry)) (Scores.gapOf (r .«values_seen») (l .«has_anomaly») (l .anomaly .«values_seen»))
+        (r .«base_dimension») (now («ideal_high» .entry)) (now («ideal_low» .entry)) (l .«has_anomaly») (l .anomaly .«has_attribution»)
+        (l .anomaly .score) threshold)) ⌝ }
 {
     let anomaly = l.anomaly;
     let gap = gap(r, l);
@@ -228,7 +231,8 @@ pub fn write_raised(
     out_high: &mut [f64],
     out_low: &mut [f64],
 )
-    ensures { λ _. ⌜ Scores.Written r start (now (point .entry)) row (now (high .entry)) (now (low .entry)) (now (expected .entry)) (now («out_high» .entry)) (now («out_low» .entry)) (now (expected .exit)) (now («out_high» .exit)) (now («out_low» .exit)) ⌝ }
+    ensures { λ _. ⌜ Scores.Written r start (now (point .entry)) row (now (high .entry)) (now (low .entry)) (now (expected .entry))
+        (now («out_high» .entry)) (now («out_low» .entry)) (now (expected .exit)) (now («out_high» .exit)) (now («out_low» .exit)) ⌝ }
 {
     corrector::write_row(point, start, r.base_dimension, row, expected);
     divector::normalize_into(

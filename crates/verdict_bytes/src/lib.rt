@@ -96,7 +96,8 @@ fn put_run(
     newest_expected: [f32; 16],
 )
     requires { ⌜ Counting r (length (now point)) ⌝ ∗ ⌜ length «newest_expected» ≡ 16 ⌝ }
-    ensures { λ _. ⌜ now (state .exit) ≡ writtenOf stateLength (now (state .entry)) (Bytes.stored verdict (now (state .entry)) (Steps.runRows (kept (decodeState (now (state .entry))) t «run_length») r l (now (point .entry)) «newest_expected» verdict)) ⌝ }
+    ensures { λ _. ⌜ now (state .exit) ≡ writtenOf stateLength (now (state .entry)) (Bytes.stored verdict (now (state .entry)) (Steps.runRows (kept
+        (decodeState (now (state .entry))) t «run_length») r l (now (point .entry)) «newest_expected» verdict)) ⌝ }
 {
     match verdict {
         Verdict::Quiet(_) => layout::write_ended(state, t, run_length),
@@ -144,7 +145,8 @@ fn put_state(
     newest_expected: [f32; 16],
 )
     requires { ⌜ Counting r (length (now point)) ⌝ ∗ ⌜ length «newest_expected» ≡ 16 ⌝ }
-    ensures { λ _. ⌜ now (state .exit) ≡ writtenOf stateLength (now (state .entry)) (Bytes.stored verdict (now (state .entry)) (Steps.afterRows (kept (decodeState (now (state .entry))) t «run_length») r l (now (point .entry)) «newest_expected» verdict)) ⌝ }
+    ensures { λ _. ⌜ now (state .exit) ≡ writtenOf stateLength (now (state .entry)) (Bytes.stored verdict (now (state .entry)) (Steps.afterRows (kept
+        (decodeState (now (state .entry))) t «run_length») r l (now (point .entry)) «newest_expected» verdict)) ⌝ }
 {
     if changes_state(verdict) {
         let used = score_used(r, l, verdict);
