@@ -12,6 +12,7 @@ use Rattle.ledger.specs.Statement.{Told, Shown}
 use Rattle.descriptor.specs.Lent.{Lent}
 use Rattle.predictorcorrector.specs.State.{new, zFactorSet}
 use Rattle.predictorcorrector.specs.declared.PredictorCorrector.{PredictorCorrector}
+use Rattle.layout.specs.Places.{readingLength, strategyAt}
 use Rattle.layout.specs.Numbers.{f32At}
 use Rattle.layout.specs.Left.{left}
 use Rattle.c_chain.specs.States.{chainSet, horizonSetIn, chainMade}
@@ -52,7 +53,7 @@ Contract xs c =
 
 pub record Kept (xs : List ℕ) (c : Judging) : Type 0 where
   pub contract : Contract xs c
-  pub distance : length (c .reading) ≡ 23 → T (not (eqb (getD (c .reading) 8 0) 0))
+  pub distance : length (c .reading) ≡ readingLength → T (not (eqb (getD (c .reading) strategyAt 0) 0))
 
 -- Each over the bytes that the one before it left: "nothing else writes the state in between". A refused one is among them.
 abbrev pub JudgedInTurn : List ℕ → List Call → Type 0

@@ -17,6 +17,7 @@ use Rattle.detection.specs.declared.Outcome.{Outcome}
 use Rattle.detection.specs.declared.Outcome.the-variants.{Accepted, Refused}
 use Rattle.detection.specs.declared.Judgment.{Judgment}
 use Rattle.detection.specs.Judged.{Judged, outcomeNumber}
+use Rattle.layout.specs.Places.{stateLength}
 use Rattle.layout.specs.Numbers.{i32At}
 use Rattle.layout.specs.Chain.{decodeState}
 use Rattle.layout.specs.Readings.{decodeReading, decodeLast}
@@ -83,5 +84,5 @@ pub record Demand3OverC : Type 0 where
       → InTurn (krcf-new d auto base out n xs ∷ cs) → InBounds (zOf cs) (toldOf cs)
       → Demand3 d (zOf cs) (toldOf cs) (shownOf cs)
   -- Such lists exist, in any bytes of a state: eleven calm readings are accepted, and the last has ten counted before it.
-  pub met : (out : List ℕ) → length out ≡ 1310
+  pub met : (out : List ℕ) → length out ≡ stateLength
       → InTurn (krcf-new nought 0 1 out 0 (made out) ∷ eleven (made out)) × InBounds (zOf (eleven (made out))) (toldOf (eleven (made out))) × (accepted (toldOf (eleven (made out))) ≡ 11)
