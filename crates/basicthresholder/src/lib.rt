@@ -8,9 +8,12 @@ use types::TransformMethod;
 use util::minf32;
 ghost use mathlib.Core.Path.{_≡_};
 ghost use mathlib.Core.Bool.{false};
+ghost use lib.Ieee.{binary32};
+ghost use lib.Ieee as Ieee;
 ghost use Rattle.ieee.specs.Round as Round;
 ghost use Rattle.deviation.specs.Const.{zero64};
 ghost use Rattle.deviation.specs.Statistics.{mean, deviation};
+ghost use Rattle.grading.specs.Grading.{surpriseIndex};
 ghost use Rattle.basicthresholder.specs.Grades as Grades;
 ghost use Rattle.basicthresholder.specs.Updates as Updates;
 
@@ -77,8 +80,16 @@ fn graded_or(score: f32, threshold: f32, grade: f32) -> Graded
     }
 }
 
-fn grade_against(score: f32, threshold: f32, surprise: f32) -> Graded
-    ensures { λ r. ⌜ r ≡ Grades.gradeAgainst score threshold surprise ⌝ }
+// Below the threshold, or where that is 0, the surprise is not worked out.
+fn grade_against(
+    score: f32,
+    threshold: f32,
+    ready: bool,
+    factor: f32,
+    scaled_deviation: f32,
+    absolute: f32,
+) -> Graded
+    ensures { λ r. ⌜ r ≡ Grades.gradeAgainst score threshold (surpriseIndex ready score threshold factor (Ieee.div binary32 «scaled_deviation» factor) absolute) ⌝ }
 {
     if score < threshold {
         return Graded {
@@ -92,6 +103,8 @@ fn grade_against(score: f32, threshold: f32, surprise: f32) -> Graded
             grade: 0.0,
         };
     }
+    let deviation = scaled_deviation / factor;
+    let surprise = grading::surprise_index(ready, score, threshold, factor, deviation, absolute);
     graded_or(score, threshold, grading::sixteenths(surprise))
 }
 
@@ -111,7 +124,8 @@ fn counted_gap(third: Deviation, gap: f32) -> Deviation
     third
 }
 
-fn counted_over(third: Deviation, primary: Deviation, score: f32) -> Deviation
+// The third statistic after a score: it counts the gap over the primary's mean, where that is above 0. A record that refusal 6 is of stays as it is.
+pub fn counted_over(third: Deviation, primary: Deviation, score: f32) -> Deviation
     ensures { λ r. ⌜ r ≡ Updates.countedOver third primary score ⌝ }
 {
     counted_gap(third, score - narrow(primary.mean()))
@@ -265,15 +279,14 @@ impl BasicThresholder {
             initial,
             absolute,
         );
-        let surprise = grading::surprise_index(
-            ready,
+        grade_against(
             score,
             threshold,
+            ready,
             new_factor,
-            scaled_deviation / new_factor,
+            scaled_deviation,
             self.absolute_threshold,
-        );
-        grade_against(score, threshold, surprise)
+        )
     }
 
     pub fn threshold(self) -> f32

@@ -46,15 +46,12 @@ absolute-requires c κs = c .before .before .before .before .before .before .bef
 threshold-from-requires : tie.Need-threshold-from-requires
 threshold-from-requires c κs = search needs
 
-surprise-index-requires : tie.Need-surprise-index-requires
-surprise-index-requires c κs = search needs
-
 grade-against-requires : tie.Need-grade-against-requires
 grade-against-requires c κs = search needs
 
 returns : tie.Need-returns
 unfolding thresholdAndGradeWithFactor
-returns c = simp (c .grade-against .ensures, c .before .surprise-index .ensures, c .before .before .threshold-from .ensures, c .before .before .before .absolute .ensures, c .before .before .before .before .before .long-term-deviation .ensures, c .before .before .before .before .before .before .is-differenced .ensures, c .before .before .before .before .before .before .before .adjusted-factor .ensures, c .before .before .before .before .before .before .before .before .is-none .ensures, c .before .before .before .before .before .before .before .before .before .before .narrow .ensures, c .before .before .before .before .narrow2 .ensures, c .before .before .before .before .before .before .before .before .before .before .before .mean .ensures, c .before .before .before .before .before .before .before .before .before .deviation .ensures, c .before .before .before .before .before .before .before .before .before .before .before .before .before .before .is-deviation-ready .ensures, c .before .before .before .before .before .before .before .before .before .before .before .before .intermediate-fraction .ensures ∙ ap intermediateFraction (toZ-ofZ w32 (c .before .before .before .before .before .before .before .before .before .before .before .before .before .before .before .args .self .count) (search needs)))
+returns c = simp (c .grade-against .ensures, c .before .threshold-from .ensures, c .before .before .absolute .ensures, c .before .before .before .before .long-term-deviation .ensures, c .before .before .before .before .before .is-differenced .ensures, c .before .before .before .before .before .before .adjusted-factor .ensures, c .before .before .before .before .before .before .before .is-none .ensures, c .before .before .before .before .before .before .before .before .before .narrow .ensures, c .before .before .before .narrow2 .ensures, c .before .before .before .before .before .before .before .before .before .before .mean .ensures, c .before .before .before .before .before .before .before .before .deviation .ensures, c .before .before .before .before .before .before .before .before .before .before .before .before .before .is-deviation-ready .ensures, c .before .before .before .before .before .before .before .before .before .before .before .intermediate-fraction .ensures ∙ ap intermediateFraction (toZ-ofZ w32 (c .before .before .before .before .before .before .before .before .before .before .before .before .before .before .args .self .count) (search needs)))
 
 pub threshold-and-grade-with-factor-spec : {M : Type 1} → statement M
 threshold-and-grade-with-factor-spec =
@@ -72,6 +69,5 @@ threshold-and-grade-with-factor-spec =
     narrow-requires-2
     absolute-requires
     threshold-from-requires
-    surprise-index-requires
     grade-against-requires
     returns)
