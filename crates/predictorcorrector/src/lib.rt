@@ -139,7 +139,7 @@ pub fn longer_run(n: u32) -> u32
 }
 
 // The score where it is a height, else 0.
-fn height_score(strategy: ScoringStrategy, score: f32) -> f32
+pub fn height_score(strategy: ScoringStrategy, score: f32) -> f32
     ensures { λ r. ⌜ r ≡ State.heightScore strategy score ⌝ }
 {
     if strategy.is_height() {
