@@ -3,10 +3,8 @@
 // has written nothing.
 use detection::Outcome;
 use detection::Standing;
+use layout::CallRead;
 use layout::Core;
-use layout::CoreRead;
-use layout::LastRead;
-use layout::ReadingRead;
 ghost use mathlib.Core.Path.{_≡_};
 ghost use mathlib.Core.Bool.{true};
 ghost use Prim.Native.Nat.{_-_};
@@ -17,44 +15,8 @@ ghost use Rattle.layout.specs.Readings.{readingCodesOk};
 ghost use Rattle.c_judging.specs.Judging as Judging;
 ghost use Rattle.c_judging.specs.Steps as Steps;
 
-// Document 01's refusals of a yes/no byte, a code or a size, and of a length.
-const RANGE: u8 = 2;
-
+// Document 01's refusal of a length.
 const LENGTH: u8 = 3;
-
-// The codes and yes/no bytes of all three. Nothing inside a slice of another length is looked at.
-fn codes_ok(state: &[u8], reading: &[u8], last: &[u8]) -> bool
-    ensures { λ r. ⌜ r ≡ Judging.codesOk (now (state .entry)) (now (reading .entry)) (now (last .entry)) ⌝ }
-{
-    layout::state_codes_ok(state)
-        & (layout::reading_codes_ok(reading) & layout::last_codes_ok(last))
-}
-
-fn slices_ok(state: usize, reading: usize, last: usize, verdict: usize) -> bool
-    ensures { λ r. ⌜ r ≡ Judging.slicesOk state reading last verdict ⌝ }
-{
-    (state == layout::STATE_LENGTH)
-        & ((reading == layout::READING_LENGTH)
-            & ((last == layout::LAST_LENGTH) & (verdict == layout::VERDICT_LENGTH)))
-}
-
-// The sizes, as far as the two slices can be read.
-fn sizes_fit(state: &[u8], reading: &[u8]) -> bool
-    requires { ⌜ stateCodesOk (now state) ≡ true ⌝ ∗ ⌜ readingCodesOk (now reading) ≡ true ⌝ }
-    ensures { λ r. ⌜ r ≡ Judging.sizesFit (now (state .entry)) (now (reading .entry)) ⌝ }
-{
-    match layout::read_reading(reading) {
-        ReadingRead::Read(r) => match layout::read_core(state) {
-            CoreRead::Read(core) => descriptor::range_ok(
-                r.shingle_size,
-                r.base_dimension,
-                core.base_dimension as usize,
-            ),
-            CoreRead::Refused(_) => descriptor::sizes_ok(r.shingle_size, r.base_dimension),
-        },
-        ReadingRead::Refused(_) => true,
-    }
-}
 
 fn standing_of(core: Core) -> Standing
     ensures { λ k. ⌜ k ≡ Steps.standingOf core ⌝ }
@@ -73,6 +35,7 @@ fn standing_of(core: Core) -> Standing
     }
 }
 
+// Judges a reading and changes the state: `judge` decides, and its verdict is put into the bytes.
 #[no_mangle]
 pub extern "C" fn krcf_detect_and_modify(
     state: &mut [u8],
@@ -101,17 +64,13 @@ pub extern "C" fn krcf_detect_and_modify(
         (now (neighbours .entry))) n (now (expected .entry)) (now («out_high» .entry)) (now («out_low» .entry)) (now (verdict .entry))
         (now (state .exit)) (now (expected .exit)) (now («out_high» .exit)) (now («out_low» .exit)) (now (verdict .exit)) ⌝ }
 {
-    if codes_ok(state, reading, last) {
-        if slices_ok(state.len(), reading.len(), last.len(), verdict.len()) {
-            let CoreRead::Read(core) = layout::read_core(state) else {
-                return LENGTH;
-            };
-            let ReadingRead::Read(r) = layout::read_reading(reading) else {
-                return LENGTH;
-            };
-            let LastRead::Read(l) = layout::read_last(last) else {
-                return LENGTH;
-            };
+    match layout::read_call(
+        state,
+        reading,
+        last,
+        verdict.len() == layout::VERDICT_LENGTH,
+    ) {
+        CallRead::Read(core, r, l) => {
             let decision = detection::judge(
                 standing_of(core),
                 r,
@@ -133,14 +92,11 @@ pub extern "C" fn krcf_detect_and_modify(
                 out_low,
             );
             let outcome = decision.outcome;
-            let t = core.basic_thresholder;
             let newest_expected = decision.newest_expected;
-            return match outcome {
+            match outcome {
                 Outcome::Accepted(said) => verdict_bytes::put_verdict(
                     state,
                     verdict,
-                    t,
-                    core.run_length,
                     r,
                     l,
                     said,
@@ -149,13 +105,10 @@ pub extern "C" fn krcf_detect_and_modify(
                     newest_expected,
                 ),
                 Outcome::Refused(why) => why.number(),
-            };
+            }
         }
-        if sizes_fit(state, reading) {
-            return LENGTH;
-        }
+        CallRead::Refused(why) => why.number(),
     }
-    RANGE
 }
 
 // Where the newest row of a point starts, 8 bytes.

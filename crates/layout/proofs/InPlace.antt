@@ -9,25 +9,36 @@ use native.Mathlib.Omega.{arith}
 use lib.Dec.{eqb, leb, ltb}
 use lib.ListN.{length, getD, set, take, drop, length-set, length-replicate, replicate, List·getD-eq-default}
 use lib.Seq.{getD-drop, getD-set-same, getD-set-other, drop-drop, drop-at}
-use lib.Ieee.{Float}
-use borrow.Author.Tests.{eqb-true, eqb-false, eq-eqb, ne-eqb, leb-true, leb-false}
+use lib.Ieee.{Float, binary32}
+use lib.Ieee as Ieee
+use borrow.Author.Tests.{eqb-true, eqb-false, eq-eqb, ne-eqb, leb-true, leb-false, le-leb}
 use Rattle.deviation.specs.Const.{zero64}
-use Rattle.deviation.specs.Statistics.{fresh, countable}
+use Rattle.deviation.specs.Const.{countLimit}
+use Rattle.deviation.specs.Statistics as Statistics
+use Rattle.deviation.specs.Statistics.{fresh, countable, reset}
 use Rattle.deviation.specs.declared.Deviation.{Deviation}
 use Rattle.basicthresholder.specs.declared.BasicThresholder.{BasicThresholder}
-use Rattle.predictorcorrector.specs.State.{state, existing, stateCountsOk, longerRun, runEnded, autoAdjusted, candidateCounted}
+use Rattle.predictorcorrector.specs.State.{state, withRun, existing, stateCountsOk, longerRun, runEnded, autoAdjusted, candidateCounted, heightScore, updateScore}
 use Rattle.predictorcorrector.specs.declared.PredictorCorrector.{PredictorCorrector}
-use Rattle.predictorcorrector.specs.Lists.{changed, stepped, rowCounted, rowReset, firstCountable, listCountable}
-use Rattle.predictorcorrector.proofs.Rows.{countable-next}
-use Rattle.basicthresholder.specs.Updates.{countsOk}
+use Rattle.predictorcorrector.specs.Lists.{changed, stepped, rowFits, firstCountable, listCountable}
+use Rattle.predictorcorrector.proofs.Rows.{countable-next, changed-at, stepped-at, none-left, row-fits, lists-ok, thresholder-ok}
+use Rattle.types.specs.declared.Refusal.the-variants.{Range, Length, Count}
+use Rattle.types.specs.declared.Answer.the-variants.{Done, Refused}
+use Rattle.types.specs.Codes.{isHeight}
+use Rattle.types.specs.declared.ScoringStrategy.{ScoringStrategy}
+use Rattle.descriptor.specs.declared.Reading.{Reading}
+use Rattle.descriptor.specs.declared.LastDescriptor.{LastDescriptor}
+use Rattle.descriptor.specs.Checks.{rangeOk, sizesOk}
+use Rattle.descriptor.proofs.Bounds.{sizes}
+use Rattle.basicthresholder.specs.Updates.{countsOk, updated, update, updateBoth, updatePrimary, bothCounted, primaryCounted}
 use Rattle.descriptor.proofs.Bounds.{both}
-use Rattle.layout.specs.Places.{deviationLength, stateLength, autoAdjustAt, runLengthAt, baseDimensionAt, actualAt, expectedAt, listLength}
+use Rattle.layout.specs.Places.{deviationLength, stateLength, autoAdjustAt, runLengthAt, baseDimensionAt, actualAt, expectedAt, listLength, readingLength, lastLength}
 use Rattle.layout.specs.Numbers.{le4, le8, f64At, i32At, flagAt, f32Bytes, f64Bytes, i32Bytes, flagByte, flagBytes, bytes8, bytes4, pasted, writtenOf}
 use Rattle.layout.specs.States.{joined, deviationAt, encodeDeviation, encodeThresholder, decodeThresholder}
 use Rattle.layout.specs.Chain.{entries, filled, emptyList, listAt, listOver, encodeHead, encodeStateOver, decodeState, coreOf}
 use Rattle.layout.specs.declared.Core.{Core}
-use Rattle.layout.specs.InPlace.{kept, ended, adjusted, counted}
-use Rattle.layout.specs.Parts.{most, head, lastOf, rowKeptOver, rowResetOver, rowCountedOver}
+use Rattle.layout.specs.InPlace.{readingAnswer, runAfter, scores, entered, ended, adjusted, counted, kept}
+use Rattle.layout.specs.Parts.{most, head, lastOf, rowKeptOver, Taking, entering, scored, primaryScore, lastScore, secondAfter}
 use Rattle.layout.proofs.Laws.{deviation-length}
 use Rattle.layout.proofs.Pasting.{pasted-length, pasted-split, pasted-onwards, set-next, front}
 
@@ -92,21 +103,6 @@ module _ {A : Type 0} (f : ℕ → A) (d : A) where
       go false e less =
           let q = eqb-false i n e in
           getD-set-other (filled f n ds) n i (f n) d q ∙ less (omega arith) (omega arith)
-
-changed-at : {A : Type 0} (f : A → A) (d : A) (n i : ℕ) (ds : List A) → i < n → i < length ds → getD (changed f n ds) i d ≡ f (getD ds i d)
-unfolding changed
-changed-at f d zero i ds h k = absurd (not-suc-le-zero h)
-changed-at f d (suc n) i [] h k = absurd (not-suc-le-zero k)
-changed-at f d (suc n) zero (x ∷ ds) h k = refl
-changed-at f d (suc n) (suc i) (x ∷ ds) h k = changed-at f d n i ds (le-of-suc-le-suc h) (le-of-suc-le-suc k)
-
-stepped-at : {A : Type 0} (f : A → Float → A) (d : A) (x : Float) (n i : ℕ) (ds : List A) (xs : List Float) → i < n → i < length ds → i < length xs → getD (stepped f n ds xs) i d ≡ f (getD ds i d) (getD xs i x)
-unfolding stepped
-stepped-at f d x zero i ds xs h k m = absurd (not-suc-le-zero h)
-stepped-at f d x (suc n) i [] xs h k m = absurd (not-suc-le-zero k)
-stepped-at f d x (suc n) i (y ∷ ds) [] h k m = absurd (not-suc-le-zero m)
-stepped-at f d x (suc n) zero (y ∷ ds) (z ∷ xs) h k m = refl
-stepped-at f d x (suc n) (suc i) (y ∷ ds) (z ∷ xs) h k m = stepped-at f d x n i ds xs (le-of-suc-le-suc h) (le-of-suc-le-suc k) (le-of-suc-le-suc m)
 
 -- ---- one turn of the loop, for the list ds that it leaves: d is what it read, v what it wrote.
 module _ (xs : List ℕ) (at n : ℕ) where
@@ -201,7 +197,7 @@ pub head-same : (xs : List ℕ) (s : PredictorCorrector) (zs : List ℕ) → zs 
 unfolding encodeHead
 head-same xs s zs e = e
 
--- ---- the four changes
+-- ---- a state over the bytes
 abbrev stateOver : List ℕ → PredictorCorrector → List ℕ
 stateOver xs s = writtenOf stateLength xs (encodeStateOver xs s)
 
@@ -220,108 +216,224 @@ module _ (xs : List ℕ) (t : BasicThresholder) (run : ℕ) (long : length xs �
   unfolding encodeStateOver encodeHead entries
   all-over ds es h = rw (sym flagged, sym based, h)
 
-  module _ (f g : ℕ → List Deviation → List Deviation) where
-    lists-over : auto ≡ true → (ys zs : List ℕ) → ys ≡ listOver (pasted xs 0 (head t auto run base)) actualAt (f base (listAt (pasted xs 0 (head t auto run base)) actualAt (most base))) (most base)
-        → zs ≡ listOver ys expectedAt (g base (listAt ys expectedAt (most base))) (most base)
-        → zs ≡ encodeStateOver xs (state t (flagAt xs autoAdjustAt) run (le4 xs baseDimensionAt) (f (le4 xs baseDimensionAt) (listAt xs actualAt (entries (flagAt xs autoAdjustAt) (le4 xs baseDimensionAt)))) (g (le4 xs baseDimensionAt) (listAt xs expectedAt (entries (flagAt xs autoAdjustAt) (le4 xs baseDimensionAt)))))
-    unfolding entries
-    lists-over h ys zs p q =
-        q ∙ ap (λ (l : List ℕ). listOver l expectedAt (g base (listAt l expectedAt (most base))) (most base)) p
-        ∙ both-over xs (head t auto run base) base long (head-length t auto run base) (f base) (g base)
-        ∙ all-over (f base (listAt xs actualAt (most base))) (g base (listAt xs expectedAt (most base))) h
-        ∙ rw (sym flagged, sym based, h)
+  -- The lists changed by f and g, for the bytes after what stands before them and after each.
+  lists-over : (f g : List Deviation → List Deviation) (hs ys zs : List ℕ) → auto ≡ true → hs ≡ pasted xs 0 (head t auto run base)
+      → ys ≡ listOver hs actualAt (f (listAt hs actualAt (most base))) (most base) → zs ≡ listOver ys expectedAt (g (listAt ys expectedAt (most base))) (most base)
+      → zs ≡ encodeStateOver xs (state t (flagAt xs autoAdjustAt) run (le4 xs baseDimensionAt) (f (listAt xs actualAt (entries (flagAt xs autoAdjustAt) (le4 xs baseDimensionAt)))) (g (listAt xs expectedAt (entries (flagAt xs autoAdjustAt) (le4 xs baseDimensionAt)))))
+  unfolding entries
+  lists-over f g hs ys zs h o p q =
+      q ∙ ap (λ (l : List ℕ). listOver l expectedAt (g (listAt l expectedAt (most base))) (most base)) (p ∙ ap (λ (l : List ℕ). listOver l actualAt (f (listAt l actualAt (most base))) (most base)) o)
+      ∙ both-over xs (head t auto run base) base long (head-length t auto run base) f g
+      ∙ all-over (f (listAt xs actualAt (most base))) (g (listAt xs expectedAt (most base))) h
+      ∙ rw (sym flagged, sym based, h)
 
-  -- The state that a call writes over the bytes, for the bytes after its head and after each list.
-  none-written : (ds es : List Deviation) (zs : List ℕ) → auto ≡ false → zs ≡ pasted xs 0 (head t auto run base)
-      → zs ≡ stateOver xs (state t (decodeState xs .«auto_adjust») run (decodeState xs .«base_dimension») ds es)
+  -- A setter.
+  pub kept-none : (zs : List ℕ) → auto ≡ false → zs ≡ pasted xs 0 (head t auto run base) → zs ≡ stateOver xs (kept (decodeState xs) t run)
   unfolding writtenOf decodeState
-  none-written ds es zs h p = rw (eq-eqb (length xs) stateLength long) (p ∙ none-over ds es h)
+  kept-none zs h p = rw (eq-eqb (length xs) stateLength long) (p ∙ none-over (decodeState xs .«deviations_actual») (decodeState xs .«deviations_expected») h)
 
-  lists-written : (f g : ℕ → List Deviation → List Deviation) (hs ys zs : List ℕ) → auto ≡ true → hs ≡ pasted xs 0 (head t auto run base)
-      → ys ≡ listOver hs actualAt (f base (listAt hs actualAt (most base))) (most base) → zs ≡ listOver ys expectedAt (g base (listAt ys expectedAt (most base))) (most base)
-      → zs ≡ stateOver xs (state t (decodeState xs .«auto_adjust») run (decodeState xs .«base_dimension») (f (decodeState xs .«base_dimension») (decodeState xs .«deviations_actual»)) (g (decodeState xs .«base_dimension») (decodeState xs .«deviations_expected»)))
-  unfolding writtenOf decodeState
-  lists-written f g hs ys zs h o p q =
-      rw (eq-eqb (length xs) stateLength long)
-      (lists-over f g h ys zs (p ∙ ap (λ (l : List ℕ). listOver l actualAt (f base (listAt l actualAt (most base))) (most base)) o) q)
+  pub kept-written : (hs ys zs : List ℕ) → auto ≡ true → hs ≡ pasted xs 0 (head t auto run base) → ys ≡ rowKeptOver hs actualAt base → zs ≡ rowKeptOver ys expectedAt base
+      → zs ≡ stateOver xs (kept (decodeState xs) t run)
+  unfolding writtenOf decodeState rowKeptOver
+  kept-written hs ys zs h o p q = rw (eq-eqb (length xs) stateLength long) (lists-over (λ (l : List Deviation). l) (λ (l : List Deviation). l) hs ys zs h o p q)
 
--- The four changes, by their tests.
-module _ (s : PredictorCorrector) (t : BasicThresholder) (run : ℕ) where
-  ended-is : s .«auto_adjust» ≡ true → state t (s .«auto_adjust») 0 (s .«base_dimension») (rowReset (s .«base_dimension») (s .«deviations_actual»)) (rowReset (s .«base_dimension») (s .«deviations_expected»)) ≡ ended s t run
+-- ---- what a reading leaves, by its tests
+run-ok : (s : PredictorCorrector) → stateCountsOk s ≡ true → leb (s .«run_length») countLimit ≡ true
+unfolding stateCountsOk
+run-ok s e = both (leb (s .«run_length») countLimit) _ e .0
+
+module _ (s : PredictorCorrector) (r : Reading) (l : LastDescriptor) (corrected : Float) where
+  ended-is : s .«auto_adjust» ≡ true → s .«base_dimension» ≤ 16
+      → withRun (scores s r l corrected) 0 (changed reset (s .«base_dimension») (s .«deviations_actual»)) (changed reset (s .«base_dimension») (s .«deviations_expected»)) ≡ ended s r l corrected
   unfolding runEnded
-  ended-is h = rw h
+  ended-is h few = rw (h, le-leb (s .«base_dimension») 16 few)
 
-  ended-same : s .«auto_adjust» ≡ false → kept s t run ≡ ended s t run
-  unfolding runEnded
+  ended-same : s .«auto_adjust» ≡ false → entered s r l corrected false ≡ ended s r l corrected
+  unfolding runEnded runAfter
   ended-same h = rw h
 
-  module _ (point : List Float) where
-    adjusted-is : (s .«auto_adjust» && ltb 0 run) ≡ true
-        → state t (s .«auto_adjust») (longerRun run) (s .«base_dimension») (rowCounted (s .«base_dimension») (s .«deviations_actual») point) (s .«deviations_expected») ≡ adjusted s t run point
-    unfolding autoAdjusted
-    adjusted-is h = rw h
+  adjusted-is : (point : List Float) → stateCountsOk s ≡ true → s .«base_dimension» ≤ 16 → s .«base_dimension» ≤ length point → s .«auto_adjust» ≡ true → ltb 0 (s .«run_length») ≡ true
+      → withRun (scores s r l corrected) (longerRun (s .«run_length»)) (stepped Statistics.counted (s .«base_dimension») (s .«deviations_actual») point) (s .«deviations_expected»)
+      ≡ adjusted s r l corrected point
+  unfolding autoAdjusted
+  adjusted-is point counts few wide h due =
+      let ok = lists-ok s counts few h in
+      rw (h, due, run-ok s counts, row-fits (s .«base_dimension») (s .«deviations_actual») point few wide (ok .0))
 
-    adjusted-same : (s .«auto_adjust» && ltb 0 run) ≡ false → kept s t run ≡ adjusted s t run point
-    unfolding autoAdjusted
-    adjusted-same h = rw h
+  adjusted-same : (point : List Float) → (s .«auto_adjust» && ltb 0 (s .«run_length»)) ≡ false → entered s r l corrected false ≡ adjusted s r l corrected point
+  unfolding autoAdjusted runAfter
+  adjusted-same point h =
+      rw (sym (none-left (s .«auto_adjust») (ltb 0 (s .«run_length»)) (leb (s .«run_length») countLimit && rowFits (s .«base_dimension») (s .«deviations_actual») point) h))
 
-  module _ (row rowExpected : List Float) where
-    counted-is : s .«auto_adjust» ≡ true
-        → state t (s .«auto_adjust») run (s .«base_dimension») (rowCounted (s .«base_dimension») (s .«deviations_actual») row) (rowCounted (s .«base_dimension») (s .«deviations_expected») rowExpected)
-        ≡ counted s t run row rowExpected
-    unfolding candidateCounted
-    counted-is h = rw h
+  counted-is : (grows : Bool) (row rowExpected : List Float) → stateCountsOk s ≡ true → s .«base_dimension» ≤ 16 → s .«base_dimension» ≤ length row → s .«base_dimension» ≤ length rowExpected
+      → s .«auto_adjust» ≡ true
+      → withRun (entered s r l corrected grows) (runAfter grows (s .«run_length»)) (stepped Statistics.counted (s .«base_dimension») (s .«deviations_actual») row)
+      (stepped Statistics.counted (s .«base_dimension») (s .«deviations_expected») rowExpected) ≡ counted s r l corrected grows row rowExpected
+  unfolding candidateCounted
+  counted-is grows row rowExpected counts few wide wide′ h =
+      let ok = lists-ok s counts few h in
+      rw (h, row-fits (s .«base_dimension») (s .«deviations_actual») row few wide (ok .0), row-fits (s .«base_dimension») (s .«deviations_expected») rowExpected few wide′ (ok .1))
 
-    counted-same : s .«auto_adjust» ≡ false → kept s t run ≡ counted s t run row rowExpected
-    unfolding candidateCounted
-    counted-same h = rw h
+  counted-same : (grows : Bool) (row rowExpected : List Float) → s .«auto_adjust» ≡ false → entered s r l corrected grows ≡ counted s r l corrected grows row rowExpected
+  unfolding candidateCounted
+  counted-same grows row rowExpected h = rw h
 
-module _ (xs : List ℕ) (t : BasicThresholder) (run : ℕ) (long : length xs ≡ stateLength) (auto : Bool) (flagged : auto ≡ flagAt xs autoAdjustAt) where
+most-is : (base : ℕ) → base ≤ 16 → base ≡ most base
+most-is base few = rw (le-leb base 16 few) refl
+
+module _ (xs : List ℕ) (k : Taking xs) (r : Reading) (l : LastDescriptor) (corrected : Float) (auto : Bool) (flagged : auto ≡ flagAt xs autoAdjustAt) where
   auto-is : (b : Bool) → auto ≡ b → decodeState xs .«auto_adjust» ≡ b
   unfolding decodeState
   auto-is b h = sym flagged ∙ h
 
-  due-is : (b : Bool) → (auto && ltb 0 run) ≡ b → (decodeState xs .«auto_adjust» && ltb 0 run) ≡ b
+  few-is : decodeState xs .«base_dimension» ≤ 16
   unfolding decodeState
-  due-is b h = ap (λ (a : Bool). a && ltb 0 run) (sym flagged) ∙ h
+  few-is = k .few
 
-  module _ (zs : List ℕ) (k : zs ≡ stateOver xs (kept (decodeState xs) t run)) where
-    pub ended-kept : auto ≡ false → zs ≡ stateOver xs (ended (decodeState xs) t run)
-    ended-kept h = k ∙ ap (stateOver xs) (ended-same (decodeState xs) t run (auto-is false h))
+  wide-is : (m : ℕ) → le4 xs baseDimensionAt ≤ m → decodeState xs .«base_dimension» ≤ m
+  unfolding decodeState
+  wide-is m h = h
 
-    pub adjusted-kept : (point : List Float) → (auto && ltb 0 run) ≡ false → zs ≡ stateOver xs (adjusted (decodeState xs) t run point)
-    adjusted-kept point h = k ∙ ap (stateOver xs) (adjusted-same (decodeState xs) t run point (due-is false h))
+  run-is : (run : ℕ) → run ≡ le4 xs runLengthAt → ltb 0 (decodeState xs .«run_length») ≡ ltb 0 run
+  unfolding decodeState
+  run-is run e = ap (ltb 0) (sym e)
+
+  pub ended-entered : (zs : List ℕ) → auto ≡ false → zs ≡ encodeStateOver xs (entered (decodeState xs) r l corrected false) → zs ≡ encodeStateOver xs (ended (decodeState xs) r l corrected)
+  ended-entered zs h o = o ∙ ap (encodeStateOver xs) (ended-same (decodeState xs) r l corrected (auto-is false h))
+
+  pub adjusted-entered : (run : ℕ) (point : List Float) (zs : List ℕ) → run ≡ le4 xs runLengthAt → (auto && ltb 0 run) ≡ false → zs ≡ encodeStateOver xs (entered (decodeState xs) r l corrected false)
+      → zs ≡ encodeStateOver xs (adjusted (decodeState xs) r l corrected point)
+  unfolding decodeState
+  adjusted-entered run point zs n h o = o ∙ ap (encodeStateOver xs) (adjusted-same (decodeState xs) r l corrected point ((λ i. sym flagged i && ltb 0 (sym n i)) ∙ h))
 
   module _ (base : ℕ) (based : base ≡ le4 xs baseDimensionAt) where
-    pub kept-none : (zs : List ℕ) → auto ≡ false → zs ≡ pasted xs 0 (head t auto run base) → zs ≡ stateOver xs (kept (decodeState xs) t run)
-    kept-none zs h o = none-written xs t run long auto base flagged based (decodeState xs .«deviations_actual») (decodeState xs .«deviations_expected») zs h o
+    abbrev t : BasicThresholder
+    t = entering xs r l corrected
 
-    pub counted-none : (row rowExpected : List Float) (zs : List ℕ) → auto ≡ false → zs ≡ pasted xs 0 (head t auto run base) → zs ≡ stateOver xs (counted (decodeState xs) t run row rowExpected)
-    counted-none row rowExpected zs h o = kept-none zs h o ∙ ap (stateOver xs) (counted-same (decodeState xs) t run row rowExpected (auto-is false h))
+    -- The first `base` entries are those that a list has.
+    lists-are : (f g : List Deviation → List Deviation) (run : ℕ) (hs ys zs : List ℕ) → auto ≡ true → hs ≡ pasted xs 0 (head t auto run base) → ys ≡ listOver hs actualAt (f (listAt hs actualAt base)) base
+        → zs ≡ listOver ys expectedAt (g (listAt ys expectedAt base)) base
+        → zs ≡ encodeStateOver xs (state t (flagAt xs autoAdjustAt) run (le4 xs baseDimensionAt) (f (listAt xs actualAt (entries (flagAt xs autoAdjustAt) (le4 xs baseDimensionAt)))) (g (listAt xs expectedAt (entries (flagAt xs autoAdjustAt) (le4 xs baseDimensionAt)))))
+    lists-are f g run hs ys zs h o p q =
+        let few : base ≤ 16 = omega (arith, k .few) in
+        let m = most-is base few in
+        lists-over xs t run (k .long) auto base flagged based f g hs ys zs h o (p ∙ ap (λ (n : ℕ). listOver hs actualAt (f (listAt hs actualAt n)) n) m) (q ∙ ap (λ (n : ℕ). listOver ys expectedAt (g (listAt ys expectedAt n)) n) m)
 
-    module _ (hs ys zs : List ℕ) where
-      pub kept-written : auto ≡ true → hs ≡ pasted xs 0 (head t auto run base) → ys ≡ rowKeptOver hs actualAt base → zs ≡ rowKeptOver ys expectedAt base → zs ≡ stateOver xs (kept (decodeState xs) t run)
-      unfolding rowKeptOver
-      kept-written h o p q = lists-written xs t run long auto base flagged based (λ (b : ℕ) (l : List Deviation). l) (λ (b : ℕ) (l : List Deviation). l) hs ys zs h o p q
+    abbrev n : ℕ
+    n = entries (flagAt xs autoAdjustAt) (le4 xs baseDimensionAt)
 
-      pub ended-written : auto ≡ true → hs ≡ pasted xs 0 (head t auto 0 base) → ys ≡ rowResetOver hs actualAt base → zs ≡ rowResetOver ys expectedAt base → zs ≡ stateOver xs (ended (decodeState xs) t run)
-      unfolding rowResetOver
-      ended-written h o p q = lists-written xs t 0 long auto base flagged based rowReset rowReset hs ys zs h o p q ∙ ap (stateOver xs) (ended-is (decodeState xs) t run (auto-is true h))
+    module _ (hs ys zs : List ℕ) (h : auto ≡ true) where
+      ended-over : hs ≡ pasted xs 0 (head t auto 0 base) → ys ≡ listOver hs actualAt (changed reset base (listAt hs actualAt base)) base → zs ≡ listOver ys expectedAt (changed reset base (listAt ys expectedAt base)) base
+          → zs ≡ encodeStateOver xs (withRun (scores (decodeState xs) r l corrected) 0 (changed reset (decodeState xs .«base_dimension») (decodeState xs .«deviations_actual»)) (changed reset (decodeState xs .«base_dimension») (decodeState xs .«deviations_expected»)))
+      unfolding decodeState
+      ended-over o p q =
+          lists-are (λ (ds : List Deviation). changed reset base ds) (λ (ds : List Deviation). changed reset base ds) 0 hs ys zs h o p q
+          ∙ (λ i. encodeStateOver xs (state t (flagAt xs autoAdjustAt) 0 (le4 xs baseDimensionAt) (changed reset (based i) (listAt xs actualAt n)) (changed reset (based i) (listAt xs expectedAt n))))
 
-      pub adjusted-written : (longer : ℕ) (point : List Float) → (auto && ltb 0 run) ≡ true → longer ≡ longerRun run → hs ≡ pasted xs 0 (head t auto longer base)
-          → ys ≡ rowCountedOver hs actualAt base point → zs ≡ rowKeptOver ys expectedAt base → zs ≡ stateOver xs (adjusted (decodeState xs) t run point)
-      unfolding rowCountedOver rowKeptOver
-      adjusted-written longer point h n o p q =
-          lists-written xs t (longerRun run) long auto base flagged based (λ (b : ℕ) (l : List Deviation). rowCounted b l point) (λ (b : ℕ) (l : List Deviation). l) hs ys zs (both auto (ltb 0 run) h .0)
-          (o ∙ ap (λ (m : ℕ). pasted xs 0 (head t auto m base)) n) p q
-          ∙ ap (stateOver xs) (adjusted-is (decodeState xs) t run point (due-is true h))
+      pub ended-lists : hs ≡ pasted xs 0 (head t auto 0 base) → ys ≡ listOver hs actualAt (changed reset base (listAt hs actualAt base)) base → zs ≡ listOver ys expectedAt (changed reset base (listAt ys expectedAt base)) base
+          → zs ≡ encodeStateOver xs (ended (decodeState xs) r l corrected)
+      ended-lists o p q = ended-over o p q ∙ ap (encodeStateOver xs) (ended-is (decodeState xs) r l corrected (auto-is true h) few-is)
 
-      pub counted-written : (row rowExpected : List Float) → auto ≡ true → hs ≡ pasted xs 0 (head t auto run base) → ys ≡ rowCountedOver hs actualAt base row
-          → zs ≡ rowCountedOver ys expectedAt base rowExpected → zs ≡ stateOver xs (counted (decodeState xs) t run row rowExpected)
-      unfolding rowCountedOver
-      counted-written row rowExpected h o p q =
-          lists-written xs t run long auto base flagged based (λ (b : ℕ) (l : List Deviation). rowCounted b l row) (λ (b : ℕ) (l : List Deviation). rowCounted b l rowExpected) hs ys zs h o p q
-          ∙ ap (stateOver xs) (counted-is (decodeState xs) t run row rowExpected (auto-is true h))
+      module _ (run longer : ℕ) (point : List Float) (stored : run ≡ le4 xs runLengthAt) (grown : longer ≡ longerRun run) (wide : le4 xs baseDimensionAt ≤ length point) where
+        adjusted-over : hs ≡ pasted xs 0 (head t auto longer base) → ys ≡ listOver hs actualAt (stepped Statistics.counted base (listAt hs actualAt base) point) base
+            → zs ≡ listOver ys expectedAt (listAt ys expectedAt base) base
+            → zs ≡ encodeStateOver xs (withRun (scores (decodeState xs) r l corrected) (longerRun (decodeState xs .«run_length»)) (stepped Statistics.counted (decodeState xs .«base_dimension») (decodeState xs .«deviations_actual») point) (decodeState xs .«deviations_expected»))
+        unfolding decodeState
+        adjusted-over o p q =
+            lists-are (λ (ds : List Deviation). stepped Statistics.counted base ds point) (λ (ds : List Deviation). ds) longer hs ys zs h o p q
+            ∙ (λ i. encodeStateOver xs (state t (flagAt xs autoAdjustAt) ((grown ∙ ap longerRun stored) i) (le4 xs baseDimensionAt) (stepped Statistics.counted (based i) (listAt xs actualAt n) point) (listAt xs expectedAt n)))
+
+        pub adjusted-lists : ltb 0 run ≡ true → hs ≡ pasted xs 0 (head t auto longer base) → ys ≡ listOver hs actualAt (stepped Statistics.counted base (listAt hs actualAt base) point) base
+            → zs ≡ listOver ys expectedAt (listAt ys expectedAt base) base → zs ≡ encodeStateOver xs (adjusted (decodeState xs) r l corrected point)
+        adjusted-lists due o p q =
+            adjusted-over o p q
+            ∙ ap (encodeStateOver xs) (adjusted-is (decodeState xs) r l corrected point (k .counts) few-is (wide-is (length point) wide) (auto-is true h) (run-is run stored ∙ due))
+
+    module _ (grows : Bool) (run : ℕ) (after : run ≡ runAfter grows (le4 xs runLengthAt)) where
+      pub entered-none : (zs : List ℕ) → auto ≡ false → zs ≡ pasted xs 0 (head t auto run base) → zs ≡ encodeStateOver xs (entered (decodeState xs) r l corrected grows)
+      unfolding decodeState
+      entered-none zs h o =
+          o ∙ none-over xs t run (k .long) auto base flagged based (listAt xs actualAt n) (listAt xs expectedAt n) h
+          ∙ (λ i. encodeStateOver xs (state t (flagAt xs autoAdjustAt) (after i) (le4 xs baseDimensionAt) (listAt xs actualAt n) (listAt xs expectedAt n)))
+
+      pub entered-lists : (hs ys zs : List ℕ) → auto ≡ true → hs ≡ pasted xs 0 (head t auto run base) → ys ≡ listOver hs actualAt (listAt hs actualAt base) base
+          → zs ≡ listOver ys expectedAt (listAt ys expectedAt base) base → zs ≡ encodeStateOver xs (entered (decodeState xs) r l corrected grows)
+      unfolding decodeState
+      entered-lists hs ys zs h o p q =
+          lists-are (λ (ds : List Deviation). ds) (λ (ds : List Deviation). ds) run hs ys zs h o p q
+          ∙ (λ i. encodeStateOver xs (state t (flagAt xs autoAdjustAt) (after i) (le4 xs baseDimensionAt) (listAt xs actualAt n) (listAt xs expectedAt n)))
+
+      module _ (row rowExpected : List Float) where
+        pub counted-none : (zs : List ℕ) → auto ≡ false → zs ≡ pasted xs 0 (head t auto run base) → zs ≡ encodeStateOver xs (counted (decodeState xs) r l corrected grows row rowExpected)
+        counted-none zs h o = entered-none zs h o ∙ ap (encodeStateOver xs) (counted-same (decodeState xs) r l corrected grows row rowExpected (auto-is false h))
+
+        module _ (hs ys zs : List ℕ) (h : auto ≡ true) (o : hs ≡ pasted xs 0 (head t auto run base)) (p : ys ≡ listOver hs actualAt (stepped Statistics.counted base (listAt hs actualAt base) row) base) (q : zs ≡ listOver ys expectedAt (stepped Statistics.counted base (listAt ys expectedAt base) rowExpected) base) where
+          counted-over : zs ≡ encodeStateOver xs (withRun (entered (decodeState xs) r l corrected grows) (runAfter grows (decodeState xs .«run_length»)) (stepped Statistics.counted (decodeState xs .«base_dimension») (decodeState xs .«deviations_actual») row) (stepped Statistics.counted (decodeState xs .«base_dimension») (decodeState xs .«deviations_expected») rowExpected))
+          unfolding decodeState
+          counted-over =
+              lists-are (λ (ds : List Deviation). stepped Statistics.counted base ds row) (λ (ds : List Deviation). stepped Statistics.counted base ds rowExpected) run hs ys zs h o p q
+              ∙ (λ i. encodeStateOver xs (state t (flagAt xs autoAdjustAt) (after i) (le4 xs baseDimensionAt) (stepped Statistics.counted (based i) (listAt xs actualAt n) row) (stepped Statistics.counted (based i) (listAt xs expectedAt n) rowExpected)))
+
+          pub counted-lists : le4 xs baseDimensionAt ≤ length row → le4 xs baseDimensionAt ≤ length rowExpected → zs ≡ encodeStateOver xs (counted (decodeState xs) r l corrected grows row rowExpected)
+          counted-lists wide wide′ =
+              counted-over
+              ∙ ap (encodeStateOver xs) (counted-is (decodeState xs) r l corrected grows row rowExpected (k .counts) few-is (wide-is (length row) wide) (wide-is (length rowExpected) wide′) (auto-is true h))
+
+-- ---- a reading that is not refused: what the bytes hold
+pub record Fitting (xs : List ℕ) (r : Reading) (lengths : Bool) : Type 0 where
+  pub taking : Taking xs
+  pub based : r .«base_dimension» ≡ le4 xs baseDimensionAt
+  pub fit : lengths ≡ true
+
+passed : (a c d e f : Bool) → cond a (cond c (cond d (cond e Done (Refused Count)) (Refused Length)) (Refused Range)) (cond f (Refused Length) (Refused Range)) ≡ Done
+    → (a ≡ true) × (c ≡ true) × (d ≡ true) × (e ≡ true)
+passed true true true true f h = (refl, refl, refl, refl)
+passed true true true false f h = absurd (let z : _≡_ {A = ℕ} 0 1 = cc in omega arith)
+passed true true false e f h = absurd (let z : _≡_ {A = ℕ} 0 1 = cc in omega arith)
+passed true false d e f h = absurd (let z : _≡_ {A = ℕ} 0 1 = cc in omega arith)
+passed false c d e true h = absurd (let z : _≡_ {A = ℕ} 0 1 = cc in omega arith)
+passed false c d e false h = absurd (let z : _≡_ {A = ℕ} 0 1 = cc in omega arith)
+
+pub fitting : (xs : List ℕ) (r : Reading) (lengths : Bool) → readingAnswer xs r lengths ≡ Done → Fitting xs r lengths
+unfolding readingAnswer rangeOk decodeState
+fitting xs r lengths h =
+    let p = passed (eqb (length xs) stateLength) (rangeOk (r .«shingle_size») (r .«base_dimension») (decodeState xs .«base_dimension»)) lengths (stateCountsOk (decodeState xs)) (sizesOk (r .«shingle_size») (r .«base_dimension»)) h in
+    let q = both (sizesOk (r .«shingle_size») (r .«base_dimension»)) (eqb (r .«base_dimension») (le4 xs baseDimensionAt)) (p .1) in
+    let e = eqb-true (r .«base_dimension») (le4 xs baseDimensionAt) (q .1) in
+    let few = sizes (r .«shingle_size») (r .«base_dimension») (q .0) .base-most in
+    record { taking = record { long = eqb-true (length xs) stateLength (p .0); few = omega arith; counts = p .3 }; based = e; fit = p .2 }
+
+pub base-is : (xs : List ℕ) → le4 xs baseDimensionAt ≡ decodeState xs .«base_dimension»
+unfolding decodeState
+base-is xs = refl
+
+pub all-three : (a b c : ℕ) (d : Bool) → (eqb a stateLength && (eqb b readingLength && (eqb c lastLength && d))) ≡ true → (a ≡ stateLength) × (b ≡ readingLength) × (c ≡ lastLength)
+all-three a b c d h =
+    let p = both (eqb a stateLength) _ h in
+    let q = both (eqb b readingLength) _ (p .1) in
+    (eqb-true a stateLength (p .0), eqb-true b readingLength (q .0), eqb-true c lastLength (both (eqb c lastLength) d (q .1) .0))
+
+-- ---- update_score by its parts
+module _ (t : BasicThresholder) (ok : countsOk t ≡ true) (strategy : ScoringStrategy) (score corrected : Float) (last : ScoringStrategy) (before : Float) where
+  abbrev ByParts : Type 0
+  ByParts =
+      scored t (primaryScore strategy score) (lastScore strategy (primaryScore strategy score)) (secondAfter strategy (t .«secondary_deviation») (Ieee.sub binary32 corrected (heightScore last before)))
+      ≡ updateScore t strategy score corrected last before
+
+  by-height : isHeight strategy ≡ true → ByParts
+  unfolding scored primaryScore lastScore secondAfter updateScore update updateBoth updated bothCounted
+  by-height h = rw (h, ok)
+
+  by-distance : isHeight strategy ≡ false → ByParts
+  unfolding scored primaryScore lastScore secondAfter updateScore updatePrimary updated primaryCounted
+  by-distance h = rw (h, ok)
+
+  pub by-parts : ByParts
+  by-parts = go (isHeight strategy) refl
+    where
+      go : (b : Bool) → isHeight strategy ≡ b → ByParts
+      go true e = by-height e
+      go false e = by-distance e
 
 -- ---- refusal 6's test on the bytes
 module _ (xs : List ℕ) (at n : ℕ) (few : n ≤ 16) (long : at + listLength ≤ length xs) where

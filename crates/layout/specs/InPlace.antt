@@ -1,20 +1,65 @@
--- The stored state after a call: with another thresholder t and run length, and what the call does to the run and to the two lists.
+-- The bytes of a stored state after a call. A reading: its scores enter the thresholder, and the run and the two lists change. A state that the reading does not fit,
+-- or that refusal 6 is of, is left alone, whole.
 use Prim.Native.Nat.{ℕ}
+use mathlib.Core.Bool.{Bool, cond, _&&_}
 use mathlib.Core.List.{List}
+use lib.Dec.{eqb, leb}
+use lib.ListN.{length}
 use lib.Ieee.{Float}
+use Rattle.types.specs.declared.Refusal.the-variants.{Range, Length, Count}
+use Rattle.types.specs.declared.Answer.{Answer}
+use Rattle.types.specs.declared.Answer.the-variants.{Done, Refused}
+use Rattle.descriptor.specs.Checks.{sizesOk, rangeOk}
+use Rattle.descriptor.specs.declared.Reading.{Reading}
+use Rattle.descriptor.specs.declared.LastDescriptor.{LastDescriptor}
+use Rattle.predictorcorrector.specs.State.{state, withThresholder, withRun, updateScore, stateCountsOk, longerRun, runEnded, autoAdjusted, candidateCounted}
 use Rattle.basicthresholder.specs.declared.BasicThresholder.{BasicThresholder}
-use Rattle.predictorcorrector.specs.State.{state, withThresholder, runEnded, autoAdjusted, candidateCounted}
 use Rattle.predictorcorrector.specs.declared.PredictorCorrector.{PredictorCorrector}
+use Rattle.layout.specs.Places.{stateLength}
+use Rattle.layout.specs.Chain.{decodeState, encodeStateOver}
 
-module _ (s : PredictorCorrector) (t : BasicThresholder) (run : ℕ) where
-  abbrev pub kept : PredictorCorrector
-  kept = state t (s .«auto_adjust») run (s .«base_dimension») (s .«deviations_actual») (s .«deviations_expected»)
+-- The smallest refusal of a reading that the bytes xs meet: its sizes, as far as the state can be read; lengths, of which the caller tests the others; counts.
+unfoldable pub readingAnswer : List ℕ → Reading → Bool → Answer
+readingAnswer xs r lengths =
+    cond (eqb (length xs) stateLength)
+    (cond (rangeOk (r .«shingle_size») (r .«base_dimension») (decodeState xs .«base_dimension»))
+    (cond lengths (cond (stateCountsOk (decodeState xs)) Done (Refused Count)) (Refused Length))
+    (Refused Range))
+    (cond (sizesOk (r .«shingle_size») (r .«base_dimension»)) (Refused Length) (Refused Range))
+
+-- The candidate branch's two rows are as long as the base.
+unfoldable pub rowsFit : Reading → (newest expected : ℕ) → Bool
+rowsFit r newest expected = leb (r .«base_dimension») newest && leb (r .«base_dimension») expected
+
+-- The bytes xs after a call that leaves the state s; a refused one leaves them as they came.
+unfoldable pub storedBy : Answer → List ℕ → PredictorCorrector → List ℕ
+storedBy Done xs s = encodeStateOver xs s
+storedBy (Refused why) xs s = xs
+
+-- The run of a stored state; 0 of a slice of another length.
+unfoldable pub storedRun : List ℕ → ℕ
+storedRun xs = cond (eqb (length xs) stateLength) (decodeState xs .«run_length») 0
+
+-- The run after a reading: longer by one where it grows.
+unfoldable pub runAfter : Bool → ℕ → ℕ
+runAfter grows run = cond grows (longerRun run) run
+
+module _ (s : PredictorCorrector) (r : Reading) (l : LastDescriptor) (corrected : Float) where
+  abbrev pub scores : PredictorCorrector
+  scores = withThresholder s (updateScore (s .«basic_thresholder») (r .«scoring_strategy») (r .score) corrected (l .«scoring_strategy») (l .score))
+
+  abbrev pub entered : Bool → PredictorCorrector
+  entered grows = withRun scores (runAfter grows (s .«run_length»)) (s .«deviations_actual») (s .«deviations_expected»)
 
   abbrev pub ended : PredictorCorrector
-  ended = runEnded kept
+  ended = runEnded scores
 
   abbrev pub adjusted : List Float → PredictorCorrector
-  adjusted point = autoAdjusted kept point
+  adjusted point = autoAdjusted scores point
 
-  abbrev pub counted : List Float → List Float → PredictorCorrector
-  counted newest expected = candidateCounted kept newest expected
+  abbrev pub counted : Bool → List Float → List Float → PredictorCorrector
+  counted grows newest expected = candidateCounted (entered grows) newest expected
+
+-- What a setter leaves: another thresholder. (The run is the one that stands there.)
+abbrev pub kept : PredictorCorrector → BasicThresholder → ℕ → PredictorCorrector
+kept s t run = state t (s .«auto_adjust») run (s .«base_dimension») (s .«deviations_actual») (s .«deviations_expected»)

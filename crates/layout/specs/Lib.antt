@@ -7,3 +7,4 @@ pub mod InPlace
 pub mod Readings
 pub mod Left
 pub mod Parts
+pub mod Call

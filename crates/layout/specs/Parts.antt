@@ -1,19 +1,28 @@
 -- What this crate's private functions promise each other. A reader need not read it: no public contract mentions it.
-use Prim.Native.Nat.{ℕ, _+_, _-_, _*_}
-use mathlib.Core.Bool.{Bool, cond, _&&_}
+use Prim.Native.Nat.{ℕ, _+_, _-_, _*_, _≤_}
+use mathlib.Core.Path.{_≡_}
+use mathlib.Core.Bool.{Bool, true, cond, _&&_}
 use mathlib.Core.List.{List, [], _++_}
 use lib.Dec.{eqb, leb}
+use lib.ListN.{length}
 use lib.Ieee.{Float}
+use Rattle.types.specs.Codes.{isHeight}
+use Rattle.types.specs.declared.ScoringStrategy.{ScoringStrategy}
+use Rattle.util.specs.Util.{minf32}
+use Rattle.ieee.specs.Round.{narrow}
 use Rattle.deviation.specs.Const.{zero64}
-use Rattle.deviation.specs.Statistics.{fresh}
+use Rattle.deviation.specs.Statistics.{fresh, counted, oneMore}
 use Rattle.deviation.specs.declared.Deviation.{Deviation}
+use Rattle.basicthresholder.specs.Const.{two32}
+use Rattle.basicthresholder.specs.Updates.{withCounted, countedOver}
 use Rattle.basicthresholder.specs.declared.BasicThresholder.{BasicThresholder}
-use Rattle.predictorcorrector.specs.Lists.{rowCounted, rowReset}
-use Rattle.predictorcorrector.specs.State.{state}
-use Rattle.layout.specs.Places.{deviationLength}
-use Rattle.layout.specs.Numbers.{f32Bytes, f64Bytes}
-use Rattle.layout.specs.States.{deviationAt}
-use Rattle.layout.specs.Chain.{listAt, listOver, encodeHead}
+use Rattle.descriptor.specs.declared.Reading.{Reading}
+use Rattle.descriptor.specs.declared.LastDescriptor.{LastDescriptor}
+use Rattle.predictorcorrector.specs.State.{state, updateScore, stateCountsOk}
+use Rattle.layout.specs.Places.{deviationLength, stateLength, baseDimensionAt}
+use Rattle.layout.specs.Numbers.{le4, f32Bytes, f64Bytes}
+use Rattle.layout.specs.States.{deviationAt, decodeThresholder}
+use Rattle.layout.specs.Chain.{listAt, listOver, encodeHead, decodeState}
 
 -- Two floats, one behind the other.
 unfoldable pub singles : Float → Float → List ℕ
@@ -30,15 +39,33 @@ head t auto run base = encodeHead (state t auto run base [] [])
 unfoldable pub lastOf : List ℕ → ℕ → ℕ → ℕ → Deviation
 lastOf xs i n base = cond (eqb n base && leb 1 n) (deviationAt xs (i + deviationLength * (n - 1))) (fresh zero64)
 
--- The list stored from place i on, of the first base entries (at most 16): read and written back, reset, or a row counted.
+-- The list stored from place i on, of the first base entries (at most 16), read and written back.
 abbrev pub most : ℕ → ℕ
 most base = cond (leb base 16) base 16
 
 unfoldable pub rowKeptOver : List ℕ → ℕ → ℕ → List ℕ
 rowKeptOver xs i base = listOver xs i (listAt xs i (most base)) (most base)
 
-unfoldable pub rowResetOver : List ℕ → ℕ → ℕ → List ℕ
-rowResetOver xs i base = listOver xs i (rowReset base (listAt xs i (most base))) (most base)
+-- Bytes that take a reading.
+pub record Taking (xs : List ℕ) : Type 0 where
+  pub long : length xs ≡ stateLength
+  pub few : le4 xs baseDimensionAt ≤ 16
+  pub counts : stateCountsOk (decodeState xs) ≡ true
 
-unfoldable pub rowCountedOver : List ℕ → ℕ → ℕ → List Float → List ℕ
-rowCountedOver xs i base row = listOver xs i (rowCounted base (listAt xs i (most base)) row) (most base)
+-- The stored thresholder with a reading's scores entered.
+abbrev pub entering : List ℕ → Reading → LastDescriptor → Float → BasicThresholder
+entering xs r l corrected = updateScore (decodeThresholder xs) (r .«scoring_strategy») (r .score) corrected (l .«scoring_strategy») (l .score)
+
+-- The same by its parts: the score that the primary statistic counts, the last score, and the secondary statistic.
+unfoldable pub primaryScore : ScoringStrategy → Float → Float
+primaryScore strategy score = cond (isHeight strategy) (minf32 two32 score) score
+
+unfoldable pub lastScore : ScoringStrategy → Float → Float
+lastScore strategy primary = cond (isHeight strategy) primary (narrow primary)
+
+unfoldable pub secondAfter : ScoringStrategy → Deviation → Float → Deviation
+secondAfter strategy d x = cond (isHeight strategy) (counted d x) d
+
+unfoldable pub scored : BasicThresholder → Float → Float → Deviation → BasicThresholder
+scored t primary last second =
+    withCounted t last (counted (t .«primary_deviation») primary) second (countedOver (t .«threshold_deviation») (counted (t .«primary_deviation») primary) last) (oneMore (t .count))

@@ -12,19 +12,24 @@ use types::MethodCode;
 use types::Refusal;
 use types::ScoringStrategy;
 use types::TransformMethod;
+use util::minf32;
 ghost use mathlib.Core.Path.{_≡_};
+ghost use mathlib.Core.Bool.{true};
 ghost use mathlib.Core.List.{[], _∷_};
+ghost use lib.Dec.{leb};
 ghost use Prim.Native.Nat.{_+_, _*_, _≤_, _<_};
 ghost use lib.ListN.{length, replicate};
 ghost use Rattle.deviation.specs.Statistics.{reset, counted};
 ghost use Rattle.predictorcorrector.specs.Lists.{changed, stepped, firstCountable};
-ghost use Rattle.predictorcorrector.specs.State.{longerRun};
+ghost use Rattle.basicthresholder.specs.Updates.{countsOk};
+ghost use Rattle.predictorcorrector.specs.State.{stateCountsOk};
 ghost use Rattle.types.specs.Codes as Codes;
-ghost use Rattle.layout.specs.Places.{deviationLength, thresholderLength, stateLength, expectedAt, listLength, readingLength, lastLength, verdictLength};
+ghost use Rattle.layout.specs.Places.{deviationLength, thresholderLength, stateLength, baseDimensionAt, expectedAt, listLength, readingLength, lastLength, verdictLength};
 ghost use Rattle.layout.specs.Numbers as Numbers;
 ghost use Rattle.layout.specs.States as States;
 ghost use Rattle.layout.specs.Chain as Chain;
 ghost use Rattle.layout.specs.Readings as Readings;
+ghost use Rattle.layout.specs.Call as Call;
 ghost use Rattle.layout.specs.InPlace as InPlace;
 ghost use Rattle.layout.specs.Parts as Parts;
 ghost use Rattle.layout.specs.Parts.{singles, doubles};
@@ -43,6 +48,14 @@ pub const LAST_LENGTH: usize = 23;
 pub const VERDICT_LENGTH: usize = 14;
 
 // Where parts of the state stand. It begins with its thresholder.
+const COUNT_AT: usize = 4;
+
+const PRIMARY_AT: usize = 16;
+
+const SECONDARY_AT: usize = 52;
+
+const THIRD_AT: usize = 88;
+
 const AUTO_THRESHOLD_AT: usize = 124;
 
 const AUTO_ADJUST_AT: usize = 149;
@@ -54,6 +67,9 @@ const BASE_DIMENSION_AT: usize = 154;
 const ACTUAL_AT: usize = 158;
 
 const EXPECTED_AT: usize = 734;
+
+// The longest run that refusal 6 lets pass.
+const RUN_LIMIT: u32 = 16777215;
 
 // The codes and yes/no bytes of a reading and of the last descriptor.
 const STRATEGY_AT: usize = 8;
@@ -98,6 +114,12 @@ pub struct StateRead {
 
 pub enum CoreRead {
     Read(Core),
+    Refused(Refusal),
+}
+
+// What a call reads of all three slices.
+pub enum CallRead {
+    Read(Core, Reading, LastDescriptor),
     Refused(Refusal),
 }
 
@@ -207,12 +229,12 @@ fn thresholder_of(bytes: &[u8]) -> BasicThresholder
     requires { ⌜ thresholderLength ≤ length (now bytes) ⌝ }
     ensures { λ r. ⌜ r ≡ States.decodeThresholder (now (bytes .entry)) ⌝ }
 {
-    let primary = deviation_at(bytes, 16);
-    let secondary = deviation_at(bytes, 52);
-    let third = deviation_at(bytes, 88);
+    let primary = deviation_at(bytes, PRIMARY_AT);
+    let secondary = deviation_at(bytes, SECONDARY_AT);
+    let third = deviation_at(bytes, THIRD_AT);
     BasicThresholder {
         elasticity: f32_at(bytes, 0),
-        count: i32_at(bytes, 4),
+        count: i32_at(bytes, COUNT_AT),
         score_differencing: f32_at(bytes, 8),
         last_score: f32_at(bytes, 12),
         primary_deviation: primary,
@@ -307,11 +329,11 @@ fn put_thresholder(out: &mut [u8], s: BasicThresholder)
     ensures { λ _. ⌜ now (out .exit) ≡ Numbers.pasted (now (out .entry)) 0 (States.encodeThresholder s) ⌝ }
 {
     put4(out, 0, ieee::f32_to_bits(s.elasticity));
-    put4(out, 4, unsigned(s.count));
+    put4(out, COUNT_AT, unsigned(s.count));
     put_singles(out, 8, s.score_differencing, s.last_score);
-    put_deviation(out, 16, s.primary_deviation);
-    put_deviation(out, 52, s.secondary_deviation);
-    put_deviation(out, 88, s.threshold_deviation);
+    put_deviation(out, PRIMARY_AT, s.primary_deviation);
+    put_deviation(out, SECONDARY_AT, s.secondary_deviation);
+    put_deviation(out, THIRD_AT, s.threshold_deviation);
     out[AUTO_THRESHOLD_AT] = flag_byte(s.auto_threshold);
     put_singles(out, 125, s.absolute_threshold, s.absolute_score_fraction);
     put_singles(out, 133, s.lower_threshold, s.factor_adjustment_threshold);
@@ -461,6 +483,31 @@ fn counts_at(bytes: &[u8], at: usize, n: usize) -> bool
     true
 }
 
+// The thresholder's counts take an update.
+fn thresholder_counts_ok(bytes: &[u8]) -> bool
+    requires { ⌜ thresholderLength ≤ length (now bytes) ⌝ }
+    ensures { λ r. ⌜ r ≡ countsOk (States.decodeThresholder (now (bytes .entry))) ⌝ }
+{
+    deviation::countable(i32_at(bytes, COUNT_AT))
+        & (deviation::countable(i32_at(bytes, PRIMARY_AT + 32))
+            & (deviation::countable(i32_at(bytes, SECONDARY_AT + 32))
+                & deviation::countable(i32_at(bytes, THIRD_AT + 32))))
+}
+
+// Refusal 6's test.
+fn counts_ok_of(bytes: &[u8]) -> bool
+    requires { ⌜ length (now bytes) ≡ stateLength ⌝ }
+    ensures { λ r. ⌜ r ≡ stateCountsOk (Chain.decodeState (now (bytes .entry))) ⌝ }
+{
+    let n = entries(
+        flag_at(bytes, AUTO_ADJUST_AT),
+        read4(bytes, BASE_DIMENSION_AT),
+    );
+    (read4(bytes, RUN_LENGTH_AT) <= RUN_LIMIT)
+        & (thresholder_counts_ok(bytes)
+            & (counts_at(bytes, ACTUAL_AT, n) & counts_at(bytes, EXPECTED_AT, n)))
+}
+
 // The entry before `base` of a stored list whose first n entries exist.
 fn last_entry(bytes: &[u8], at: usize, n: usize, base: usize) -> Deviation
     requires { ⌜ n ≤ 16 ⌝ ∗ ⌜ at ≤ expectedAt ⌝ ∗ ⌜ at + listLength ≤ length (now bytes) ⌝ }
@@ -477,17 +524,14 @@ fn core_of(bytes: &[u8]) -> Core
     ensures { λ r. ⌜ r ≡ Chain.coreOf (Chain.decodeState (now (bytes .entry))) ⌝ }
 {
     let auto_adjust = flag_at(bytes, AUTO_ADJUST_AT);
-    let run_length = read4(bytes, RUN_LENGTH_AT);
     let base_dimension = read4(bytes, BASE_DIMENSION_AT);
     let n = entries(auto_adjust, base_dimension);
-    let t = thresholder_of(bytes);
     Core {
-        basic_thresholder: t,
+        basic_thresholder: thresholder_of(bytes),
         auto_adjust,
-        run_length,
+        run_length: read4(bytes, RUN_LENGTH_AT),
         base_dimension,
-        counts_ok: (run_length <= 16777215)
-            & (t.counts_ok() & (counts_at(bytes, ACTUAL_AT, n) & counts_at(bytes, EXPECTED_AT, n))),
+        counts_ok: counts_ok_of(bytes),
         last_actual: last_entry(bytes, ACTUAL_AT, n, base_dimension as usize),
         last_expected: last_entry(bytes, EXPECTED_AT, n, base_dimension as usize),
     }
@@ -589,38 +633,12 @@ fn count_list(out: &mut [u8], at: usize, n: usize, row: &[f32])
     }
 }
 
-// The same for a base dimension, as the struct's lists have it: at most 16 entries; a base over 16 or a shorter row changes none.
+// The same for a base dimension: at most 16 entries.
 fn settle_row(out: &mut [u8], at: usize, base: usize)
     requires { ⌜ at ≤ expectedAt ⌝ ∗ ⌜ at + listLength ≤ length (now out) ⌝ }
     ensures { λ _. ⌜ now (out .exit) ≡ Parts.rowKeptOver (now (out .entry)) at base ⌝ }
 {
     if base <= 16 {
-        settle_list(out, at, base);
-        return;
-    }
-    settle_list(out, at, 16);
-}
-
-fn reset_row(out: &mut [u8], at: usize, base: usize)
-    requires { ⌜ at ≤ expectedAt ⌝ ∗ ⌜ at + listLength ≤ length (now out) ⌝ }
-    ensures { λ _. ⌜ now (out .exit) ≡ Parts.rowResetOver (now (out .entry)) at base ⌝ }
-{
-    if base <= 16 {
-        reset_list(out, at, base);
-        return;
-    }
-    settle_list(out, at, 16);
-}
-
-fn count_row(out: &mut [u8], at: usize, base: usize, row: &[f32])
-    requires { ⌜ at ≤ expectedAt ⌝ ∗ ⌜ at + listLength ≤ length (now out) ⌝ }
-    ensures { λ _. ⌜ now (out .exit) ≡ Parts.rowCountedOver (now (out .entry)) at base (now (row .entry)) ⌝ }
-{
-    if base <= 16 {
-        if base <= row.len() {
-            count_list(out, at, base, row);
-            return;
-        }
         settle_list(out, at, base);
         return;
     }
@@ -644,19 +662,7 @@ fn put_head(
     put4(out, BASE_DIMENSION_AT, base_dimension);
 }
 
-// One more of a run, up to 16,777,216.
-pub fn longer_run(n: u32) -> u32
-    ensures { λ r. ⌜ r ≡ longerRun n ⌝ }
-{
-    if n <= 16777215 {
-        return n + 1;
-    }
-    n
-}
-
-// Each of these gives a stored state another thresholder, and writes the two lists with auto adjust only. A slice of another length is left alone.
-
-// With another run length too; the lists as they are.
+// A stored state with another thresholder and run length, the lists as they are. A slice of another length is left alone.
 pub fn write_kept(out: &mut [u8], t: BasicThresholder, run_length: u32)
     ensures { λ _. ⌜ now (out .exit) ≡ Numbers.writtenOf stateLength (now (out .entry)) (Chain.encodeStateOver (now (out .entry)) (InPlace.kept (Chain.decodeState (now (out .entry))) t «run_length»)) ⌝ }
 {
@@ -671,60 +677,302 @@ pub fn write_kept(out: &mut [u8], t: BasicThresholder, run_length: u32)
     }
 }
 
-// A run of this length ends: with auto adjust it is 0, and both lists are reset.
-pub fn write_ended(out: &mut [u8], t: BasicThresholder, run_length: u32)
-    ensures { λ _. ⌜ now (out .exit) ≡ Numbers.writtenOf stateLength (now (out .entry)) (Chain.encodeStateOver (now (out .entry)) (InPlace.ended (Chain.decodeState (now (out .entry))) t «run_length»)) ⌝ }
+// ---- what a reading does to a stored state
+
+// The score that the primary statistic counts: a height's is capped at 2.
+fn primary_score(strategy: ScoringStrategy, score: f32) -> f32
+    ensures { λ r. ⌜ r ≡ Parts.primaryScore strategy score ⌝ }
 {
-    if out.len() == STATE_LENGTH {
-        let auto_adjust = flag_at(out, AUTO_ADJUST_AT);
-        if auto_adjust {
-            let base = read4(out, BASE_DIMENSION_AT);
-            put_head(out, t, auto_adjust, 0, base);
-            reset_row(out, ACTUAL_AT, base as usize);
-            reset_row(out, EXPECTED_AT, base as usize);
-            return;
-        }
-        write_kept(out, t, run_length);
+    if strategy.is_height() {
+        return minf32(2.0, score);
     }
+    score
 }
 
-// `update_auto_adjust`: within a run with auto adjust, the first list counts the oldest row, the first of the point, and the run is one longer.
-pub fn write_adjusted(out: &mut [u8], t: BasicThresholder, run_length: u32, point: &[f32])
-    ensures { λ _. ⌜ now (out .exit) ≡ Numbers.writtenOf stateLength (now (out .entry)) (Chain.encodeStateOver (now (out .entry)) (InPlace.adjusted (Chain.decodeState (now (out .entry))) t «run_length» (now (point .entry)))) ⌝ }
+fn last_score(strategy: ScoringStrategy, primary: f32) -> f32
+    ensures { λ r. ⌜ r ≡ Parts.lastScore strategy primary ⌝ }
 {
-    if out.len() == STATE_LENGTH {
-        let auto_adjust = flag_at(out, AUTO_ADJUST_AT);
-        if auto_adjust & (0 < run_length) {
-            let base = read4(out, BASE_DIMENSION_AT);
-            let longer = longer_run(run_length);
-            put_head(out, t, auto_adjust, longer, base);
-            count_row(out, ACTUAL_AT, base as usize, point);
-            settle_row(out, EXPECTED_AT, base as usize);
-            return;
-        }
-        write_kept(out, t, run_length);
+    if strategy.is_height() {
+        return primary;
     }
+    ieee::narrow(std::num::f32_to_f64_with_nan(primary))
 }
 
-// The candidate branch: the lists count the newest rows of the point and of the expected point.
-pub fn write_counted(
+// The secondary statistic counts heights alone.
+fn second_after(strategy: ScoringStrategy, d: Deviation, x: f32) -> Deviation
+    ensures { λ r. ⌜ r ≡ Parts.secondAfter strategy d x ⌝ }
+{
+    if strategy.is_height() {
+        return d.counted(std::num::f32_to_f64_with_nan(x));
+    }
+    d
+}
+
+// A score counted in the stored thresholder. Its numbers are read and written where they stand: a thresholder handed on by value is copied each time.
+fn put_scored(out: &mut [u8], primary_score: f64, last_score: f32, secondary: Deviation)
+    requires { ⌜ thresholderLength ≤ length (now out) ⌝ }
+    ensures { λ _. ⌜ now (out .exit) ≡ Numbers.pasted (now (out .entry)) 0 (States.encodeThresholder (Parts.scored
+        (States.decodeThresholder (now (out .entry))) «primary_score» «last_score» secondary)) ⌝ }
+{
+    let primary = deviation_at(out, PRIMARY_AT).counted(primary_score);
+    let third = basicthresholder::counted_over(deviation_at(out, THIRD_AT), primary, last_score);
+    let scored = BasicThresholder {
+        elasticity: f32_at(out, 0),
+        count: deviation::one_more(i32_at(out, COUNT_AT)),
+        score_differencing: f32_at(out, 8),
+        last_score,
+        primary_deviation: primary,
+        secondary_deviation: secondary,
+        threshold_deviation: third,
+        auto_threshold: flag_at(out, AUTO_THRESHOLD_AT),
+        absolute_threshold: f32_at(out, 125),
+        absolute_score_fraction: f32_at(out, 129),
+        lower_threshold: f32_at(out, 133),
+        factor_adjustment_threshold: f32_at(out, 137),
+        initial_threshold: f32_at(out, 141),
+        z_factor: f32_at(out, 145),
+    };
+    put_thresholder(out, scored);
+}
+
+// `update_score` in the stored thresholder.
+fn put_scores(out: &mut [u8], r: Reading, l: LastDescriptor, corrected: f32)
+    requires { ⌜ thresholderLength ≤ length (now out) ⌝ ∗ ⌜ countsOk (States.decodeThresholder (now out)) ≡ true ⌝ }
+    ensures { λ _. ⌜ now (out .exit) ≡ Numbers.pasted (now (out .entry)) 0 (States.encodeThresholder (Parts.entering (now (out .entry)) r l corrected)) ⌝ }
+{
+    let strategy = r.scoring_strategy;
+    let last_strategy = l.scoring_strategy;
+    let primary = primary_score(strategy, r.score);
+    let gap = corrected - predictorcorrector::height_score(last_strategy, l.score);
+    let secondary = second_after(strategy, deviation_at(out, SECONDARY_AT), gap);
+    put_scored(
+        out,
+        std::num::f32_to_f64_with_nan(primary),
+        last_score(strategy, primary),
+        secondary,
+    );
+}
+
+// What stands before the lists, the scores having entered.
+fn put_entered(
     out: &mut [u8],
-    t: BasicThresholder,
+    r: Reading,
+    l: LastDescriptor,
+    corrected: f32,
+    auto_adjust: bool,
     run_length: u32,
+    base_dimension: u32,
+)
+    requires { ⌜ Parts.Taking (now out) ⌝ }
+    ensures { λ _. ⌜ now (out .exit) ≡ Numbers.pasted (now (out .entry)) 0 (Parts.head (Parts.entering (now (out .entry)) r l corrected) «auto_adjust» «run_length» «base_dimension») ⌝ }
+{
+    put_scores(out, r, l, corrected);
+    out[AUTO_ADJUST_AT] = flag_byte(auto_adjust);
+    put4(out, RUN_LENGTH_AT, run_length);
+    put4(out, BASE_DIMENSION_AT, base_dimension);
+}
+
+fn run_after(grows: bool, run_length: u32) -> u32
+    ensures { λ r. ⌜ r ≡ InPlace.runAfter grows «run_length» ⌝ }
+{
+    if grows {
+        return predictorcorrector::longer_run(run_length);
+    }
+    run_length
+}
+
+// The scores enter, and the lists stay.
+fn enter(out: &mut [u8], r: Reading, l: LastDescriptor, corrected: f32, grows: bool)
+    requires { ⌜ Parts.Taking (now out) ⌝ }
+    ensures { λ _. ⌜ now (out .exit) ≡ Chain.encodeStateOver (now (out .entry)) (InPlace.entered (Chain.decodeState (now (out .entry))) r l corrected grows) ⌝ }
+{
+    let auto_adjust = flag_at(out, AUTO_ADJUST_AT);
+    let base = read4(out, BASE_DIMENSION_AT);
+    let run = run_after(grows, read4(out, RUN_LENGTH_AT));
+    put_entered(out, r, l, corrected, auto_adjust, run, base);
+    if auto_adjust {
+        settle_list(out, ACTUAL_AT, base as usize);
+        settle_list(out, EXPECTED_AT, base as usize);
+    }
+}
+
+// With auto adjust the run ends too, and both lists are reset.
+fn end(out: &mut [u8], r: Reading, l: LastDescriptor, corrected: f32)
+    requires { ⌜ Parts.Taking (now out) ⌝ }
+    ensures { λ _. ⌜ now (out .exit) ≡ Chain.encodeStateOver (now (out .entry)) (InPlace.ended (Chain.decodeState (now (out .entry))) r l corrected) ⌝ }
+{
+    let auto_adjust = flag_at(out, AUTO_ADJUST_AT);
+    if auto_adjust {
+        let base = read4(out, BASE_DIMENSION_AT);
+        put_entered(out, r, l, corrected, auto_adjust, 0, base);
+        reset_list(out, ACTUAL_AT, base as usize);
+        reset_list(out, EXPECTED_AT, base as usize);
+        return;
+    }
+    enter(out, r, l, corrected, false);
+}
+
+// Within a run with auto adjust the first list counts the oldest row, the first of the point, and the run is one longer.
+fn adjust(out: &mut [u8], r: Reading, l: LastDescriptor, corrected: f32, point: &[f32])
+    requires { ⌜ Parts.Taking (now out) ⌝ ∗ ⌜ Numbers.le4 (now out) baseDimensionAt ≤ length (now point) ⌝ }
+    ensures { λ _. ⌜ now (out .exit) ≡ Chain.encodeStateOver (now (out .entry)) (InPlace.adjusted (Chain.decodeState (now (out .entry))) r l corrected (now (point .entry))) ⌝ }
+{
+    let auto_adjust = flag_at(out, AUTO_ADJUST_AT);
+    let run = read4(out, RUN_LENGTH_AT);
+    if auto_adjust & (0 < run) {
+        let base = read4(out, BASE_DIMENSION_AT);
+        let longer = predictorcorrector::longer_run(run);
+        put_entered(out, r, l, corrected, auto_adjust, longer, base);
+        count_list(out, ACTUAL_AT, base as usize, point);
+        settle_list(out, EXPECTED_AT, base as usize);
+        return;
+    }
+    enter(out, r, l, corrected, false);
+}
+
+// With auto adjust the lists count the newest rows of the point and of the expected point.
+fn count(
+    out: &mut [u8],
+    r: Reading,
+    l: LastDescriptor,
+    corrected: f32,
+    grows: bool,
     newest: &[f32],
     newest_expected: &[f32],
 )
-    ensures { λ _. ⌜ now (out .exit) ≡ Numbers.writtenOf stateLength (now (out .entry)) (Chain.encodeStateOver (now (out .entry)) (InPlace.counted
-        (Chain.decodeState (now (out .entry))) t «run_length» (now (newest .entry)) (now («newest_expected» .entry)))) ⌝ }
+    requires { ⌜ Parts.Taking (now out) ⌝ ∗ ⌜ Numbers.le4 (now out) baseDimensionAt ≤ length (now newest) ⌝ ∗ ⌜ Numbers.le4 (now out) baseDimensionAt ≤ length (now «newest_expected») ⌝ }
+    ensures { λ _. ⌜ now (out .exit) ≡ Chain.encodeStateOver (now (out .entry)) (InPlace.counted (Chain.decodeState (now (out .entry))) r l corrected grows
+        (now (newest .entry)) (now («newest_expected» .entry))) ⌝ }
 {
-    if out.len() == STATE_LENGTH {
-        let auto_adjust = flag_at(out, AUTO_ADJUST_AT);
-        let base = read4(out, BASE_DIMENSION_AT);
-        put_head(out, t, auto_adjust, run_length, base);
-        if auto_adjust {
-            count_row(out, ACTUAL_AT, base as usize, newest);
-            count_row(out, EXPECTED_AT, base as usize, newest_expected);
+    let auto_adjust = flag_at(out, AUTO_ADJUST_AT);
+    let base = read4(out, BASE_DIMENSION_AT);
+    let run = run_after(grows, read4(out, RUN_LENGTH_AT));
+    put_entered(out, r, l, corrected, auto_adjust, run, base);
+    if auto_adjust {
+        count_list(out, ACTUAL_AT, base as usize, newest);
+        count_list(out, EXPECTED_AT, base as usize, newest_expected);
+    }
+}
+
+// The smallest refusal of a reading that a stored state meets: 2, 3, 6. `lengths` is whether the caller's other slices fit.
+pub fn reading_answer(bytes: &[u8], r: Reading, lengths: bool) -> Answer
+    ensures { λ a. ⌜ a ≡ InPlace.readingAnswer (now (bytes .entry)) r lengths ⌝ }
+{
+    if bytes.len() == STATE_LENGTH {
+        if descriptor::range_ok(
+            r.shingle_size,
+            r.base_dimension,
+            size_at(bytes, BASE_DIMENSION_AT),
+        ) {
+            if lengths {
+                if counts_ok_of(bytes) {
+                    return Answer::Done;
+                }
+                return Answer::Refused(Refusal::Count);
+            }
+            return Answer::Refused(Refusal::Length);
         }
+        return Answer::Refused(Refusal::Range);
+    }
+    if descriptor::sizes_ok(r.shingle_size, r.base_dimension) {
+        return Answer::Refused(Refusal::Length);
+    }
+    Answer::Refused(Refusal::Range)
+}
+
+// The run length of a stored state; 0 of a slice of another length.
+pub fn run_length(bytes: &[u8]) -> u32
+    ensures { λ r. ⌜ r ≡ InPlace.storedRun (now (bytes .entry)) ⌝ }
+{
+    if bytes.len() == STATE_LENGTH {
+        return read4(bytes, RUN_LENGTH_AT);
+    }
+    0
+}
+
+// Each of these enters a reading's scores in a stored state, `corrected` being the corrected point's; what it does to run and lists is said above. A refused one
+// leaves every byte alone.
+pub fn write_entered(
+    out: &mut [u8],
+    r: Reading,
+    l: LastDescriptor,
+    corrected: f32,
+    grows: bool,
+) -> Answer
+    ensures { λ a. ⌜ a ≡ InPlace.readingAnswer (now (out .entry)) r true ⌝ ∗ ⌜ now (out .exit) ≡ InPlace.storedBy (InPlace.readingAnswer (now (out .entry)) r true)
+        (now (out .entry)) (InPlace.entered (Chain.decodeState (now (out .entry))) r l corrected grows) ⌝ }
+{
+    let answer = reading_answer(out, r, true);
+    match answer {
+        Answer::Done => {
+            enter(out, r, l, corrected, grows);
+            answer
+        }
+        Answer::Refused(_) => answer,
+    }
+}
+
+pub fn write_ended(out: &mut [u8], r: Reading, l: LastDescriptor, corrected: f32) -> Answer
+    ensures { λ a. ⌜ a ≡ InPlace.readingAnswer (now (out .entry)) r true ⌝ ∗ ⌜ now (out .exit) ≡ InPlace.storedBy (InPlace.readingAnswer (now (out .entry)) r true)
+        (now (out .entry)) (InPlace.ended (Chain.decodeState (now (out .entry))) r l corrected) ⌝ }
+{
+    let answer = reading_answer(out, r, true);
+    match answer {
+        Answer::Done => {
+            end(out, r, l, corrected);
+            answer
+        }
+        Answer::Refused(_) => answer,
+    }
+}
+
+// `update_auto_adjust`.
+pub fn write_adjusted(
+    out: &mut [u8],
+    r: Reading,
+    l: LastDescriptor,
+    corrected: f32,
+    point: &[f32],
+) -> Answer
+    ensures { λ a. ⌜ a ≡ InPlace.readingAnswer (now (out .entry)) r (leb (r .«base_dimension») (length (now (point .entry)))) ⌝
+        ∗ ⌜ now (out .exit) ≡ InPlace.storedBy (InPlace.readingAnswer (now (out .entry)) r (leb (r .«base_dimension») (length (now (point .entry)))))
+        (now (out .entry)) (InPlace.adjusted (Chain.decodeState (now (out .entry))) r l corrected (now (point .entry))) ⌝ }
+{
+    let answer = reading_answer(out, r, r.base_dimension <= point.len());
+    match answer {
+        Answer::Done => {
+            adjust(out, r, l, corrected, point);
+            answer
+        }
+        Answer::Refused(_) => answer,
+    }
+}
+
+// The candidate branch.
+pub fn write_counted(
+    out: &mut [u8],
+    r: Reading,
+    l: LastDescriptor,
+    corrected: f32,
+    grows: bool,
+    newest: &[f32],
+    newest_expected: &[f32],
+) -> Answer
+    ensures { λ a. ⌜ a ≡ InPlace.readingAnswer (now (out .entry)) r (InPlace.rowsFit r (length (now (newest .entry))) (length (now («newest_expected» .entry)))) ⌝
+        ∗ ⌜ now (out .exit) ≡ InPlace.storedBy (InPlace.readingAnswer (now (out .entry)) r (InPlace.rowsFit r (length (now (newest .entry))) (length (now («newest_expected» .entry)))))
+        (now (out .entry)) (InPlace.counted (Chain.decodeState (now (out .entry))) r l corrected grows (now (newest .entry)) (now («newest_expected» .entry))) ⌝ }
+{
+    let answer = reading_answer(
+        out,
+        r,
+        (r.base_dimension <= newest.len()) & (r.base_dimension <= newest_expected.len()),
+    );
+    match answer {
+        Answer::Done => {
+            count(out, r, l, corrected, grows, newest, newest_expected);
+            answer
+        }
+        Answer::Refused(_) => answer,
     }
 }
 
@@ -865,6 +1113,50 @@ pub fn read_last(bytes: &[u8]) -> LastRead
         return LastRead::Refused(Refusal::Range);
     }
     LastRead::Refused(Refusal::Length)
+}
+
+// The codes and yes/no bytes of all three.
+fn codes_ok(state: &[u8], reading: &[u8], last: &[u8]) -> bool
+    ensures { λ r. ⌜ r ≡ Call.codesOk (now (state .entry)) (now (reading .entry)) (now (last .entry)) ⌝ }
+{
+    state_codes_ok(state) & (reading_codes_ok(reading) & last_codes_ok(last))
+}
+
+// The sizes, as far as the slices can be read.
+fn sizes_fit(state: &[u8], reading: &[u8]) -> bool
+    ensures { λ r. ⌜ r ≡ Call.sizesFit (now (state .entry)) (now (reading .entry)) ⌝ }
+{
+    if reading.len() == READING_LENGTH {
+        let shingle_size = size_at(reading, 0);
+        let base = size_at(reading, 4);
+        if state.len() == STATE_LENGTH {
+            return descriptor::range_ok(shingle_size, base, size_at(state, BASE_DIMENSION_AT));
+        }
+        return descriptor::sizes_ok(shingle_size, base);
+    }
+    if state.len() == STATE_LENGTH {
+        return descriptor::sizes_ok(1, size_at(state, BASE_DIMENSION_AT));
+    }
+    true
+}
+
+// What a call reads of all three: 2 for a code, a yes/no byte or a size in a slice that can be read, then 3 for a slice of another length; `out` is whether the one
+// that the call writes has its length.
+pub fn read_call(state: &[u8], reading: &[u8], last: &[u8], out: bool) -> CallRead
+    ensures { λ r. ⌜ r ≡ Call.readCall (now (state .entry)) (now (reading .entry)) (now (last .entry)) out ⌝ }
+{
+    if codes_ok(state, reading, last) {
+        if (state.len() == STATE_LENGTH)
+            & ((reading.len() == READING_LENGTH) & ((last.len() == LAST_LENGTH) & out))
+        {
+            return CallRead::Read(core_of(state), reading_of(reading), last_of(last));
+        }
+        if sizes_fit(state, reading) {
+            return CallRead::Refused(Refusal::Length);
+        }
+        return CallRead::Refused(Refusal::Range);
+    }
+    CallRead::Refused(Refusal::Range)
 }
 
 // A verdict by its parts.

@@ -1,8 +1,8 @@
 // What a verdict leaves in the bytes of the stored state and of the verdict, as the crate layout has them.
-use basicthresholder::BasicThresholder;
 use descriptor::LastDescriptor;
 use descriptor::Reading;
 use detection::Verdict;
+use types::Answer;
 ghost use mathlib.Core.Path.{_≡_};
 ghost use lib.ListN.{length};
 ghost use Rattle.detection.specs.Steps.{Counting};
@@ -13,11 +13,6 @@ ghost use Rattle.layout.specs.InPlace.{kept};
 ghost use Rattle.verdict_bytes.specs.Bytes as Bytes;
 ghost use Rattle.verdict_bytes.specs.Put as Put;
 ghost use Rattle.verdict_bytes.specs.Steps as Steps;
-
-// Document 01's refusals of a size and of a length.
-const RANGE: u8 = 2;
-
-const LENGTH: u8 = 3;
 
 fn put_told(out: &mut [u8], verdict: Verdict, relative_index: i32)
     ensures { λ _. ⌜ now (out .exit) ≡ writtenOf verdictLength (now (out .entry)) (Bytes.told verdict «relative_index») ⌝ }
@@ -36,131 +31,61 @@ fn put_told(out: &mut [u8], verdict: Verdict, relative_index: i32)
     }
 }
 
-// Every accepted reading but a skipped one.
-fn changes_state(verdict: Verdict) -> bool
-    ensures { λ r. ⌜ r ≡ Bytes.changesState verdict ⌝ }
-{
-    match verdict {
-        Verdict::Quiet(_) => true,
-        Verdict::Corrected(_, _) => true,
-        Verdict::Raised(_, _) => true,
-        Verdict::Skipped => false,
-    }
-}
-
-// The score that enters the statistics as corrected: a quiet reading's own.
-fn score_used(r: Reading, l: LastDescriptor, verdict: Verdict) -> f32
-    ensures { λ x. ⌜ x ≡ Steps.scoreUsed r l verdict ⌝ }
-{
-    match verdict {
-        Verdict::Quiet(_) => r.score,
-        Verdict::Corrected(_, _) => scoring::corrected_score(r, l),
-        Verdict::Raised(_, _) => scoring::corrected_score(r, l),
-        Verdict::Skipped => r.score,
-    }
-}
-
-// The candidate branch: where the reading is a candidate by the run before it, the newest rows are counted. The run becomes `after`.
+// The candidate branch: where the reading is a candidate by the run before it, the newest rows are counted.
 fn put_rows(
     state: &mut [u8],
-    t: BasicThresholder,
-    run_length: u32,
-    after: u32,
+    grows: bool,
     r: Reading,
     l: LastDescriptor,
     threshold: f32,
     point: &[f32],
     newest_expected: [f32; 16],
-)
+) -> Answer
     requires { ⌜ Counting r (length (now point)) ⌝ ∗ ⌜ length «newest_expected» ≡ 16 ⌝ }
-    ensures { λ _. ⌜ now (state .exit) ≡ Steps.rowsOver (now (state .entry)) t «run_length» after r l threshold (now (point .entry)) «newest_expected» ⌝ }
+    ensures { λ a. ⌜ Steps.Put r (Steps.rowsAfter (decodeState (now (state .entry))) r l threshold (now (point .entry)) «newest_expected» grows) a (now (state .entry)) (now (state .exit)) ⌝ }
 {
-    if candidate::is_candidate(r, l, run_length, r.shingle_size as u32, threshold) {
+    let corrected = scoring::corrected_score(r, l);
+    let run = layout::run_length(state);
+    if candidate::is_candidate(r, l, run, r.shingle_size as u32, threshold) {
         let base = r.base_dimension;
         let at = point.len() - base;
-        layout::write_counted(state, t, after, &point[at..], &newest_expected[..base]);
-        return;
-    }
-    layout::write_kept(state, t, after);
-}
-
-// What a verdict does to the run and the lists, the thresholder being the one after it.
-fn put_run(
-    state: &mut [u8],
-    t: BasicThresholder,
-    run_length: u32,
-    r: Reading,
-    l: LastDescriptor,
-    verdict: Verdict,
-    point: &[f32],
-    newest_expected: [f32; 16],
-)
-    requires { ⌜ Counting r (length (now point)) ⌝ ∗ ⌜ length «newest_expected» ≡ 16 ⌝ }
-    ensures { λ _. ⌜ now (state .exit) ≡ writtenOf stateLength (now (state .entry)) (Bytes.stored verdict (now (state .entry)) (Steps.runRows (kept
-        (decodeState (now (state .entry))) t «run_length») r l (now (point .entry)) «newest_expected» verdict)) ⌝ }
-{
-    match verdict {
-        Verdict::Quiet(_) => layout::write_ended(state, t, run_length),
-        Verdict::Corrected(threshold, mode) => {
-            if detection::is_drift_mode(mode) {
-                put_rows(
-                    state,
-                    t,
-                    run_length,
-                    run_length,
-                    r,
-                    l,
-                    threshold,
-                    point,
-                    newest_expected,
-                );
-                return;
-            }
-            layout::write_adjusted(state, t, run_length, point)
-        }
-        Verdict::Raised(threshold, _) => put_rows(
+        return layout::write_counted(
             state,
-            t,
-            run_length,
-            layout::longer_run(run_length),
             r,
             l,
-            threshold,
-            point,
-            newest_expected,
-        ),
-        Verdict::Skipped => {}
+            corrected,
+            grows,
+            &point[at..],
+            &newest_expected[..base],
+        );
     }
+    layout::write_entered(state, r, l, corrected, grows)
 }
 
-// What a verdict does to the stored state, whose thresholder was t.
+// What a verdict does to the stored state.
 fn put_state(
     state: &mut [u8],
-    t: BasicThresholder,
-    run_length: u32,
     r: Reading,
     l: LastDescriptor,
     verdict: Verdict,
     point: &[f32],
     newest_expected: [f32; 16],
-)
+) -> Answer
     requires { ⌜ Counting r (length (now point)) ⌝ ∗ ⌜ length «newest_expected» ≡ 16 ⌝ }
-    ensures { λ _. ⌜ now (state .exit) ≡ writtenOf stateLength (now (state .entry)) (Bytes.stored verdict (now (state .entry)) (Steps.afterRows (kept
-        (decodeState (now (state .entry))) t «run_length») r l (now (point .entry)) «newest_expected» verdict)) ⌝ }
+    ensures { λ a. ⌜ Steps.PutState r l verdict (now (point .entry)) «newest_expected» a (now (state .entry)) (now (state .exit)) ⌝ }
 {
-    if changes_state(verdict) {
-        let used = score_used(r, l, verdict);
-        let entered = scoring::update_score(t, r, l, used);
-        put_run(
-            state,
-            entered,
-            run_length,
-            r,
-            l,
-            verdict,
-            point,
-            newest_expected,
-        );
+    match verdict {
+        Verdict::Quiet(_) => layout::write_ended(state, r, l, r.score),
+        Verdict::Corrected(threshold, mode) => {
+            if detection::is_drift_mode(mode) {
+                return put_rows(state, false, r, l, threshold, point, newest_expected);
+            }
+            layout::write_adjusted(state, r, l, scoring::corrected_score(r, l), point)
+        }
+        Verdict::Raised(threshold, _) => {
+            put_rows(state, true, r, l, threshold, point, newest_expected)
+        }
+        Verdict::Skipped => layout::reading_answer(state, r, true),
     }
 }
 
@@ -171,13 +96,11 @@ fn places(row: [f32; 16]) -> usize
     16
 }
 
-// The verdict on a reading, put into the stored state with this thresholder and run length, and into the verdict's bytes. The answer is document 01's number: 2
-// for a shingle or base over its range, 3 for a slice of another length or a point shorter than base; then nothing is written.
+// The verdict on a reading, put into the stored state and into the verdict's bytes. The answer is document 01's number of a reading that the state or the slices
+// do not fit: 2, 3 or 6; then nothing is written.
 pub fn put_verdict(
     state: &mut [u8],
     out: &mut [u8],
-    t: BasicThresholder,
-    run_length: u32,
     r: Reading,
     l: LastDescriptor,
     verdict: Verdict,
@@ -185,18 +108,21 @@ pub fn put_verdict(
     point: &[f32],
     newest_expected: [f32; 16],
 ) -> u8
-    ensures { λ n. ⌜ Put.Put t «run_length» r l verdict «relative_index» (now (point .entry)) «newest_expected» n (now (state .entry)) (now (out .entry)) (now (state .exit)) (now (out .exit)) ⌝ }
+    ensures { λ n. ⌜ Put.Put r l verdict «relative_index» (now (point .entry)) «newest_expected» n (now (state .entry)) (now (out .entry)) (now (state .exit)) (now (out .exit)) ⌝ }
 {
     let most = places(newest_expected);
-    if (r.shingle_size <= 64) & (r.base_dimension <= most) {
-        if (state.len() == layout::STATE_LENGTH)
-            & ((out.len() == layout::VERDICT_LENGTH) & (r.base_dimension <= point.len()))
-        {
-            put_state(state, t, run_length, r, l, verdict, point, newest_expected);
-            put_told(out, verdict, relative_index);
-            return 0;
-        }
-        return LENGTH;
+    if (r.shingle_size <= 64)
+        & ((r.base_dimension <= most)
+            & ((out.len() == layout::VERDICT_LENGTH) & (r.base_dimension <= point.len())))
+    {
+        let answer = put_state(state, r, l, verdict, point, newest_expected);
+        return match answer {
+            Answer::Done => {
+                put_told(out, verdict, relative_index);
+                0
+            }
+            Answer::Refused(why) => why.number(),
+        };
     }
-    RANGE
+    layout::reading_answer(state, r, false).number()
 }

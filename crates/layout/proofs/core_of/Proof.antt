@@ -15,6 +15,9 @@ flag-at-requires c κs = search needs
 read4-requires : tie.Need-read4-requires
 read4-requires c κs = search needs
 
+counts-ok-of-requires : tie.Need-counts-ok-of-requires
+counts-ok-of-requires c κs = search needs
+
 read4-requires-2 : tie.Need-read4-requires-2
 read4-requires-2 c κs = search needs
 
@@ -23,15 +26,6 @@ entries-requires c κs = search needs
 
 thresholder-of-requires : tie.Need-thresholder-of-requires
 thresholder-of-requires c κs = search needs
-
-counts-ok-requires : tie.Need-counts-ok-requires
-counts-ok-requires c κs = search needs
-
-counts-at-requires : tie.Need-counts-at-requires
-counts-at-requires c κs = search needs
-
-counts-at-requires-2 : tie.Need-counts-at-requires-2
-counts-at-requires-2 c κs = search needs
 
 cast-last-entry : tie.Need-cast-last-entry
 cast-last-entry c = search needs
@@ -47,11 +41,7 @@ last-entry-requires-2 c κs = search needs
 
 returns : tie.Need-returns
 returns c =
-    let n = c .before .before .before .before .before .before .entries .ensures .0 ∙ ap₂ (λ (a : Bool) (b : ℕ). entries a b) (c .before .before .before .before .before .before .before .before .before .flag-at .ensures) (c .before .before .before .before .before .before .before .read42 .ensures) in
-    core-is (now (c .before .before .before .before .before .before .before .before .before .before .before .args .bytes)) _ _ _ _ _ _ _ _ (c .before .before .before .before .before .before .before .before .before .flag-at .ensures) (c .before .before .before .before .before .before .before .before .read4 .ensures) (c .before .before .before .before .before .before .before .read42 .ensures) (c .before .before .before .before .before .before .entries .ensures .0) (c .before .before .before .before .before .thresholder-of .ensures)
-    ((λ i. leb (c .before .before .before .before .before .before .before .before .read4 .result) 16777215 && (c .before .before .before .before .counts-ok .ensures i && (c .before .before .before .counts-at .ensures i && c .before .before .counts-at2 .ensures i)))
-    ∙ counts-are (now (c .before .before .before .before .before .before .before .before .before .before .before .args .bytes)) (c .before .before .before .before .before .before .entries .result) (c .before .before .before .before .before .before .before .before .read4 .result) (c .before .before .before .before .before .thresholder-of .result) n (c .before .before .before .before .before .before .before .before .read4 .ensures) (c .before .before .before .before .before .thresholder-of .ensures))
-    (c .before .last-entry .ensures) (c .last-entry2 .ensures)
+    core-is (now (c .before .before .before .before .before .before .before .before .before .args .bytes)) _ _ _ _ _ _ _ _ (c .before .before .before .before .before .before .before .flag-at .ensures) (c .before .before .before .read42 .ensures) (c .before .before .before .before .before .before .read4 .ensures) (c .before .before .before .before .before .entries .ensures .0) (c .before .before .before .before .thresholder-of .ensures) (c .before .before .counts-ok-of .ensures) (c .before .last-entry .ensures) (c .last-entry2 .ensures)
 
 pub core-of-spec : {M : Type 1} → statement M
 core-of-spec =
@@ -59,12 +49,10 @@ core-of-spec =
     (tie.spec
     flag-at-requires
     read4-requires
-    read4-requires-2
     entries-requires
     thresholder-of-requires
-    counts-ok-requires
-    counts-at-requires
-    counts-at-requires-2
+    read4-requires-2
+    counts-ok-of-requires
     cast-last-entry
     last-entry-requires
     cast-last-entry-2

@@ -1,61 +1,66 @@
+use mathlib.Core.Path.{_≡_, sym, _∙_, ap}
+use mathlib.Core.Bool.{true, _&&_}
+use native.Mathlib.Omega.{arith}
+use lib.Dec.{leb}
+use lib.ListN.{length}
 use denote.Ref.{now}
-use borrow.Author.Tests.{ne-eqb}
-use Rattle.layout.specs.Numbers.{writtenOf}
-use Rattle.layout.proofs.InPlace.{counted-written, counted-none}
+use borrow.Author.Tests.{leb-true}
+use Rattle.types.specs.declared.Answer.{Answer}
+use Rattle.descriptor.proofs.Bounds.{both}
+use Rattle.layout.specs.Chain.{decodeState}
+use Rattle.layout.specs.InPlace.{storedBy, rowsFit, entered, ended, adjusted, counted}
+use Rattle.layout.proofs.InPlace.{fitting}
 use borrow.Author.Needs.{needs}
 use Rattle.layout.proofs.write_counted.Statement.{statement}
 use Rattle.layout.proofs.write_counted.Tie as tie
+use Rattle.layout.proofs.write_counted.Reads as reads
+use Rattle.layout.proofs.write_counted.Lts as lts
+use Rattle.layout.proofs.count.Reads as count-reads
+use Rattle.layout.proofs.reading_answer.Reads as reading-answer-reads
 
-flag-at-requires : tie.Need-flag-at-requires
-flag-at-requires c κs = search needs
+reading-answer-requires : tie.Need-reading-answer-requires
+reading-answer-requires c κs = search needs
 
-read4-requires : tie.Need-read4-requires
-read4-requires c κs = search needs
+enum-told : tie.Need-enum-told
+enum-told c = search needs
 
-put-head-requires : tie.Need-put-head-requires
-put-head-requires c κs = search needs
+count-requires : tie.Need-count-requires
+unfolding rowsFit
+count-requires c κs =
+    let f = (fitting (now (c .before .before .before .before .before .before .before .before .before .before .args .out)) (c .before .before .before .before .before .before .before .before .before .before .args .r) (rowsFit (c .before .before .before .before .before .before .before .before .before .before .args .r) (length (now (c .before .before .before .before .before .before .before .before .before .before .args .newest))) (length (now (c .before .before .before .before .before .before .before .before .before .before .args .newest-expected)))) (sym (c .before .before .before .reading-answer .ensures) ∙ c .before .enum-told .given .1)) in
+    let g = both (leb (c .before .before .before .before .before .before .before .before .before .before .args .r .«base_dimension») (length (now (c .before .before .before .before .before .before .before .before .before .before .args .newest)))) (leb (c .before .before .before .before .before .before .before .before .before .before .args .r .«base_dimension») (length (now (c .before .before .before .before .before .before .before .before .before .before .args .newest-expected)))) (f .fit) in
+    (f .taking, (omega (arith, f .based, leb-true (c .before .before .before .before .before .before .before .before .before .before .args .r .«base_dimension») (length (now (c .before .before .before .before .before .before .before .before .before .before .args .newest))) (g .0)), omega (arith, f .based, leb-true (c .before .before .before .before .before .before .before .before .before .before .args .r .«base_dimension») (length (now (c .before .before .before .before .before .before .before .before .before .before .args .newest-expected))) (g .1))))
 
-cast-count-row : tie.Need-cast-count-row
-cast-count-row c = search needs
-
-count-row-requires : tie.Need-count-row-requires
-count-row-requires c κs = search needs
-
-cast-count-row-2 : tie.Need-cast-count-row-2
-cast-count-row-2 c = search needs
-
-count-row-requires-2 : tie.Need-count-row-requires-2
-count-row-requires-2 c κs = search needs
+enum-told-2 : tie.Need-enum-told-2
+enum-told-2 c = search needs
 
 same-length : tie.Need-same-length
 same-length c = search needs
 
 returns : tie.Need-returns
-returns c = counted-written (now (c .before .before .before .before .before .before .before .before .before .before .before .before .before .before .before .before .before .before .before .before .before .args .out)) (c .before .before .before .before .before .before .before .before .before .before .before .before .before .before .before .before .before .before .before .before .before .args .t) (c .before .before .before .before .before .before .before .before .before .before .before .before .before .before .before .before .before .before .before .before .before .args .run-length) (c .before .before .before .before .before .before .before .before .before .before .before .before .before .before .before .before .before .if1 .taken) (c .before .before .before .before .before .before .before .before .before .before .before .before .before .before .before .flag-at .result) (c .before .before .before .before .before .before .before .before .before .before .before .before .before .before .before .flag-at .ensures) (c .before .before .before .before .before .before .before .before .before .before .before .before .before .read4 .result) (c .before .before .before .before .before .before .before .before .before .before .before .before .before .read4 .ensures) _ _ _ (now (c .before .before .before .before .before .before .before .before .before .before .before .before .before .before .before .before .before .before .before .before .before .args .newest)) (now (c .before .before .before .before .before .before .before .before .before .before .before .before .before .before .before .before .before .before .before .before .before .args .newest-expected)) (c .before .before .before .before .before .before .before .before .if2 .taken) (c .before .before .before .before .before .before .before .before .before .before .before .put-head .ensures) (c .before .before .before .before .before .before .count-row .ensures) (c .before .before .count-row2 .ensures)
+unfolding storedBy rowsFit
+returns c =
+    let a = c .before .before .before .before .before .before .before .before .before .before .before .before .before .args in
+    (c .before .before .before .before .before .before .reading-answer .ensures, c .before .before .count .ensures ∙ ap (λ (x : Answer). storedBy x (now (a .out)) (counted (decodeState (now (a .out))) (a .r) (a .l) (a .corrected) (a .grows) (now (a .newest)) (now (a .newest-expected)))) (sym (sym (c .before .before .before .before .before .before .reading-answer .ensures) ∙ c .before .before .before .before .enum-told .given .1)))
 
 same-length-2 : tie.Need-same-length-2
 same-length-2 c = search needs
 
 returns-2 : tie.Need-returns-2
-returns-2 c = counted-none (now (c .before .before .before .before .before .before .before .before .before .before .before .before .before .args .out)) (c .before .before .before .before .before .before .before .before .before .before .before .before .before .args .t) (c .before .before .before .before .before .before .before .before .before .before .before .before .before .args .run-length) (c .before .before .before .before .before .before .before .before .before .if1 .taken) (c .before .before .before .before .before .before .before .flag-at .result) (c .before .before .before .before .before .before .before .flag-at .ensures) (c .before .before .before .before .before .read4 .result) (c .before .before .before .before .before .read4 .ensures) (now (c .before .before .before .before .before .before .before .before .before .before .before .before .before .args .newest)) (now (c .before .before .before .before .before .before .before .before .before .before .before .before .before .args .newest-expected)) _ (c .if2 .left) (c .before .before .before .put-head .ensures)
-
-returns-3 : tie.Need-returns-3
-unfolding writtenOf
-returns-3 c = simp (ne-eqb _ _ (c .if1 .left))
+unfolding storedBy rowsFit
+returns-2 c =
+    let a = c .before .before .before .before .before .before .before .before .before .args in
+    (c .before .before .reading-answer .ensures, ap (λ (x : Answer). storedBy x (now (a .out)) (counted (decodeState (now (a .out))) (a .r) (a .l) (a .corrected) (a .grows) (now (a .newest)) (now (a .newest-expected)))) (sym (sym (c .before .before .reading-answer .ensures) ∙ c .enum-told2 .given .1)))
 
 pub write-counted-spec : {M : Type 1} → statement M
 write-counted-spec =
     tie.close
     (tie.spec
-    flag-at-requires
-    read4-requires
-    put-head-requires
-    cast-count-row
-    count-row-requires
-    cast-count-row-2
-    count-row-requires-2
+    reading-answer-requires
+    enum-told
+    count-requires
+    enum-told-2
     same-length
     returns
     same-length-2
-    returns-2
-    returns-3)
+    returns-2)

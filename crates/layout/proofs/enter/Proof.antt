@@ -1,0 +1,73 @@
+use mathlib.Core.Path.{_≡_, _∙_, ap}
+use mathlib.Core.Bool.{Bool}
+use Prim.Native.Nat.{ℕ}
+use denote.Ref.{now}
+use Rattle.layout.specs.InPlace.{runAfter}
+use Rattle.layout.proofs.InPlace.{entered-lists, entered-none}
+use borrow.Author.Needs.{needs}
+use Rattle.layout.proofs.enter.Statement.{statement}
+use Rattle.layout.proofs.enter.Tie as tie
+use Rattle.layout.proofs.enter.Reads as reads
+use Rattle.layout.proofs.enter.Lts as lts
+use Rattle.layout.proofs.flag_at.Reads as flag-at-reads
+use Rattle.layout.proofs.put_entered.Reads as put-entered-reads
+use Rattle.layout.proofs.read4.Reads as read4-reads
+use Rattle.layout.proofs.run_after.Reads as run-after-reads
+use Rattle.layout.proofs.settle_list.Reads as settle-list-reads
+
+flag-at-requires : tie.Need-flag-at-requires
+flag-at-requires c κs = search needs
+
+read4-requires : tie.Need-read4-requires
+read4-requires c κs = search needs
+
+read4-requires-2 : tie.Need-read4-requires-2
+read4-requires-2 c κs = search needs
+
+run-after-requires : tie.Need-run-after-requires
+run-after-requires c κs = search needs
+
+put-entered-requires : tie.Need-put-entered-requires
+put-entered-requires c κs = search needs
+
+cast-settle-list : tie.Need-cast-settle-list
+cast-settle-list c = search needs
+
+settle-list-requires : tie.Need-settle-list-requires
+settle-list-requires c κs = search needs
+
+cast-settle-list-2 : tie.Need-cast-settle-list-2
+cast-settle-list-2 c = search needs
+
+settle-list-requires-2 : tie.Need-settle-list-requires-2
+settle-list-requires-2 c κs = search needs
+
+same-length : tie.Need-same-length
+same-length c = search needs
+
+returns : tie.Need-returns
+returns c = entered-lists (now (c .before .before .before .before .before .before .before .before .before .before .before .before .before .before .before .before .before .before .before .before .before .args .out)) (c .before .before .before .before .before .before .before .before .before .before .before .before .before .before .before .before .before .before .before .before .before .pre) (c .before .before .before .before .before .before .before .before .before .before .before .before .before .before .before .before .before .before .before .before .before .args .r) (c .before .before .before .before .before .before .before .before .before .before .before .before .before .before .before .before .before .before .before .before .before .args .l) (c .before .before .before .before .before .before .before .before .before .before .before .before .before .before .before .before .before .before .before .before .before .args .corrected) (c .before .before .before .before .before .before .before .before .before .before .before .before .before .before .before .before .before .before .flag-at .result) (c .before .before .before .before .before .before .before .before .before .before .before .before .before .before .before .before .before .before .flag-at .ensures) (c .before .before .before .before .before .before .before .before .before .before .before .before .before .before .before .before .read4 .result) (c .before .before .before .before .before .before .before .before .before .before .before .before .before .before .before .before .read4 .ensures) (c .before .before .before .before .before .before .before .before .before .before .before .before .before .before .before .before .before .before .before .before .before .args .grows) (c .before .before .before .before .before .before .before .before .before .before .before .before .before .run-after .result) (c .before .before .before .before .before .before .before .before .before .before .before .before .before .run-after .ensures ∙ ap (λ (n : ℕ). runAfter (c .before .before .before .before .before .before .before .before .before .before .before .before .before .before .before .before .before .before .before .before .before .args .grows) n) (c .before .before .before .before .before .before .before .before .before .before .before .before .before .before .read42 .ensures)) _ _ _ (c .before .before .before .before .before .before .before .before .if1 .taken) (c .before .before .before .before .before .before .before .before .before .before .before .put-entered .ensures) (c .before .before .before .before .before .before .settle-list .ensures) (c .before .before .settle-list2 .ensures)
+
+same-length-2 : tie.Need-same-length-2
+same-length-2 c = search needs
+
+returns-2 : tie.Need-returns-2
+returns-2 c = entered-none (now (c .before .before .before .before .before .before .before .before .before .before .before .before .before .args .out)) (c .before .before .before .before .before .before .before .before .before .before .before .before .before .pre) (c .before .before .before .before .before .before .before .before .before .before .before .before .before .args .r) (c .before .before .before .before .before .before .before .before .before .before .before .before .before .args .l) (c .before .before .before .before .before .before .before .before .before .before .before .before .before .args .corrected) (c .before .before .before .before .before .before .before .before .before .before .flag-at .result) (c .before .before .before .before .before .before .before .before .before .before .flag-at .ensures) (c .before .before .before .before .before .before .before .before .read4 .result) (c .before .before .before .before .before .before .before .before .read4 .ensures) (c .before .before .before .before .before .before .before .before .before .before .before .before .before .args .grows) (c .before .before .before .before .before .run-after .result) (c .before .before .before .before .before .run-after .ensures ∙ ap (λ (n : ℕ). runAfter (c .before .before .before .before .before .before .before .before .before .before .before .before .before .args .grows) n) (c .before .before .before .before .before .before .read42 .ensures)) _ (c .if1 .left) (c .before .before .before .put-entered .ensures)
+
+pub enter-spec : {M : Type 1} → statement M
+enter-spec =
+    tie.close
+    (tie.spec
+    flag-at-requires
+    read4-requires
+    read4-requires-2
+    run-after-requires
+    put-entered-requires
+    cast-settle-list
+    settle-list-requires
+    cast-settle-list-2
+    settle-list-requires-2
+    same-length
+    returns
+    same-length-2
+    returns-2)

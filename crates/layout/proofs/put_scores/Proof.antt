@@ -1,0 +1,74 @@
+use mathlib.Core.Path.{_≡_, _∙_, ap, ap₂}
+use denote.Ref.{now}
+use lib.Ieee.{binary32}
+use lib.Ieee as Ieee
+use Rattle.basicthresholder.specs.declared.BasicThresholder.{BasicThresholder}
+use Rattle.layout.specs.Numbers.{pasted}
+use Rattle.layout.specs.States.{decodeThresholder, encodeThresholder}
+use Rattle.layout.specs.Parts.{scored, lastScore, secondAfter}
+use Rattle.layout.proofs.InPlace.{by-parts}
+use borrow.Author.Needs.{needs}
+use Rattle.layout.proofs.put_scores.Statement.{statement}
+use Rattle.layout.proofs.put_scores.Tie as tie
+use Rattle.layout.proofs.put_scores.Reads as reads
+use Rattle.layout.proofs.put_scores.Lts as lts
+use Rattle.layout.proofs.deviation_at.Reads as deviation-at-reads
+use Rattle.layout.proofs.last_score.Reads as last-score-reads
+use Rattle.layout.proofs.primary_score.Reads as primary-score-reads
+use Rattle.layout.proofs.put_scored.Reads as put-scored-reads
+use Rattle.layout.proofs.second_after.Reads as second-after-reads
+use Rattle.predictorcorrector.proofs.height_score.Reads as height-score-reads
+use Rattle.std.proofs.num.f32_to_f64_with_nan.Reads as f32-to-f64-with-nan-reads
+
+primary-score-requires : tie.Need-primary-score-requires
+primary-score-requires c κs = search needs
+
+height-score-requires : tie.Need-height-score-requires
+height-score-requires c κs = search needs
+
+deviation-at-requires : tie.Need-deviation-at-requires
+deviation-at-requires c κs = search needs
+
+second-after-requires : tie.Need-second-after-requires
+second-after-requires c κs = search needs
+
+f32-to-f64-with-nan-requires : tie.Need-f32-to-f64-with-nan-requires
+f32-to-f64-with-nan-requires c κs = search needs
+
+last-score-requires : tie.Need-last-score-requires
+last-score-requires c κs = search needs
+
+put-scored-requires : tie.Need-put-scored-requires
+put-scored-requires c κs = search needs
+
+same-length : tie.Need-same-length
+same-length c = search needs
+
+returns : tie.Need-returns
+unfolding decodeThresholder
+returns c =
+    let a = c .before .before .before .before .before .before .before .before .before .before .before .before .args in
+    let xs = now (a .out) in
+    let strategy = a .r .«scoring_strategy» in
+    let p = c .before .before .before .before .before .before .before .before .before .before .primary-score .ensures in
+    let w = c .before .before .before .before .f32-to-f64-with-nan .ensures ∙ p in
+    let l = c .before .before .before .last-score .ensures ∙ ap (lastScore strategy) p in
+    let g = ap (Ieee.sub binary32 (a .corrected)) (c .before .before .before .before .before .before .before .before .before .height-score .ensures) in
+    let s = c .before .before .before .before .before .before .second-after .ensures ∙ ap₂ (secondAfter strategy) (c .before .before .before .before .before .before .before .deviation-at .ensures) g in
+    c .before .before .put-scored .ensures
+    ∙ ap (λ (t : BasicThresholder). pasted xs 0 (encodeThresholder t))
+    ((λ i. scored (decodeThresholder xs) (w i) (l i) (s i)) ∙ by-parts (decodeThresholder xs) (c .before .before .before .before .before .before .before .before .before .before .before .before .pre .1) strategy (a .r .score) (a .corrected) (a .l .«scoring_strategy») (a .l .score))
+
+pub put-scores-spec : {M : Type 1} → statement M
+put-scores-spec =
+    tie.close
+    (tie.spec
+    primary-score-requires
+    height-score-requires
+    deviation-at-requires
+    second-after-requires
+    f32-to-f64-with-nan-requires
+    last-score-requires
+    put-scored-requires
+    same-length
+    returns)

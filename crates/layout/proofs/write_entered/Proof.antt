@@ -1,0 +1,62 @@
+use mathlib.Core.Path.{_≡_, sym, _∙_, ap}
+use mathlib.Core.Bool.{true, _&&_}
+use native.Mathlib.Omega.{arith}
+use lib.Dec.{leb}
+use lib.ListN.{length}
+use denote.Ref.{now}
+use borrow.Author.Tests.{leb-true}
+use Rattle.types.specs.declared.Answer.{Answer}
+use Rattle.descriptor.proofs.Bounds.{both}
+use Rattle.layout.specs.Chain.{decodeState}
+use Rattle.layout.specs.InPlace.{storedBy, rowsFit, entered, ended, adjusted, counted}
+use Rattle.layout.proofs.InPlace.{fitting}
+use borrow.Author.Needs.{needs}
+use Rattle.layout.proofs.write_entered.Statement.{statement}
+use Rattle.layout.proofs.write_entered.Tie as tie
+use Rattle.layout.proofs.write_entered.Reads as reads
+use Rattle.layout.proofs.write_entered.Lts as lts
+use Rattle.layout.proofs.enter.Reads as enter-reads
+use Rattle.layout.proofs.reading_answer.Reads as reading-answer-reads
+
+reading-answer-requires : tie.Need-reading-answer-requires
+reading-answer-requires c κs = search needs
+
+enum-told : tie.Need-enum-told
+enum-told c = search needs
+
+enter-requires : tie.Need-enter-requires
+enter-requires c κs = (fitting (now (c .before .before .before .before .before .before .args .out)) (c .before .before .before .before .before .before .args .r) true (sym (c .before .before .before .reading-answer .ensures) ∙ c .before .enum-told .given .1)) .taking
+
+enum-told-2 : tie.Need-enum-told-2
+enum-told-2 c = search needs
+
+same-length : tie.Need-same-length
+same-length c = search needs
+
+returns : tie.Need-returns
+unfolding storedBy
+returns c =
+    let a = c .before .before .before .before .before .before .before .before .before .args in
+    (c .before .before .before .before .before .before .reading-answer .ensures, c .before .before .enter .ensures ∙ ap (λ (x : Answer). storedBy x (now (a .out)) (entered (decodeState (now (a .out))) (a .r) (a .l) (a .corrected) (a .grows))) (sym (sym (c .before .before .before .before .before .before .reading-answer .ensures) ∙ c .before .before .before .before .enum-told .given .1)))
+
+same-length-2 : tie.Need-same-length-2
+same-length-2 c = search needs
+
+returns-2 : tie.Need-returns-2
+unfolding storedBy
+returns-2 c =
+    let a = c .before .before .before .before .before .args in
+    (c .before .before .reading-answer .ensures, ap (λ (x : Answer). storedBy x (now (a .out)) (entered (decodeState (now (a .out))) (a .r) (a .l) (a .corrected) (a .grows))) (sym (sym (c .before .before .reading-answer .ensures) ∙ c .enum-told2 .given .1)))
+
+pub write-entered-spec : {M : Type 1} → statement M
+write-entered-spec =
+    tie.close
+    (tie.spec
+    reading-answer-requires
+    enum-told
+    enter-requires
+    enum-told-2
+    same-length
+    returns
+    same-length-2
+    returns-2)
