@@ -11,12 +11,12 @@ use Rattle.types.specs.declared.Answer.the-variants.{Done, Refused}
 use Rattle.types.specs.declared.ScoringStrategy.{ScoringStrategy}
 use Rattle.types.specs.Codes.{isHeight}
 use Rattle.deviation.specs.Const.{zero64, countLimit}
-use Rattle.deviation.specs.Statistics.{fresh, isDiscount}
+use Rattle.deviation.specs.Statistics.{fresh, isDiscount, counted, reset}
 use Rattle.deviation.specs.declared.Deviation.{Deviation}
 use Rattle.basicthresholder.specs.Const.{zero32}
 use Rattle.basicthresholder.specs.Updates.{freshThresholder, countsOk, updatePrimary, update, withZFactor, withAbsoluteThreshold, withInitialThreshold, setScoreDifferencing}
 use Rattle.basicthresholder.specs.declared.BasicThresholder.{BasicThresholder}
-use Rattle.predictorcorrector.specs.Lists.{changed, rowCounted, rowReset, listCountable}
+use Rattle.predictorcorrector.specs.Lists.{changed, stepped, rowFits, listCountable}
 use Rattle.predictorcorrector.specs.declared.PredictorCorrector.{PredictorCorrector}
 use Rattle.predictorcorrector.specs.declared.Updated.{Updated}
 
@@ -97,27 +97,28 @@ stateCountsOk s =
 unfoldable pub longerRun : ℕ → ℕ
 longerRun n = cond (leb n countLimit) (n + 1) n
 
--- Opening grade 0 with auto adjust: the run ends, and both lists are reset. Without auto adjust the run length never falls.
+-- Opening grade 0 with auto adjust: the run ends, and both lists are reset. Without auto adjust the run length never falls. A base over 16 leaves the state alone.
 unfoldable pub runEnded : PredictorCorrector → PredictorCorrector
 runEnded s =
-    cond (s .«auto_adjust»)
-    (withRun s 0 (rowReset (s .«base_dimension») (s .«deviations_actual»)) (rowReset (s .«base_dimension») (s .«deviations_expected»)))
+    cond (s .«auto_adjust» && leb (s .«base_dimension») 16)
+    (withRun s 0 (changed reset (s .«base_dimension») (s .«deviations_actual»)) (changed reset (s .«base_dimension») (s .«deviations_expected»)))
     s
 
--- `update_auto_adjust`: within a run the oldest row, the first of the point, is counted.
+-- `update_auto_adjust`: within a run the oldest row, the first of the point, is counted, and the run is one longer. The state stays as it is, whole, where the run or
+-- an entry is one that refusal 6 is of, or the row does not fit.
 unfoldable pub autoAdjusted : PredictorCorrector → List Float → PredictorCorrector
 autoAdjusted s point =
-    cond (s .«auto_adjust» && ltb 0 (s .«run_length»))
-    (withRun s (longerRun (s .«run_length»)) (rowCounted (s .«base_dimension») (s .«deviations_actual») point) (s .«deviations_expected»))
+    cond (s .«auto_adjust» && (ltb 0 (s .«run_length») && (leb (s .«run_length») countLimit && rowFits (s .«base_dimension») (s .«deviations_actual») point)))
+    (withRun s (longerRun (s .«run_length»)) (stepped counted (s .«base_dimension») (s .«deviations_actual») point) (s .«deviations_expected»))
     s
 
--- The candidate branch: the newest rows of the point and of the expected point are counted.
+-- The candidate branch: the newest rows of the point and of the expected point are counted; both or neither.
 unfoldable pub candidateCounted : PredictorCorrector → List Float → List Float → PredictorCorrector
 candidateCounted s newest expected =
-    cond (s .«auto_adjust»)
+    cond (s .«auto_adjust» && (rowFits (s .«base_dimension») (s .«deviations_actual») newest && rowFits (s .«base_dimension») (s .«deviations_expected») expected))
     (withRun s (s .«run_length»)
-    (rowCounted (s .«base_dimension») (s .«deviations_actual») newest)
-    (rowCounted (s .«base_dimension») (s .«deviations_expected») expected))
+    (stepped counted (s .«base_dimension») (s .«deviations_actual») newest)
+    (stepped counted (s .«base_dimension») (s .«deviations_expected») expected))
     s
 
 -- A raised reading is one more of the run.

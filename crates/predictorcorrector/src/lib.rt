@@ -49,16 +49,6 @@ fn count_row(list: [Deviation; 16], row: &[f32], n: usize) -> [Deviation; 16]
     out
 }
 
-// The first n statistics count a row; the list itself where n is over 16 or the row is shorter. An entry that refusal 6 is of stays.
-fn row_counted(list: [Deviation; 16], row: &[f32], n: usize) -> [Deviation; 16]
-    ensures { λ r. ⌜ r ≡ Lists.rowCounted n list (now (row .entry)) ⌝ }
-{
-    if (n <= 16) & (n <= row.len()) {
-        return count_row(list, row, n);
-    }
-    list
-}
-
 fn reset_row(list: [Deviation; 16], n: usize) -> [Deviation; 16]
     requires { ⌜ n ≤ 16 ⌝ }
     ensures { λ r. ⌜ r ≡ Lists.changed Statistics.reset n list ⌝ }
@@ -71,15 +61,6 @@ fn reset_row(list: [Deviation; 16], n: usize) -> [Deviation; 16]
         i += 1;
     }
     out
-}
-
-fn row_reset(list: [Deviation; 16], n: usize) -> [Deviation; 16]
-    ensures { λ r. ⌜ r ≡ Lists.rowReset n list ⌝ }
-{
-    if n <= 16 {
-        return reset_row(list, n);
-    }
-    list
 }
 
 fn takes_update(d: Deviation) -> bool
@@ -102,6 +83,16 @@ fn first_countable(list: [Deviation; 16], n: usize) -> bool
         }
     }
     true
+}
+
+// The first n statistics can count a row.
+fn row_fits(list: [Deviation; 16], row: &[f32], n: usize) -> bool
+    ensures { λ r. ⌜ r ≡ Lists.rowFits n list (now (row .entry)) ⌝ }
+{
+    if (n <= 16) & (n <= row.len()) {
+        return first_countable(list, n);
+    }
+    false
 }
 
 fn list_countable(list: [Deviation; 16], n: usize) -> bool
@@ -138,7 +129,7 @@ fn fresh_row(discount: f64, n: usize) -> [Deviation; 16]
 }
 
 // One more; a run that refusal 6 is of stays.
-fn longer_run(n: u32) -> u32
+pub fn longer_run(n: u32) -> u32
     ensures { λ r. ⌜ r ≡ State.longerRun n ⌝ }
 {
     if n <= RUN_LIMIT {
@@ -331,17 +322,17 @@ impl PredictorCorrector {
                 & (list_countable(actual, n) & list_countable(expected, n)))
     }
 
-    // The steps of the judge, which refuses first.
-    // Opening grade 0: with auto adjust the run ends, and both lists are reset; a base over 16 leaves them alone.
+    // The steps of the judge, which refuses first. What they cannot change whole they leave alone, whole.
+    // Opening grade 0: with auto adjust the run ends, and both lists are reset. A base over 16 leaves the state alone.
     pub fn run_ended(self) -> PredictorCorrector
         ensures { λ r. ⌜ r ≡ State.runEnded self ⌝ }
     {
-        if self.auto_adjust {
-            let n = self.base_dimension as usize;
+        let n = self.base_dimension as usize;
+        if self.auto_adjust & (n <= 16) {
             let actual = self.deviations_actual;
             let expected = self.deviations_expected;
-            let reset_actual = row_reset(actual, n);
-            let reset_expected = row_reset(expected, n);
+            let reset_actual = reset_row(actual, n);
+            let reset_expected = reset_row(expected, n);
             let mut out = self;
             out.run_length = 0;
             out.deviations_actual = reset_actual;
@@ -351,38 +342,36 @@ impl PredictorCorrector {
         self
     }
 
-    // What `update_auto_adjust` leaves: within a run the oldest row is counted, and the run grows. A row shorter than the base, an entry or a run that refusal 6
-    // is of is left alone; `calls::update_auto_adjust` refuses.
+    // What `update_auto_adjust` leaves: within a run the oldest row is counted, and the run is one longer. A row that does not fit, and a run or an entry that
+    // refusal 6 is of, leave the state alone; `calls::update_auto_adjust` refuses.
     pub fn auto_adjusted(self, point: &[f32]) -> PredictorCorrector
         ensures { λ r. ⌜ r ≡ State.autoAdjusted self (now (point .entry)) ⌝ }
     {
-        if self.auto_adjust {
-            if 0 < self.run_length {
-                let n = self.base_dimension as usize;
-                let actual = self.deviations_actual;
-                let counted = row_counted(actual, point, n);
-                let run = longer_run(self.run_length);
-                let mut out = self;
-                out.run_length = run;
-                out.deviations_actual = counted;
-                return out;
-            }
-            return self;
+        let n = self.base_dimension as usize;
+        let run = self.run_length;
+        let actual = self.deviations_actual;
+        if self.auto_adjust & ((0 < run) & ((run <= RUN_LIMIT) & row_fits(actual, point, n))) {
+            let longer = longer_run(run);
+            let counted = count_row(actual, point, n);
+            let mut out = self;
+            out.run_length = longer;
+            out.deviations_actual = counted;
+            return out;
         }
         self
     }
 
-    // The candidate branch: the newest rows of the point and of the expected point are counted. A row shorter than the base and an entry that refusal 6 is of are
-    // left alone.
+    // The candidate branch: the newest rows of the point and of the expected point are counted, both or neither. A row that does not fit, and an entry that
+    // refusal 6 is of, leave the state alone.
     pub fn candidate_counted(self, newest: &[f32], expected: &[f32]) -> PredictorCorrector
         ensures { λ r. ⌜ r ≡ State.candidateCounted self (now (newest .entry)) (now (expected .entry)) ⌝ }
     {
-        if self.auto_adjust {
-            let n = self.base_dimension as usize;
-            let actuals = self.deviations_actual;
-            let expecteds = self.deviations_expected;
-            let counted_actual = row_counted(actuals, newest, n);
-            let counted_expected = row_counted(expecteds, expected, n);
+        let n = self.base_dimension as usize;
+        let actuals = self.deviations_actual;
+        let expecteds = self.deviations_expected;
+        if self.auto_adjust & (row_fits(actuals, newest, n) & row_fits(expecteds, expected, n)) {
+            let counted_actual = count_row(actuals, newest, n);
+            let counted_expected = count_row(expecteds, expected, n);
             let mut out = self;
             out.deviations_actual = counted_actual;
             out.deviations_expected = counted_expected;
