@@ -1,5 +1,6 @@
 -- The row of the expected point: how it is made, and that the point with it in its place is the expected point. Assumes nothing.
 use mathlib.Core.Path.{_≡_, refl, sym, ap, ap₂, _∙_}
+use mathlib.Core.Bool.{Bool, true, false, cond}
 use mathlib.Core.List.{List, [], _∷_, _++_}
 use Prim.Native.Nat.{ℕ, zero, suc, _+_, _-_, _<_, _≤_}
 use native.Mathlib.Numerals.{add-one}
@@ -8,10 +9,10 @@ use lib.ListN.{length, getD, set, take, drop, length-set, length-take, length-dr
 use lib.Seq.{paste, take-suc, getD-drop, length-take-le, take-set-lt, take-set-le, drop-set-add, drop-set-lt, take-add}
 use lib.Ieee.{Float, nan}
 use Rattle.ieee.specs.F32.{zero32}
-use Rattle.attributors.specs.Attributors.{askedIndices, missing, padded}
+use Rattle.attributors.specs.Attributors.{askedIndices, missing, padded, rowFits}
 use Rattle.attributors.specs.declared.Missing.{Missing}
 use Rattle.attributors.proofs.Laws.{Within, padded-more, padded-set, take-padded, getD-padded, count-is, asked-few, asked-within, Row, row-fits}
-use Rattle.corrector.specs.Corrector.{predicted, expectedPoint, expectedRow, writeRow}
+use Rattle.corrector.specs.Corrector.{predicted, expectedPoint, rowAt, expectedRow, writeRow}
 use Rattle.corrector.specs.Steps.{Missed, predictedRow, Expecting}
 use Rattle.corrector.proofs.Kept.{expected-keeps, expects}
 
@@ -29,6 +30,17 @@ row-more row point start i h e =
     ∙ ap (λ (n : ℕ). set (rowOf start i point) n (getD l i nan)) (sym long)
     ∙ padded-more zero32 16 (take i l) (getD l i nan)
     ∙ ap (padded zero32 16) (sym (take-suc l i nan inside) ∙ ap (λ (n : ℕ). take n l) (sym (add-one i)))
+
+-- A row that lies in the point, or one of no coordinates.
+pub row-at-is : (point : List Float) (start base : ℕ) → base ≤ 16 → start + base ≤ length point → rowAt point start base ≡ rowOf start base point
+unfolding rowAt
+row-at-is point start zero few inside = none (rowFits (length point) (length point) start zero)
+  where
+    none : (b : Bool) → padded zero32 16 (cond b [] []) ≡ padded zero32 16 []
+    none true = refl
+    none false = refl
+row-at-is point start (suc n) few inside =
+    rw (row-fits (length point) (length point) start (suc n) (record { low-long = refl; some = omega arith; few = few; inside = inside })) refl
 
 -- A turn of the loop that predicts.
 predicted-last : (start : ℕ) (indices : List ℕ) (i : ℕ) (prediction row : List Float)

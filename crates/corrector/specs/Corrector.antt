@@ -34,6 +34,10 @@ expectedPoint high low position base point median = predicted (askedIndices high
 unfoldable pub expectedFits : (high low position base point median out : ℕ) → Bool
 expectedFits high low position base point median out = rowFits high low position base && (eqb point high && (eqb median high && eqb out high))
 
+-- A row of a point, of 16 coordinates, zero where there are none; zeros where the row does not fit.
+unfoldable pub rowAt : List Float → ℕ → ℕ → List Float
+rowAt point start base = padded zero32 16 (cond (rowFits (length point) (length point) start base) (take base (drop start point)) [])
+
 -- The row of the expected point from position on, of 16 coordinates, zero where there are none; zeros where the row does not fit.
 unfoldable pub expectedRow : List Float → List Float → ℕ → ℕ → List Float → List Float → List Float
 expectedRow high low position base point median =

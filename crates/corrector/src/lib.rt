@@ -43,15 +43,15 @@ fn expected_fits(
         & ((point == high) & ((median == high) & (out == high)))
 }
 
-// No row.
+// No row: zeros.
 fn no_row() -> [f32; 16]
     ensures { λ r. ⌜ r ≡ padded zero32 16 [] ⌝ }
 {
     [0.0f32; 16]
 }
 
-// The row of the point from `start` on.
-fn row_at(point: &[f32], start: usize, base: usize) -> [f32; 16]
+// The row of the point from `start` on, zeros behind it.
+fn copy_row(point: &[f32], start: usize, base: usize) -> [f32; 16]
     requires { ⌜ start + base ≤ length (now point) ⌝ }
     requires { ⌜ base ≤ 16 ⌝ }
     ensures { λ r. ⌜ r ≡ padded zero32 16 (take base (drop start (now (point .entry)))) ⌝ }
@@ -63,6 +63,17 @@ fn row_at(point: &[f32], start: usize, base: usize) -> [f32; 16]
         i += 1;
     }
     row
+}
+
+// The same of any point and row: no row unless 1 to 16 coordinates from `start` on lie in the point.
+pub fn row_at(point: &[f32], start: usize, base: usize) -> [f32; 16]
+    ensures { λ r. ⌜ r ≡ Corrector.rowAt (now (point .entry)) start base ⌝ }
+{
+    let d = point.len();
+    if attributors::row_fits(d, d, start, base) {
+        return copy_row(point, start, base);
+    }
+    no_row()
 }
 
 // The row that starts at `start`, with the prediction at each of the missing indices.
@@ -104,7 +115,7 @@ pub fn expected_row(
         d,
     ) {
         let missing = attributors::asked_indices(high, low, start, base_dimension);
-        let row = row_at(point, start, base_dimension);
+        let row = copy_row(point, start, base_dimension);
         return predict(row, start, missing, median);
     }
     no_row()

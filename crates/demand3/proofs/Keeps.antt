@@ -2,7 +2,7 @@
 use mathlib.Core.Path.{_≡_, refl, sym, ap, _∙_, subst}
 use mathlib.Core.Bool.{Bool, true, false, not, cond, _&&_, true≢false}
 use mathlib.Core.List.{List}
-use lib.Dec.{T, ltb}
+use lib.Dec.{T, leb, ltb}
 use lib.ListN.{length}
 use lib.Ieee.{Float, eq, ofBits}
 use Rattle.types.specs.Codes.{isHeight}
@@ -11,6 +11,7 @@ use Rattle.types.specs.declared.Answer.{Answer}
 use Rattle.types.specs.declared.Answer.the-variants as Answers
 use Rattle.types.specs.declared.ScoringStrategy.{ScoringStrategy}
 use Rattle.types.specs.declared.ScoringStrategy.the-variants.{DISTANCE}
+use Rattle.deviation.specs.Const.{countLimit}
 use Rattle.basicthresholder.specs.Const.{zero32}
 use Rattle.basicthresholder.specs.Grades.{primaryThresholdAndGrade}
 use Rattle.basicthresholder.specs.Updates.{updatePrimary, countsOk}
@@ -24,6 +25,7 @@ use Rattle.descriptor.specs.Checks.{answerOf, rangeOk, lengthsOk, finiteOk, see
 use Rattle.descriptor.specs.Lent.{Lent}
 use Rattle.descriptor.specs.declared.Reading.{Reading}
 use Rattle.descriptor.specs.declared.LastDescriptor.{LastDescriptor}
+use Rattle.predictorcorrector.specs.Lists.{rowFits}
 use Rattle.predictorcorrector.specs.State as State
 use Rattle.predictorcorrector.specs.State.{runEnded, autoAdjusted, candidateCounted, runGrown, stateCountsOk}
 use Rattle.predictorcorrector.specs.declared.PredictorCorrector.{PredictorCorrector}
@@ -79,15 +81,19 @@ same-either false t a b p q = q
 
 ended-keeps : (s : PredictorCorrector) → runEnded s .«basic_thresholder» ≡ s .«basic_thresholder»
 unfolding runEnded
-ended-keeps s = same-either (s .«auto_adjust») (s .«basic_thresholder») _ _ refl refl
+ended-keeps s = same-either (s .«auto_adjust» && leb (s .«base_dimension») 16) (s .«basic_thresholder») _ _ refl refl
 
 adjusted-keeps : (s : PredictorCorrector) (point : List Float) → autoAdjusted s point .«basic_thresholder» ≡ s .«basic_thresholder»
 unfolding autoAdjusted
-adjusted-keeps s point = same-either (s .«auto_adjust» && ltb 0 (s .«run_length»)) (s .«basic_thresholder») _ _ refl refl
+adjusted-keeps s point =
+    same-either (s .«auto_adjust» && (ltb 0 (s .«run_length») && (leb (s .«run_length») countLimit && rowFits (s .«base_dimension») (s .«deviations_actual») point)))
+    (s .«basic_thresholder») _ _ refl refl
 
 counted-keeps : (s : PredictorCorrector) (newest expected : List Float) → candidateCounted s newest expected .«basic_thresholder» ≡ s .«basic_thresholder»
 unfolding candidateCounted
-counted-keeps s newest expected = same-either (s .«auto_adjust») (s .«basic_thresholder») _ _ refl refl
+counted-keeps s newest expected =
+    same-either (s .«auto_adjust» && (rowFits (s .«base_dimension») (s .«deviations_actual») newest && rowFits (s .«base_dimension») (s .«deviations_expected») expected))
+    (s .«basic_thresholder») _ _ refl refl
 
 with-keeps : (c : Bool) (s : PredictorCorrector) (newest expected : List Float) → candidateWith c s newest expected .«basic_thresholder» ≡ s .«basic_thresholder»
 unfolding candidateWith

@@ -20,7 +20,9 @@ use Rattle.descriptor.specs.Lent.{Lent}
 use Rattle.descriptor.specs.declared.Reading.{Reading}
 use Rattle.descriptor.specs.declared.LastDescriptor.{LastDescriptor}
 use Rattle.predictorcorrector.specs.State.{autoAdjusted, runGrown, stateCountsOk}
+use Rattle.predictorcorrector.specs.Lists.{firstCountable}
 use Rattle.predictorcorrector.specs.declared.PredictorCorrector.{PredictorCorrector}
+use Rattle.predictorcorrector.proofs.Rows.{lists-ok}
 use Rattle.candidate.specs.Candidate.{isCandidate, driftAt, candidateWith, isDrift}
 use Rattle.candidate.proofs.Last.{drift-at}
 use Rattle.detection.specs.Const.{zero32}
@@ -34,7 +36,7 @@ use Rattle.detection.specs.declared.Outcome.{Outcome}
 use Rattle.detection.specs.declared.Outcome.the-variants.{Accepted, Refused}
 use Rattle.detection.specs.declared.Standing.{Standing}
 use Rattle.detection.specs.declared.Decision.{Decision}
-use Rattle.detection.proofs.Entry.{branching, same-base}
+use Rattle.detection.proofs.Entry.{branching, same-base, counts-ok}
 
 module _ (r : Reading) (l : LastDescriptor) (b : Lent) where
   -- The newest rows are `base` long.
@@ -59,16 +61,18 @@ module _ (r : Reading) (l : LastDescriptor) (b : Lent) where
 
   module _ (s : PredictorCorrector) (long : length (s .«deviations_actual») ≡ 16) (long′ : length (s .«deviations_expected») ≡ 16) where
     -- ---- data drift by the last entries is data drift by the lists
-    drift-by : Branching r l b → (base : ℕ) → s .«base_dimension» ≡ base → r .«base_dimension» ≡ base → 0 < base → (t : Float) → driftOf r l b (standing s) t ≡ isDataDrift r l b s t
+    drift-by : Branching r l b → stateCountsOk s ≡ true → (base : ℕ) → s .«base_dimension» ≡ base → r .«base_dimension» ≡ base → 0 < base → (t : Float) → driftOf r l b (standing s) t ≡ isDataDrift r l b s t
     unfolding driftOf isDataDrift candidateState standing
-    drift-by f zero e q p t = absurd (not-suc-le-zero p)
-    drift-by f (suc y) e q p t =
+    drift-by f ok zero e q p t = absurd (not-suc-le-zero p)
+    drift-by f ok (suc y) e q p t =
         let m = f .base-most in
         let n = newest-long f (b .point) refl in
         let x = newest-long f (expected r l b) expected-long in
         let at : s .«base_dimension» - 1 ≡ y = omega arith in
         let c = isCandidate r l (s .«run_length») (r .«shingle_size») t in
-        let k = drift-at s y e (omega arith) long long′ (newestOf r l b (b .point)) (newestOf r l b (expected r l b)) (b .«difference_deviations») (omega arith) (omega arith) c in
+        let counts : s .«auto_adjust» ≡ true → (firstCountable (suc y) (s .«deviations_actual») ≡ true) × (firstCountable (suc y) (s .«deviations_expected») ≡ true)
+        = λ h. subst (λ (i : ℕ). (firstCountable i (s .«deviations_actual») ≡ true) × (firstCountable i (s .«deviations_expected») ≡ true)) e (lists-ok s ok (omega arith) h) in
+        let k = drift-at s y e (omega arith) long long′ (newestOf r l b (b .point)) (newestOf r l b (expected r l b)) (b .«difference_deviations») (omega arith) (omega arith) counts c in
         (λ i. driftAt c (s .«auto_adjust») (s .«run_length») (q i) (getD (s .«deviations_actual») (at i) (fresh zero64)) (getD (s .«deviations_expected») (at i) (fresh zero64)) (newestOf r l b (b .point)) (newestOf r l b (expected r l b)) (b .«difference_deviations»))
         ∙ k
         ∙ (λ i. isDrift c s (candidateWith c s (newestOf r l b (b .point)) (newestOf r l b (expected r l b))) (sym q i) (newestOf r l b (b .point)) (newestOf r l b (expected r l b)) (b .«difference_deviations»))
@@ -82,7 +86,7 @@ module _ (r : Reading) (l : LastDescriptor) (b : Lent) where
       unfolding outcomeOf verdict answer
       outcome-by Answers.Done q =
           let f = branching r l b (s .«base_dimension») e h w (stateCountsOk s) q in
-          let d = drift-by f (s .«base_dimension») refl (same-base r l b (s .«base_dimension») e h w (stateCountsOk s) q) (subst (λ (n : ℕ). 0 < n) (same-base r l b (s .«base_dimension») e h w (stateCountsOk s) q) (f .expecting .some)) (opening (s .«basic_thresholder») r (r .score) .threshold) in
+          let d = drift-by f (counts-ok r l b (s .«base_dimension») e h w (stateCountsOk s) q) (s .«base_dimension») refl (same-base r l b (s .«base_dimension») e h w (stateCountsOk s) q) (subst (λ (n : ℕ). 0 < n) (same-base r l b (s .«base_dimension») e h w (stateCountsOk s) q) (f .expecting .some)) (opening (s .«basic_thresholder») r (r .score) .threshold) in
           ap (λ (x : Bool). Accepted (decided r l b (s .«basic_thresholder») (s .«auto_adjust») x)) d
       outcome-by (Answers.Refused why) q = refl
 

@@ -1,4 +1,5 @@
--- What an accepted reading gives the stages: the lengths fit the sizes, and the block lies within the point. Assumes nothing.
+-- What an accepted reading gives the stages: the lengths fit the sizes, the block lies within the point, and the state's counts are none that refusal 6 is of.
+-- Assumes nothing.
 use mathlib.Core.Path.{_≡_, refl, sym, ap, _∙_, subst}
 use mathlib.Core.Bool.{Bool, true, false, cond, _&&_}
 use mathlib.Core.List.{List}
@@ -28,10 +29,12 @@ record Passed (a c d e f : Bool) : Type 0 where
   lengths : c ≡ true
   finite : d ≡ true
   seen : e ≡ true
+  counts : f ≡ true
 
 passed : (a c d e f : Bool)
     → cond a (cond c (cond d (cond e (cond f Done (Refused Count)) (Refused ValuesSeen)) (Refused NotFinite)) (Refused Length)) (Refused Range) ≡ Done → Passed a c d e f
-passed true true true true f h = record { range = refl; lengths = refl; finite = refl; seen = refl }
+passed true true true true true h = record { range = refl; lengths = refl; finite = refl; seen = refl; counts = refl }
+passed true true true true false h = absurd (let z : _≡_ {A = ℕ} 0 1 = cc in omega arith)
 passed true true true false f h = absurd (let z : _≡_ {A = ℕ} 0 1 = cc in omega arith)
 passed true true false e f h = absurd (let z : _≡_ {A = ℕ} 0 1 = cc in omega arith)
 passed true false d e f h = absurd (let z : _≡_ {A = ℕ} 0 1 = cc in omega arith)
@@ -115,6 +118,9 @@ module _ (r : Reading) (l : LastDescriptor) (b : Lent) (stateBase e h w : ℕ) (
   pub same-base : r .«base_dimension» ≡ stateBase
   unfolding rangeOk
   same-base = eqb-true (r .«base_dimension») stateBase (both (sizesOk (r .«shingle_size») (r .«base_dimension»)) (eqb (r .«base_dimension») stateBase) (tests .range) .1)
+
+  pub counts-ok : ok ≡ true
+  counts-ok = tests .counts
 
   d : ℕ
   d = dimension (r .«shingle_size») (r .«base_dimension»)

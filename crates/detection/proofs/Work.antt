@@ -11,11 +11,9 @@ use lib.ListN.{length, take, drop, getD, replicate, length-drop}
 use lib.Seq.{take-at, take-all}
 use borrow.Author.Tests.{leb-false, lt-ltb}
 use lib.Ieee.{Float}
-use Rattle.attributors.specs.Attributors.{padded}
 use Rattle.corrector.specs.Corrector.{correctorFits, applyBasicCorrector}
 use Rattle.corrector.specs.Steps.{Correcting}
 use Rattle.corrector.proofs.Kept.{corrects}
-use Rattle.detection.specs.Const.{zero32}
 use Rattle.detection.specs.Judging.{isRecent}
 
 -- The front that a call wrote, of a work array.
@@ -57,8 +55,3 @@ pub getD-any : {A : Type 0} (xs : List A) (i : ℕ) (a c : A) → i < length xs 
 getD-any [] i a c h = absurd (not-suc-le-zero h)
 getD-any (x ∷ xs) zero a c h = refl
 getD-any (x ∷ xs) (suc i) a c h = getD-any xs i a c (le-of-suc-le-suc h)
-
--- Sixteen zeros are an empty row.
-pub none-is : replicate 16 zero32 ≡ padded zero32 16 []
-unfolding padded
-none-is = refl

@@ -302,20 +302,6 @@ fn without_row(outcome: Outcome) -> Decision
     }
 }
 
-// The row of the point from `at` on, zeros behind it.
-fn row_at(point: &[f32], at: usize, base: usize) -> [f32; 16]
-    requires { ⌜ base ≤ 16 ⌝ ∗ ⌜ at + base ≤ length (now point) ⌝ }
-    ensures { λ r. ⌜ r ≡ padded zero32 16 (take base (drop at (now (point .entry)))) ⌝ }
-{
-    let mut out = sixteen();
-    let mut i = 0usize;
-    while i < base {
-        out[i] = point[at + i];
-        i += 1;
-    }
-    out
-}
-
 // The newest row of the point with another row in its place, up to `end`.
 fn newest_with(row: [f32; 16], end: usize, base: usize, point: &[f32]) -> [f32; 16]
     requires { ⌜ base ≤ 16 ⌝ ∗ ⌜ base ≤ length (now point) ⌝ }
@@ -324,8 +310,7 @@ fn newest_with(row: [f32; 16], end: usize, base: usize, point: &[f32]) -> [f32; 
     if end == point.len() {
         return row;
     }
-    let at = point.len() - base;
-    row_at(point, at, base)
+    corrector::row_at(point, point.len() - base, base)
 }
 
 // Whether the row of the point from `start` on is within the box of the expected row.

@@ -16,8 +16,8 @@ expected-fits-requires c κs = search needs
 asked-indices-requires : tie.Need-asked-indices-requires
 asked-indices-requires c κs = search needs
 
-row-at-requires : tie.Need-row-at-requires
-row-at-requires c κs = let f = expecting _ _ _ _ _ _ _ (sym (c .before .before .expected-fits .ensures) ∙ c .before .if1 .taken) in search needs
+copy-row-requires : tie.Need-copy-row-requires
+copy-row-requires c κs = let f = expecting _ _ _ _ _ _ _ (sym (c .before .before .expected-fits .ensures) ∙ c .before .if1 .taken) in search needs
 
 predict-requires : tie.Need-predict-requires
 predict-requires c κs =
@@ -31,7 +31,7 @@ returns c =
     let a = c .before .before .before .before .before .before .before .before .before .args in
     let f = expecting _ _ _ _ _ _ _ (sym (c .before .before .before .before .expected-fits .ensures) ∙ c .before .before .before .if1 .taken) in
     c .predict .ensures
-    ∙ row-expected (now (a .high)) (now (a .low)) (a .start) (a .base-dimension) _ (c .before .before .asked-indices .ensures ∙ asked-in (now (a .high)) (now (a .low)) (a .start) (a .base-dimension) _ _ _ f) (now (a .point)) (now (a .median)) _ (f .inside) (c .before .row-at .ensures)
+    ∙ row-expected (now (a .high)) (now (a .low)) (a .start) (a .base-dimension) _ (c .before .before .asked-indices .ensures ∙ asked-in (now (a .high)) (now (a .low)) (a .start) (a .base-dimension) _ _ _ f) (now (a .point)) (now (a .median)) _ (f .inside) (c .before .copy-row .ensures)
     ∙ sym (row-is-part (now (a .high)) (now (a .low)) (a .start) (a .base-dimension) (now (a .point)) (now (a .median)) f)
 
 no-row-requires : tie.Need-no-row-requires
@@ -47,7 +47,7 @@ expected-row-spec =
     (tie.spec
     expected-fits-requires
     asked-indices-requires
-    row-at-requires
+    copy-row-requires
     predict-requires
     returns
     no-row-requires
