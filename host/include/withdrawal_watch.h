@@ -86,12 +86,14 @@
  * next one's last descriptor has its strategy, score and threshold (0 if skipped; one that is not finite
  * must not be lent, or every later reading is refused by 4), and a raised one is the last anomaly.
  *
- * Between the forest's calls: krcf_apply_basic_corrector writes the corrected point;
- * krcf_likely_missing_indices writes seven numbers, the block that stands out, how many positions the
- * conditional field is to be asked for (none: it is not asked) and five places for them;
- * krcf_expected_point writes the expected point, its position being the block times the base
- * dimension. gap is how much later the reading is than the last anomaly, or its values seen where
- * there is none.
+ * Between the forest's calls, once the score alone is judged neither quiet nor skipped:
+ * krcf_asked_of_forest writes five numbers, the gap (how much later the reading is than the last
+ * anomaly, or its values seen where there is none), then 1 for yes and 0 for no: the corrected point's
+ * score is asked for, the neighbours are, the expected point's attribution is, the corrector takes the
+ * point's numbers for differences. krcf_apply_basic_corrector writes the corrected point;
+ * krcf_likely_missing_indices writes eight numbers, the block that stands out, where its row starts,
+ * how many positions the conditional field is to be asked for (none: it is not asked) and five places
+ * for them; krcf_expected_point writes the expected point, its position being the row's start.
  *
  * Single numbers that a call writes: krcf_threshold and krcf_primary_grade an f32 (4 bytes);
  * krcf_*threshold_and_grade* two f32, threshold and grade (8); krcf_deviation_mean,
@@ -275,6 +277,15 @@ uint8_t krcf_chain_set_initial_threshold(uint8_t *state, size_t state_len, float
 uint8_t krcf_chain_set_horizon(uint8_t *state, size_t state_len, float horizon);
 
 /* libc_calls.a */
+uint8_t krcf_asked_of_forest(
+    const uint8_t *state,
+    size_t state_len,
+    const uint8_t *reading,
+    size_t reading_len,
+    const uint8_t *last,
+    size_t last_len,
+    size_t *out,
+    size_t out_len);
 uint8_t krcf_likely_missing_indices(
     size_t shingle_size,
     size_t base_dimension,

@@ -3,6 +3,7 @@
 
 use crate::bytes;
 use crate::declarations as c;
+use crate::forest::AskedOfForest;
 use crate::reading::{LastAnomaly, LentAttribution, Reading};
 use crate::refusal::Refusal;
 use crate::state::{STATE_BYTES, THRESHOLDER_BYTES};
@@ -168,6 +169,37 @@ pub fn corrected_grade(state: &[u8; STATE_BYTES], r: &Reading) -> Result<f32, Re
     Ok(f32::from_le_bytes(bytes::take(&out, 4)))
 }
 
+/// What the reading asks of the forest past its opening grade.
+pub fn asked_of_forest(state: &[u8; STATE_BYTES], r: &Reading) -> Result<AskedOfForest, Refusal> {
+    let reading = bytes::reading(r);
+    let last = bytes::last(&r.last_descriptor);
+    let mut out = [0; 5];
+    // SAFETY: `out` is borrowed alone, the others for reading, and each goes with its own length.
+    let number = unsafe {
+        c::krcf_asked_of_forest(
+            state.as_ptr(),
+            state.len(),
+            reading.as_ptr(),
+            reading.len(),
+            last.as_ptr(),
+            last.len(),
+            out.as_mut_ptr(),
+            out.len(),
+        )
+    };
+    Refusal::answered(number)?;
+    let [gap, yes_no @ ..] = out;
+    let [corrected_score, near_neighbor_list, new_attribution, use_difference] =
+        yes_no.map(|n| n == 1);
+    Ok(AskedOfForest {
+        gap,
+        corrected_score,
+        near_neighbor_list,
+        new_attribution,
+        use_difference,
+    })
+}
+
 /// Shingle size and base dimension.
 type Sizes = (usize, usize);
 
@@ -251,15 +283,16 @@ pub fn update_auto_adjust(
     Refusal::answered(number)
 }
 
-/// The block that contributes most, of those since the last anomaly, and the indices in its row that
-/// the forest's conditional field is asked for: how many there are and where, zeros behind them.
+/// The block that contributes most, of those since the last anomaly, where its row starts, and the
+/// indices in the row that the forest's conditional field is asked for: how many there are and where,
+/// zeros behind them.
 pub fn likely_missing_indices(
     (shingle_size, base_dimension): Sizes,
     gap: usize,
     attribution: LentAttribution,
-) -> Result<[usize; 7], Refusal> {
+) -> Result<[usize; 8], Refusal> {
     let LentAttribution { high, low } = attribution;
-    let mut out = [0; 7];
+    let mut out = [0; 8];
     // SAFETY: `out` is borrowed alone, the others for reading, and each goes with its own length.
     let number = unsafe {
         c::krcf_likely_missing_indices(

@@ -206,6 +206,16 @@ unsafe extern "C" {
 
 #[link(name = "c_calls", kind = "static")]
 unsafe extern "C" {
+    pub fn krcf_asked_of_forest(
+        state: *const u8,
+        state_len: usize,
+        reading: *const u8,
+        reading_len: usize,
+        last: *const u8,
+        last_len: usize,
+        out: *mut usize,
+        out_len: usize,
+    ) -> u8;
     pub fn krcf_likely_missing_indices(
         shingle_size: usize,
         base_dimension: usize,

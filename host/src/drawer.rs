@@ -5,11 +5,11 @@ use std::fmt;
 
 use crate::calls;
 use crate::culprit;
-use crate::forest::Forest;
+use crate::forest::{AskedOfForest, Forest};
 use crate::kept::{Accepted, Anomaly, Kept};
 use crate::reading::{LastDescriptor, Reading};
 use crate::refusal::{Refusal, Refused};
-use crate::state::{self, STATE_BYTES};
+use crate::state::STATE_BYTES;
 use crate::steps;
 use crate::types::{CorrectionMode, ScoringStrategy, TransformMethod};
 use crate::verdict::{Attribution, Verdict};
@@ -269,11 +269,12 @@ struct Asking<'w, 'f, F: ?Sized> {
     forest: &'f F,
 }
 
-type Asked<F> = Result<Judged, NotJudged<<F as Forest>::Error>>;
+/// How that way ends.
+type Ended<F> = Result<Judged, NotJudged<<F as Forest>::Error>>;
 
 impl<F: Forest + ?Sized> Asking<'_, '_, F> {
     /// Call 1. A skipped or quiet reading ends here.
-    fn score(self, reading: Reading) -> Asked<F> {
+    fn score(self, reading: Reading) -> Ended<F> {
         let score = self.score_of(&reading, reading.rcf_point)?;
         let reading = Reading { score, ..reading };
         let trial = self.watch.trial(&reading)?;
@@ -285,12 +286,11 @@ impl<F: Forest + ?Sized> Asking<'_, '_, F> {
 
     /// Call 2, within a shingle of the last anomaly. A corrected score of grade 0 ends here, and
     /// noise.
-    fn corrected_score(self, reading: Reading, mut trial: Trial) -> Asked<F> {
-        let corrected = self.step(&reading, steps::corrected_point(&reading))?;
+    fn corrected_score(self, reading: Reading, mut trial: Trial) -> Ended<F> {
+        let asked = self.watch.asked_of_forest(&reading)?;
+        let corrected = self.step(&reading, steps::corrected_point(&reading, &asked))?;
         let mut reading = reading;
-        let corrects =
-            reading.last_descriptor.last_anomaly.is_some() && reading.gap() <= reading.shingle_size;
-        if corrects {
+        if asked.corrected_score {
             reading.corrected_score = self.score_of(&reading, &corrected)?;
             trial = self.watch.trial(&reading)?;
         }
@@ -299,19 +299,20 @@ impl<F: Forest + ?Sized> Asking<'_, '_, F> {
             Some(CorrectionMode::Noise) => Ok(Judged { trial, score }),
             // Of the two ways to this mode only the first has a grade of 0.
             Some(CorrectionMode::AnomalyInShingle)
-                if corrects && self.step(&reading, self.corrected_grade(&reading))? == 0.0 =>
+                if asked.corrected_score
+                    && self.step(&reading, self.corrected_grade(&reading))? == 0.0 =>
             {
                 Ok(Judged { trial, score })
             }
-            _ => self.attribution(reading, &corrected),
+            _ => self.attribution(reading, asked, &corrected),
         }
     }
 
     /// Calls 3 and, with auto adjust, 4. What the neighbours explain ends here.
-    fn attribution(self, reading: Reading, corrected: &[f32]) -> Asked<F> {
+    fn attribution(self, reading: Reading, asked: AskedOfForest, corrected: &[f32]) -> Ended<F> {
         let attribution = self.attribution_of(&reading, corrected)?;
         let mut neighbours = Vec::new();
-        if state::auto_adjust(self.watch.state_bytes()) {
+        if asked.near_neighbor_list {
             neighbours = said(self.forest.near_neighbor_list(corrected, PERCENTILE))?;
         }
         let reading = Reading {
@@ -323,14 +324,14 @@ impl<F: Forest + ?Sized> Asking<'_, '_, F> {
         let score = reading.score;
         match mode(&trial.verdict) {
             Some(CorrectionMode::ConditionalForecast) => Ok(Judged { trial, score }),
-            _ => self.expected_point(reading),
+            _ => self.expected_point(reading, asked),
         }
     }
 
     /// Calls 5, if a coordinate stands out, and 6, within a shingle of the last anomaly. Every
     /// reading ends here.
-    fn expected_point(self, reading: Reading) -> Asked<F> {
-        let missing = self.step(&reading, steps::likely_missing_indices(&reading))?;
+    fn expected_point(self, reading: Reading, asked: AskedOfForest) -> Ended<F> {
+        let missing = self.step(&reading, steps::likely_missing_indices(&reading, asked.gap))?;
         let median;
         let mut reading = reading;
         if !missing.indices.is_empty() {
@@ -344,9 +345,8 @@ impl<F: Forest + ?Sized> Asking<'_, '_, F> {
             reading.median = &median;
         }
         let expected_attribution;
-        if reading.gap() < reading.shingle_size {
-            let expected =
-                self.step(&reading, steps::expected_point(&reading, missing.position))?;
+        if asked.new_attribution {
+            let expected = self.step(&reading, steps::expected_point(&reading, missing.start))?;
             expected_attribution = said(self.forest.attribution(&expected))?;
             reading.expected_attribution = expected_attribution.lent();
         }

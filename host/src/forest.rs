@@ -38,10 +38,10 @@ use crate::verdict::Attribution;
 /// is lent (refusals 3 and 4), so a field that was not asked for is lent as zeros of its length, the
 /// neighbours as none: no judgment that ends before the call reads it.
 ///
-/// The corrected point, the expected point and the positions of call 5 come from the library's
-/// proved calls (`krcf_apply_basic_corrector`, `krcf_expected_point`, `krcf_likely_missing_indices`),
-/// and so does the step from the forest's f64 to the f32 that is judged (`krcf_total`,
-/// `krcf_narrow`).
+/// Whether 2, 4 and 6 are asked, the corrected point, the expected point and the positions of call 5
+/// come from the library's proved calls (`krcf_asked_of_forest`, `krcf_apply_basic_corrector`,
+/// `krcf_expected_point`, `krcf_likely_missing_indices`), and so does the step from the forest's f64 to
+/// the f32 that is judged (`krcf_total`, `krcf_narrow`).
 ///
 /// A forest of krcf's own is passed on in a line a call:
 ///
@@ -112,4 +112,24 @@ pub trait Forest {
         project: bool,
         max_number: usize,
     ) -> Result<Vec<f32>, Self::Error>;
+}
+
+/// What a reading asks of the forest past an opening grade above 0, beside the attribution of the
+/// corrected point and the conditional field, and what goes to the corrector: the answer of
+/// [`Watch::asked_of_forest`](crate::Watch::asked_of_forest). Behind each name stands the field of a
+/// [`Reading`](crate::Reading) that the answer fills.
+#[derive(Clone, Copy, Debug, Default, PartialEq, Eq)]
+pub struct AskedOfForest {
+    /// How many readings it is since the last anomaly; where there is none, since the start.
+    pub gap: usize,
+    /// The corrected point's score: the last anomaly is at most a shingle back. Fills
+    /// `corrected_score`.
+    pub corrected_score: bool,
+    /// The neighbours: with auto adjust. Fills `neighbours`.
+    pub near_neighbor_list: bool,
+    /// The expected point's attribution, krcf's `new_attribution`: the gap is less than a shingle.
+    /// Fills `expected_attribution`.
+    pub new_attribution: bool,
+    /// Whether the corrector takes the point's numbers for differences: krcf's `use_difference`.
+    pub use_difference: bool,
 }

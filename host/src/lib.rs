@@ -51,7 +51,7 @@ mod verdict;
 mod watch;
 
 pub use drawer::{Drawer, NotJudged, Withdrawal};
-pub use forest::Forest;
+pub use forest::{AskedOfForest, Forest};
 pub use kept::Anomaly;
 pub use points::{
     apply_basic_corrector, expected_point, likely_missing_indices, newest_row, MissingIndices,

@@ -37,9 +37,8 @@ pub fn newest_row(
 /// The point with the effect of the drawer's last anomaly taken out, if there is one: the point that
 /// a reading's `corrected_score`, `attribution` and `neighbours` belong to.
 ///
-/// `gap` is how many readings later than the last anomaly this is; where there is none, its
-/// `values_seen`. `use_difference` is for the two differencing transform methods. Refusals: 2 to 4,
-/// and 5 for a gap of 0.
+/// `gap` and `use_difference` are those of [`Watch::asked_of_forest`](crate::Watch::asked_of_forest).
+/// Refusals: 2 to 4, and 5 for a gap of 0.
 ///
 /// ```
 /// use withdrawal_watch::{apply_basic_corrector, LastAnomaly, Refused};
@@ -94,21 +93,23 @@ pub fn apply_basic_corrector(
 pub struct MissingIndices {
     /// The row that stands out, counted from the oldest.
     pub block: usize,
+    /// Where it starts in the point: the `position` of [`expected_point`].
+    pub start: usize,
     /// The coordinates of the point to ask for, at most five; none where the field is not asked.
     pub indices: Vec<usize>,
 }
 
 /// The coordinates whose values look missing: those that contribute most to the attribution of the
-/// corrected point, in the row that stands out since the last anomaly. Refusals: 2 to 4, and 5 for a
-/// gap of 0.
+/// corrected point, in the row that stands out since the last anomaly. `gap` is that of
+/// [`Watch::asked_of_forest`](crate::Watch::asked_of_forest). Refusals: 2 to 4, and 5 for a gap of 0.
 ///
 /// ```
 /// use withdrawal_watch::{likely_missing_indices, LentAttribution, Refused};
 ///
-/// let attribution = LentAttribution { high: &[0.0, 0.0, 0.5, 3.0], low: &[0.0; 4] };
-/// let missing = likely_missing_indices(4, 1, 9, attribution)?;
-/// assert_eq!((missing.block, missing.indices), (3, vec![3]));
-/// let why = likely_missing_indices(4, 1, 0, attribution).unwrap_err();
+/// let attribution = LentAttribution { high: &[0.0, 0.0, 0.25, 3.0], low: &[0.0; 4] };
+/// let missing = likely_missing_indices(2, 2, 9, attribution)?;
+/// assert_eq!((missing.block, missing.start, missing.indices), (1, 2, vec![3]));
+/// let why = likely_missing_indices(2, 2, 0, attribution).unwrap_err();
 /// assert_eq!(why.to_string(), "refusal 5: gap: 0, not 1 or more");
 /// # Ok::<(), Refused>(())
 /// ```
@@ -119,8 +120,8 @@ pub fn likely_missing_indices(
     attribution: LentAttribution,
 ) -> Result<MissingIndices, Refused> {
     let sizes = (shingle_size, base_dimension);
-    let [block, count, indices @ ..] = calls::likely_missing_indices(sizes, gap, attribution)
-        .map_err(|refusal| {
+    let [block, start, count, indices @ ..] =
+        calls::likely_missing_indices(sizes, gap, attribution).map_err(|refusal| {
             let lent = Reading {
                 attribution,
                 ..Reading::blank(shingle_size, base_dimension)
@@ -129,6 +130,7 @@ pub fn likely_missing_indices(
         })?;
     Ok(MissingIndices {
         block,
+        start,
         indices: indices.into_iter().take(count).collect(),
     })
 }

@@ -128,13 +128,6 @@ impl Reading<'_> {
         }
     }
 
-    /// How much later it is than the last anomaly, or than nothing at all.
-    pub(crate) fn gap(&self) -> usize {
-        let last = self.last_descriptor.last_anomaly;
-        let since = last.map_or(0, |anomaly| anomaly.values_seen);
-        self.values_seen.saturating_sub(since)
-    }
-
     /// How long the buffers of a raised reading must be; 0 for sizes that are refused.
     pub(crate) fn dimension(&self) -> usize {
         if (1..=64).contains(&self.shingle_size) && (1..=16).contains(&self.base_dimension) {

@@ -25,7 +25,7 @@ const BASE_DIMENSION: usize = RUN_LENGTH + 4;
 const ACTUAL: usize = BASE_DIMENSION + 4;
 const EXPECTED: usize = ACTUAL + 16 * STATISTIC;
 
-pub fn auto_adjust(bytes: &[u8; STATE_BYTES]) -> bool {
+fn auto_adjust(bytes: &[u8; STATE_BYTES]) -> bool {
     bytes[AUTO_ADJUST] == 1
 }
 

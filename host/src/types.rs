@@ -75,14 +75,6 @@ impl TransformMethod {
     pub fn code(self) -> u8 {
         self as u8
     }
-
-    /// Whether points are differences from the input before.
-    pub(crate) fn is_difference(self) -> bool {
-        matches!(
-            self,
-            TransformMethod::Difference | TransformMethod::NormalizeDifference
-        )
-    }
 }
 
 impl ScoringStrategy {

@@ -5,6 +5,7 @@ use std::fmt;
 use crate::bytes::{self, Said, VERDICT};
 use crate::calls::{self, Buffers};
 use crate::culprit;
+use crate::forest::AskedOfForest;
 use crate::reading::Reading;
 use crate::refusal::{Refusal, Refused};
 use crate::state::{self, STATE_BYTES};
@@ -204,6 +205,34 @@ impl Watch {
             };
             culprit::of_reading(refusal, &lent, &self.state)
         })
+    }
+
+    /// What a reading whose opening grade is above 0 asks of the forest. Score and corrected score
+    /// are not read, but have to be finite; no list is looked at. Refusals: 2, 4, 5.
+    ///
+    /// ```
+    /// use withdrawal_watch::{LastAnomaly, LastDescriptor, Reading, Watch};
+    ///
+    /// let watch = Watch::new(0.01, true, 1)?;
+    /// let last = LastAnomaly { values_seen: 40, ..LastAnomaly::default() };
+    /// let reading = Reading {
+    ///     shingle_size: 4,
+    ///     base_dimension: 1,
+    ///     values_seen: 44,
+    ///     last_descriptor: LastDescriptor { last_anomaly: Some(last), ..LastDescriptor::default() },
+    ///     ..Reading::default()
+    /// };
+    /// let asked = watch.asked_of_forest(&reading)?;
+    /// assert_eq!(asked.gap, 4);
+    /// assert!(asked.corrected_score && asked.near_neighbor_list && !asked.new_attribution);
+    /// let early = Reading { values_seen: 40, ..reading };
+    /// let why = watch.asked_of_forest(&early).unwrap_err();
+    /// assert_eq!(why.about(), "values_seen: 40, not later than the last anomaly's 40");
+    /// # Ok::<(), withdrawal_watch::Refused>(())
+    /// ```
+    pub fn asked_of_forest(&self, reading: &Reading) -> Result<AskedOfForest, Refused> {
+        calls::asked_of_forest(&self.state, reading)
+            .map_err(|refusal| culprit::of_reading(refusal, reading, &self.state))
     }
 
     /// What judging a reading would leave. The watch stays as it is.

@@ -37,16 +37,16 @@ module _ (shingle base gap : ℕ) (high low : List Float) (out : List ℕ) where
   missing-range s = rw s
 
   module _ (s : sizesOk shingle base ≡ true) where
-    pub missing-length : eqb (length out) 7 ≡ false → left 3 out ≡ likelyMissingIndices shingle base gap high low out
+    pub missing-length : eqb (length out) 8 ≡ false → left 3 out ≡ likelyMissingIndices shingle base gap high low out
     unfolding likelyMissingIndices
     missing-length l = rw (s, l)
 
-    module _ (l : eqb (length out) 7 ≡ true) (m : Missing) (e : m ≡ Calls.likelyMissingIndices shingle base gap high low) where
+    module _ (l : eqb (length out) 8 ≡ true) (m : Missing) (e : m ≡ Calls.likelyMissingIndices shingle base gap high low) where
       found : placedBy m out ≡ likelyMissingIndices shingle base gap high low out
       unfolding likelyMissingIndices
       found = ap (λ (u : Missing). placedBy u out) e ∙ rw (s, l)
 
-      pub missing-placed : (out′ : List ℕ) → m .answer ≡ Done → out′ ≡ m .block ∷ m .count ∷ m .indices → left 0 out′ ≡ likelyMissingIndices shingle base gap high low out
+      pub missing-placed : (out′ : List ℕ) → m .answer ≡ Done → out′ ≡ m .block ∷ m .start ∷ m .count ∷ m .indices → left 0 out′ ≡ likelyMissingIndices shingle base gap high low out
       unfolding placed
       missing-placed out′ d w =
           let done : left 0 out′ ≡ placedBy m out = ap (left 0) w ∙ rw d in

@@ -37,9 +37,9 @@ unfoldable pub expectedPoint : (shingle base position : ℕ) → (point high low
 expectedPoint shingle base position point high low median out =
     filledBy (Calls.expectedAnswer shingle base position point high low median (length out)) (Corrector.expectedPoint high low position base point median) out
 
--- What a call that found m leaves of a slice of seven: the block, how many indices there are, and five places for them, 0 behind the last.
+-- What a call that found m leaves of a slice of eight: the block, where its row starts, how many indices there are, and five places for them, 0 behind the last.
 unfoldable pub placed : Answer → Missing → List ℕ → List ℕ
-placed Done m out = m .block ∷ m .count ∷ m .indices
+placed Done m out = m .block ∷ m .start ∷ m .count ∷ m .indices
 placed (Refused why) m out = out
 
 abbrev pub placedBy : Missing → List ℕ → Left
@@ -49,7 +49,7 @@ placedBy m out = left (answered (m .answer)) (placed (m .answer) m out)
 unfoldable pub likelyMissingIndices : (shingle base gap : ℕ) → (high low : List Float) → (out : List ℕ) → Left
 likelyMissingIndices shingle base gap high low out =
     cond (sizesOk shingle base)
-    (cond (eqb (length out) 7) (placedBy (Calls.likelyMissingIndices shingle base gap high low) out) (left (number Length) out))
+    (cond (eqb (length out) 8) (placedBy (Calls.likelyMissingIndices shingle base gap high low) out) (left (number Length) out))
     (left (number Range) out)
 
 -- A yes/no byte above 1 is refused (2) ahead of everything else.

@@ -1,11 +1,22 @@
-// The calls on a reading's buffers for a host that calls over C: the missing indices, the expected point, the corrector, auto adjust. Numbers, and slices of bytes,
-// sizes or floats (a pointer, then a length); a state is its bytes, as the crate layout has them. A call answers document 01's number, 0 where it is done; a
-// refused one has written nothing.
+// The calls on a reading's buffers for a host that calls over C: what the forest is asked for, the missing indices, the expected point, the corrector, auto adjust.
+// Numbers, and slices of bytes, sizes or floats (a pointer, then a length); a state, a reading and the last descriptor are their bytes, as the crate layout has them.
+// A call answers document 01's number, 0 where it is done; a refused one has written nothing.
+use calls::Asked;
+use layout::CoreRead;
+use layout::LastRead;
+use layout::ReadingRead;
 use types::Answer;
+use types::Refusal;
 ghost use mathlib.Core.Path.{_≡_};
+ghost use mathlib.Core.Bool.{true};
 ghost use mathlib.Core.List.{_∷_};
 ghost use lib.ListN.{length};
 ghost use Rattle.layout.specs.Left.{left};
+ghost use Rattle.layout.specs.Chain.{stateCodesOk};
+ghost use Rattle.layout.specs.Numbers.{flagByte};
+ghost use Rattle.layout.specs.Readings.{readingCodesOk};
+ghost use Rattle.calls.specs.Calls.{unasked};
+ghost use Rattle.c_calls.specs.Forest as Forest;
 ghost use Rattle.c_calls.specs.Buffers as Buffers;
 ghost use Rattle.c_calls.specs.Buffers.{filled};
 
@@ -14,22 +25,139 @@ const RANGE: u8 = 2;
 
 const LENGTH: u8 = 3;
 
-// Block, count and indices, in a slice of seven.
-fn put_missing(out: &mut [usize], block: usize, count: usize, indices: [usize; 5])
-    requires { ⌜ length (now out) ≡ 7 ⌝ }
-    ensures { λ _. ⌜ now (out .exit) ≡ block ∷ count ∷ indices ⌝ }
+// The codes and yes/no bytes of all three. Nothing inside a slice of another length is looked at.
+fn codes_ok(state: &[u8], reading: &[u8], last: &[u8]) -> bool
+    ensures { λ r. ⌜ r ≡ Forest.codesOk (now (state .entry)) (now (reading .entry)) (now (last .entry)) ⌝ }
 {
-    out[0] = block;
-    out[1] = count;
-    out[2] = indices[0];
-    out[3] = indices[1];
-    out[4] = indices[2];
-    out[5] = indices[3];
-    out[6] = indices[4];
+    layout::state_codes_ok(state)
+        & (layout::reading_codes_ok(reading) & layout::last_codes_ok(last))
 }
 
-// What a host asks the forest's conditional field for, in seven numbers: the block that stands out, how many indices there are (none where the field is not asked),
-// and five places for them, 0 behind the last.
+fn slices_ok(state: usize, reading: usize, last: usize, out: usize) -> bool
+    ensures { λ r. ⌜ r ≡ Forest.slicesOk state reading last out ⌝ }
+{
+    (state == layout::STATE_LENGTH)
+        & ((reading == layout::READING_LENGTH) & ((last == layout::LAST_LENGTH) & (out == 5)))
+}
+
+// The sizes, as far as the two slices can be read.
+fn sizes_fit(state: &[u8], reading: &[u8]) -> bool
+    requires { ⌜ stateCodesOk (now state) ≡ true ⌝ ∗ ⌜ readingCodesOk (now reading) ≡ true ⌝ }
+    ensures { λ r. ⌜ r ≡ Forest.sizesFit (now (state .entry)) (now (reading .entry)) ⌝ }
+{
+    match layout::read_reading(reading) {
+        ReadingRead::Read(r) => match layout::read_core(state) {
+            CoreRead::Read(core) => descriptor::range_ok(
+                r.shingle_size,
+                r.base_dimension,
+                core.base_dimension as usize,
+            ),
+            CoreRead::Refused(_) => descriptor::sizes_ok(r.shingle_size, r.base_dimension),
+        },
+        ReadingRead::Refused(_) => true,
+    }
+}
+
+// Nothing is asked for.
+fn refused(why: Refusal) -> Asked
+    ensures { λ r. ⌜ r ≡ unasked why ⌝ }
+{
+    Asked {
+        answer: Answer::Refused(why),
+        gap: 0,
+        corrected_score: false,
+        near_neighbor_list: false,
+        new_attribution: false,
+        use_difference: false,
+    }
+}
+
+// What is asked for; `out` is the length of the slice that takes the numbers.
+fn asked_over(state: &[u8], reading: &[u8], last: &[u8], out: usize) -> Asked
+    ensures { λ r. ⌜ r ≡ Forest.askedOver (now (state .entry)) (now (reading .entry)) (now (last .entry)) out ⌝ }
+{
+    if codes_ok(state, reading, last) {
+        if slices_ok(state.len(), reading.len(), last.len(), out) {
+            let CoreRead::Read(core) = layout::read_core(state) else {
+                return refused(Refusal::Length);
+            };
+            let ReadingRead::Read(r) = layout::read_reading(reading) else {
+                return refused(Refusal::Length);
+            };
+            let LastRead::Read(l) = layout::read_last(last) else {
+                return refused(Refusal::Length);
+            };
+            return calls::asked_of_forest(core.auto_adjust, core.base_dimension as usize, r, l);
+        }
+        if sizes_fit(state, reading) {
+            return refused(Refusal::Length);
+        }
+        return refused(Refusal::Range);
+    }
+    refused(Refusal::Range)
+}
+
+fn flag(b: bool) -> usize
+    ensures { λ r. ⌜ r ≡ flagByte b ⌝ }
+{
+    if b {
+        return 1;
+    }
+    0
+}
+
+// The five numbers, in a slice of five.
+fn put_asked(out: &mut [usize], asked: Asked)
+    requires { ⌜ length (now out) ≡ 5 ⌝ }
+    ensures { λ _. ⌜ now (out .exit) ≡ Forest.numbered asked ⌝ }
+{
+    out[0] = asked.gap;
+    out[1] = flag(asked.corrected_score);
+    out[2] = flag(asked.near_neighbor_list);
+    out[3] = flag(asked.new_attribution);
+    out[4] = flag(asked.use_difference);
+}
+
+// What a judgment asks the forest for past its opening grade, in five numbers: the gap since the last anomaly, or the start; then 1 for yes and 0 for no: the corrected
+// point's score, the neighbours, the expected point's attribution; and whether the corrector is to take the values for differences.
+#[no_mangle]
+pub extern "C" fn krcf_asked_of_forest(
+    state: &[u8],
+    reading: &[u8],
+    last: &[u8],
+    out: &mut [usize],
+) -> u8
+    ensures { λ n. ⌜
+        left n (now (out .exit)) ≡ Forest.askedOfForest (now (state .entry)) (now (reading .entry)) (now (last .entry)) (now (out .entry)) ⌝ }
+{
+    let asked = asked_over(state, reading, last, out.len());
+    let answer = asked.answer;
+    match answer {
+        Answer::Done => {
+            put_asked(out, asked);
+            0
+        }
+        Answer::Refused(why) => why.number(),
+    }
+}
+
+// Block, start, count and indices, in a slice of eight.
+fn put_missing(out: &mut [usize], block: usize, start: usize, count: usize, indices: [usize; 5])
+    requires { ⌜ length (now out) ≡ 8 ⌝ }
+    ensures { λ _. ⌜ now (out .exit) ≡ block ∷ start ∷ count ∷ indices ⌝ }
+{
+    out[0] = block;
+    out[1] = start;
+    out[2] = count;
+    out[3] = indices[0];
+    out[4] = indices[1];
+    out[5] = indices[2];
+    out[6] = indices[3];
+    out[7] = indices[4];
+}
+
+// What a host asks the forest's conditional field for, in eight numbers: the block that stands out, where its row starts, how many indices there are (none where the
+// field is not asked), and five places for them, 0 behind the last.
 #[no_mangle]
 pub extern "C" fn krcf_likely_missing_indices(
     shingle_size: usize,
@@ -44,13 +172,13 @@ pub extern "C" fn krcf_likely_missing_indices(
         ≡ Buffers.likelyMissingIndices «shingle_size» «base_dimension» gap (now (high .entry)) (now (low .entry)) (now (out .entry)) ⌝ }
 {
     if descriptor::sizes_ok(shingle_size, base_dimension) {
-        if out.len() == 7 {
+        if out.len() == 8 {
             let found = calls::likely_missing_indices(shingle_size, base_dimension, gap, high, low);
             let answer = found.answer;
             let indices = found.indices;
             return match answer {
                 Answer::Done => {
-                    put_missing(out, found.block, found.count, indices);
+                    put_missing(out, found.block, found.start, found.count, indices);
                     0
                 }
                 Answer::Refused(why) => why.number(),

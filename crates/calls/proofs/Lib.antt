@@ -1,3 +1,4 @@
 mod Accepted
-mod Asked
+mod Finite
+mod Indices
 mod Zero

@@ -1,4 +1,5 @@
--- The calls on a reading's buffers that predictorcorrector.rs has public: what each answers, and what it leaves in its buffer or state.
+-- The calls on a reading's buffers that predictorcorrector.rs has public, and what its detect_and_modify asks the forest for: what each answers, and what it leaves
+-- in its buffer or state.
 use Prim.Native.Nat.{ℕ, _+_, _-_, _*_}
 use mathlib.Core.Path.{_≡_}
 use mathlib.Core.Bool.{Bool, true, false, cond, _&&_}
@@ -7,10 +8,16 @@ use lib.Dec.{leb, ltb, eqb}
 use lib.ListN.{length, take}
 use lib.IntN.{ℤ}
 use lib.Ieee.{Float}
+use Rattle.types.specs.Codes.{isDifferenced}
+use Rattle.types.specs.declared.Refusal.{Refusal}
 use Rattle.types.specs.declared.Refusal.the-variants.{Range, Length, NotFinite, ValuesSeen, Count}
 use Rattle.types.specs.declared.Answer.{Answer}
 use Rattle.types.specs.declared.Answer.the-variants.{Done, Refused}
-use Rattle.descriptor.specs.Checks.{sizesOk, dimension, lastPointsOk, allFinite}
+use Rattle.descriptor.specs.Checks as Checks
+use Rattle.descriptor.specs.Checks.{sizesOk, dimension, rangeOk, seenOk, lastPointsOk, numbersFinite, allFinite}
+use Rattle.descriptor.specs.declared.Reading.{Reading}
+use Rattle.descriptor.specs.declared.LastDescriptor.{LastDescriptor}
+use Rattle.scoring.specs.Scores.{gapOf, isRecent}
 use Rattle.attributors.specs.Attributors.{asked}
 use Rattle.divector.specs.DiVector.{maxGapContribution}
 use Rattle.divector.specs.declared.Block.{Block}
@@ -21,6 +28,7 @@ use Rattle.predictorcorrector.specs.State.{autoAdjusted, stateCountsOk}
 use Rattle.predictorcorrector.specs.declared.PredictorCorrector.{PredictorCorrector}
 use Rattle.predictorcorrector.specs.declared.Updated.{Updated}
 use Rattle.calls.specs.declared.Missing.{Missing}
+use Rattle.calls.specs.declared.Asked.{Asked}
 
 -- The first test that fails names the refusal: 2, 3, 4, then the call's own.
 unfoldable pub firstRefusal : Bool → Bool → Bool → Answer → Answer
@@ -92,10 +100,10 @@ missingAnswer shingle base gap high low =
     let d = dimension shingle base in
     firstRefusal (sizesOk shingle base) (eqb (length high) d && eqb (length low) d) (allFinite high && allFinite low) (gapAnswer gap)
 
--- The block's place and the indices asked for in its row.
+-- The block, where its row starts and the indices asked for in the row.
 unfoldable pub missingAt : (high low : List Float) → (base block start : ℕ) → Missing
 missingAt high low base block start =
-    record { answer = Done; block = block; count = asked high low start base .count; indices = asked high low start base .indices }
+    record { answer = Done; block = block; start = start; count = asked high low start base .count; indices = asked high low start base .indices }
 
 -- The block that a search answers. It is refused for no accepted attribution.
 unfoldable pub blockOf : Block → ℕ
@@ -110,16 +118,57 @@ missingWithin high low base gap =
 
 unfoldable pub missingBy : Answer → (base gap : ℕ) → (high low : List Float) → Missing
 missingBy Done base gap high low = missingWithin high low base gap
-missingBy (Refused why) base gap high low = record { answer = Refused why; block = 0; count = 0; indices = 0 ∷ 0 ∷ 0 ∷ 0 ∷ 0 ∷ [] }
+missingBy (Refused why) base gap high low = record { answer = Refused why; block = 0; start = 0; count = 0; indices = 0 ∷ 0 ∷ 0 ∷ 0 ∷ 0 ∷ [] }
 
 unfoldable pub likelyMissingIndices : (shingle base gap : ℕ) → (high low : List Float) → Missing
 likelyMissingIndices shingle base gap high low = missingBy (missingAnswer shingle base gap high low) base gap high low
 
 -- What an accepted call is for: the expected point of the block's row is the point with the median at exactly these indices.
-abbrev pub AskedOfTheForest : Type 0
-AskedOfTheForest =
+abbrev pub AskedIndicesAreExpected : Type 0
+AskedIndicesAreExpected =
     (shingle base gap : ℕ) (high low point median : List Float) (m : Missing) → m ≡ likelyMissingIndices shingle base gap high low → m .answer ≡ Done
-    → expectedPoint high low (m .block * base) base point median ≡ predicted (take (m .count) (m .indices)) median point
+    → expectedPoint high low (m .start) base point median ≡ predicted (take (m .count) (m .indices)) median point
+
+-- ---- asked_of_forest: what the chain asks its forest for past an opening grade above 0
+-- Refusal 5 for values_seen.
+unfoldable pub seenAnswer : Bool → Answer
+seenAnswer ok = cond ok Done (Refused ValuesSeen)
+
+-- The tests of a reading, as far as no buffer is lent: the last anomaly's points are none.
+unfoldable pub askedAnswer : (stateBase : ℕ) → Reading → LastDescriptor → Answer
+askedAnswer stateBase r l =
+    firstRefusal (rangeOk (r .«shingle_size») (r .«base_dimension») stateBase) true (numbersFinite r l && Checks.lastFinite l [] [])
+    (seenAnswer (seenOk (r .«values_seen») (l .«has_anomaly») (l .anomaly .«values_seen»)))
+
+-- The corrected point's score within a shingle of the last anomaly, the neighbours with auto adjust, the expected point's attribution at a gap below the shingle
+-- size, with an anomaly or without.
+unfoldable pub askedAfter : (gap : ℕ) → Bool → Reading → LastDescriptor → Asked
+askedAfter gap autoAdjust r l = record {
+  answer = Done;
+  gap = gap;
+  «corrected_score» = isRecent (l .«has_anomaly») gap (r .«shingle_size»);
+  «near_neighbor_list» = autoAdjust;
+  «new_attribution» = ltb gap (r .«shingle_size»);
+  «use_difference» = isDifferenced (r .«transform_method»);
+}
+
+-- A refusal asks for nothing.
+unfoldable pub unasked : Refusal → Asked
+unasked why = record {
+  answer = Refused why;
+  gap = 0;
+  «corrected_score» = false;
+  «near_neighbor_list» = false;
+  «new_attribution» = false;
+  «use_difference» = false;
+}
+
+unfoldable pub askedBy : Answer → Bool → Reading → LastDescriptor → Asked
+askedBy Done autoAdjust r l = askedAfter (gapOf (r .«values_seen») (l .«has_anomaly») (l .anomaly .«values_seen»)) autoAdjust r l
+askedBy (Refused why) autoAdjust r l = unasked why
+
+unfoldable pub askedOfForest : Bool → (stateBase : ℕ) → Reading → LastDescriptor → Asked
+askedOfForest autoAdjust stateBase r l = askedBy (askedAnswer stateBase r l) autoAdjust r l
 
 -- ---- update_auto_adjust
 -- Refusal 6 for counts that take no update.

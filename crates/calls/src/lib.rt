@@ -1,11 +1,15 @@
-// The calls on a reading's buffers that predictorcorrector.rs has public, with document 01's refusals.
+// The calls on a reading's buffers that predictorcorrector.rs has public, and what its detect_and_modify asks the forest for, with document 01's refusals.
+use descriptor::LastDescriptor;
+use descriptor::Reading;
 use divector::Block;
 use predictorcorrector::PredictorCorrector;
 use predictorcorrector::Updated;
 use types::Answer;
 use types::Refusal;
 ghost use mathlib.Core.Path.{_≡_};
+ghost use mathlib.Core.List.{[]};
 ghost use lib.ListN.{length};
+ghost use Rattle.descriptor.specs.Checks as Checks;
 ghost use Rattle.calls.specs.Calls as Calls;
 
 fn first_refusal(sizes: bool, lengths: bool, finite: bool, last: Answer) -> Answer
@@ -194,11 +198,12 @@ pub fn apply_basic_corrector(
     }
 }
 
-// What the forest's conditional field is asked for behind an attribution: the block that contributes most, and the likely missing indices of its row. The
-// places from `count` on hold 0; a refusal has no block and no indices, all zero.
+// What the forest's conditional field is asked for behind an attribution: the block that contributes most, where its row starts, and the likely missing indices of
+// the row. The places from `count` on hold 0; a refusal has no block and no indices, all zero.
 pub struct Missing {
     pub answer: Answer,
     pub block: usize,
+    pub start: usize,
     pub count: usize,
     pub indices: [usize; 5],
 }
@@ -224,6 +229,7 @@ fn missing_at(high: &[f64], low: &[f64], base: usize, block: usize, start: usize
     Missing {
         answer: Answer::Done,
         block,
+        start,
         count: asked.count,
         indices,
     }
@@ -239,7 +245,8 @@ fn missing_within(high: &[f64], low: &[f64], base: usize, gap: usize) -> Missing
     }
 }
 
-// The block that contributes most since the last anomaly, `gap` readings ago, and the indices of its row for which the expected point asks the forest.
+// The block that contributes most since the last anomaly, `gap` readings ago, its row's start, and the indices of the row for which the expected point asks the
+// forest.
 pub fn likely_missing_indices(
     shingle_size: usize,
     base: usize,
@@ -255,6 +262,7 @@ pub fn likely_missing_indices(
         Answer::Refused(_) => Missing {
             answer,
             block: 0,
+            start: 0,
             count: 0,
             indices: [0, 0, 0, 0, 0],
         },
@@ -262,9 +270,94 @@ pub fn likely_missing_indices(
 }
 
 // Holds the law to its statement.
-fn asked_of_the_forest()
-    ensures { λ r. ⌜ Calls.AskedOfTheForest ⌝ }
+fn asked_indices_are_expected()
+    ensures { λ r. ⌜ Calls.AskedIndicesAreExpected ⌝ }
 {}
+
+// What detect_and_modify asks its forest for past an opening grade above 0, beside the corrected point's attribution and the conditional field: the corrected point's
+// score, the neighbours, the expected point's attribution (the Rust's `new_attribution`); and the gap and `use_difference` that it hands to its corrector. A refusal
+// asks for nothing: no gap, and no to the rest.
+pub struct Asked {
+    pub answer: Answer,
+    pub gap: usize,
+    pub corrected_score: bool,
+    pub near_neighbor_list: bool,
+    pub new_attribution: bool,
+    pub use_difference: bool,
+}
+
+fn numbers_finite(r: Reading, l: LastDescriptor) -> bool
+    ensures { λ b. ⌜ b ≡ Checks.numbersFinite r l ⌝ }
+{
+    ieee::is_finite(r.score)
+        & (ieee::is_finite(r.corrected_score)
+            & (ieee::is_finite(l.score) & ieee::is_finite(l.threshold)))
+}
+
+// The last anomaly's score, behind its yes/no. Its points are not lent.
+fn anomaly_finite(l: LastDescriptor) -> bool
+    ensures { λ b. ⌜ b ≡ Checks.lastFinite l [] [] ⌝ }
+{
+    let anomaly = l.anomaly;
+    if l.has_anomaly {
+        return ieee::is_finite(anomaly.score);
+    }
+    true
+}
+
+fn seen_answer(ok: bool) -> Answer
+    ensures { λ r. ⌜ r ≡ Calls.seenAnswer ok ⌝ }
+{
+    if ok {
+        return Answer::Done;
+    }
+    Answer::Refused(Refusal::ValuesSeen)
+}
+
+fn asked_answer(state_base: usize, r: Reading, l: LastDescriptor) -> Answer
+    ensures { λ a. ⌜ a ≡ Calls.askedAnswer «state_base» r l ⌝ }
+{
+    let anomaly = l.anomaly;
+    first_refusal(
+        descriptor::range_ok(r.shingle_size, r.base_dimension, state_base),
+        true,
+        numbers_finite(r, l) & anomaly_finite(l),
+        seen_answer(descriptor::seen_ok(r.values_seen, l.has_anomaly, anomaly.values_seen)),
+    )
+}
+
+// What is asked for so long after the last anomaly, or the start.
+fn asked_after(gap: usize, auto_adjust: bool, r: Reading, l: LastDescriptor) -> Asked
+    ensures { λ a. ⌜ a ≡ Calls.askedAfter gap «auto_adjust» r l ⌝ }
+{
+    let method = r.transform_method;
+    Asked {
+        answer: Answer::Done,
+        gap,
+        corrected_score: scoring::is_recent(l.has_anomaly, gap, r.shingle_size),
+        near_neighbor_list: auto_adjust,
+        new_attribution: gap < r.shingle_size,
+        use_difference: method.is_differenced(),
+    }
+}
+
+// The forest's part in a reading past its opening grade; auto adjust and base are the state's.
+pub fn asked_of_forest(auto_adjust: bool, state_base: usize, r: Reading, l: LastDescriptor) -> Asked
+    ensures { λ a. ⌜ a ≡ Calls.askedOfForest «auto_adjust» «state_base» r l ⌝ }
+{
+    let answer = asked_answer(state_base, r, l);
+    match answer {
+        Answer::Done => asked_after(scoring::gap(r, l), auto_adjust, r, l),
+        Answer::Refused(_) => Asked {
+            answer,
+            gap: 0,
+            corrected_score: false,
+            near_neighbor_list: false,
+            new_attribution: false,
+            use_difference: false,
+        },
+    }
+}
 
 fn counts_answer(ok: bool) -> Answer
     ensures { λ r. ⌜ r ≡ Calls.countsAnswer ok ⌝ }

@@ -1,10 +1,12 @@
 // Makes the calls on a reading's buffers that standard input has, and writes a line for each, in hexadecimal: the operation, the refusal's number or 0, and a
 // checksum of what the call may write. Standard output is to be the Rust's lines; `oracle/run SOURCES sample` writes both.
 //
-// A call is 336 bytes. The first 16: the operation (0 the expected point, 1 the corrector, 2 auto adjust, 3 the missing indices), shingle size, base dimension,
-// position or gap, the yes/no of an anomaly, of differences and of time, 1 where the relative index is -1, the lengths of point, median or last expected point, last
-// anomalous point, high, low and the buffer that may be written (of auto adjust: 1 where the state is to lack its last byte), two zeros. Then 5 rows of 16 floats,
-// 4 bytes each, the lowest first, in the order of the lengths. Behind a call of auto adjust stands the state, 1310 bytes.
+// A call is 336 bytes. The first 16: the operation (0 the expected point, 1 the corrector, 2 auto adjust, 3 the missing indices, 4 what the forest is asked for),
+// shingle size, base dimension, position or gap (of 4: in these three places 1 where the state, the reading, the last descriptor is to lack its last byte), the
+// yes/no of an anomaly, of differences and of time, 1 where the relative index is -1, the lengths of point, median or last expected point, last anomalous point,
+// high, low and the buffer that may be written (of auto adjust: 1 where the state is to lack its last byte), two zeros. Then 5 rows of 16 floats, 4 bytes each, the
+// lowest first, in the order of the lengths. Behind a call of auto adjust stands the state, 1310 bytes; behind one of 4 the state, the reading and the last
+// descriptor, 23 bytes each.
 ghost use Prim.Native.Nat.{_<_};
 
 fn wide(b: u8) -> u32
@@ -125,10 +127,10 @@ fn mix_bytes(x: [u8; 1310]) -> u64 {
     sum
 }
 
-fn mix_numbers(x: [usize; 7]) -> u64 {
+fn mix_numbers(x: [usize; 8]) -> u64 {
     let mut sum = 0u64;
     let mut i = 0usize;
-    while i < 7 {
+    while i < 8 {
         sum = mix(sum, x[i] as u64);
         i += 1;
     }
@@ -202,14 +204,42 @@ fn update_auto_adjust(h: Head, x: &[f32]) -> Said {
 }
 
 fn likely_missing_indices(h: Head, w: &[f64]) -> Said {
-    let mut out = [9usize; 7];
-    let n = h.out % 8;
+    let mut out = [9usize; 8];
+    let n = h.out % 9;
     let number = c_calls::krcf_likely_missing_indices(
         h.shingle_size,
         h.base_dimension,
         h.at,
         wide_row(w, 48, h.high),
         wide_row(w, 64, h.low),
+        &mut out[..n],
+    );
+    Said {
+        number,
+        sum: mix_numbers(out),
+    }
+}
+
+fn blank_numbers() -> [u8; 23] {
+    [0u8; 23]
+}
+
+fn asked_of_forest(h: Head) -> Said {
+    let mut state = blank_state();
+    io::read_full(0, &mut state);
+    let mut reading = blank_numbers();
+    io::read_full(0, &mut reading);
+    let mut last = blank_numbers();
+    io::read_full(0, &mut last);
+    let mut out = [9usize; 8];
+    let s = 1310 - h.shingle_size % 2;
+    let r = 23 - h.base_dimension % 2;
+    let l = 23 - h.at % 2;
+    let n = h.out % 9;
+    let number = c_calls::krcf_asked_of_forest(
+        &state[..s],
+        &reading[..r],
+        &last[..l],
         &mut out[..n],
     );
     Said {
@@ -228,7 +258,8 @@ fn call(b: &[u8; 336]) -> Said {
         0 => expected_point(h, x, w),
         1 => apply_basic_corrector(h, x),
         2 => update_auto_adjust(h, x),
-        _ => likely_missing_indices(h, w),
+        3 => likely_missing_indices(h, w),
+        _ => asked_of_forest(h),
     }
 }
 

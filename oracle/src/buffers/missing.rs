@@ -1,4 +1,5 @@
-//! The indices that a host hands to the forest's conditional field, with the block they come from.
+//! The indices that a host hands to the forest's conditional field, with the block they come from and
+//! where its row starts.
 //! The Rust's are those of the call that its expected_point makes, none where it makes none.
 
 use rcflib::common::divector::DiVector;
@@ -13,8 +14,8 @@ use crate::random::Random;
 use crate::readings::damage::resize;
 use crate::refusals::{LENGTH, NOT_FINITE, RANGE, VALUES_SEEN};
 
-/// Block, count, and room for the indices.
-pub const ROOM: usize = 2 + ATTRIBUTORS;
+/// Block, start, count, and room for the indices.
+pub const ROOM: usize = 3 + ATTRIBUTORS;
 
 #[derive(Clone, Debug)]
 pub struct MissingIndices {
@@ -120,7 +121,7 @@ impl Call for MissingIndices {
             Some(Asked::Field(indices, ..)) => indices,
             _ => vec![],
         };
-        let mut out = vec![block, indices.len()];
+        let mut out = vec![block, position, indices.len()];
         out.extend(indices);
         out.resize(ROOM, 0);
         out

@@ -1,6 +1,7 @@
 //! The calls on a reading's buffers: what each is handed, ours, the Rust's, and how it is spoilt.
 
 pub mod adjusting;
+pub mod asked;
 pub mod corrector;
 pub mod expected;
 pub mod missing;

@@ -5,6 +5,7 @@ use std::fs;
 use std::io::Result;
 
 use super::adjusting::AutoAdjust;
+use super::asked::AskedOfForest;
 use super::corrector::Corrector;
 use super::expected::ExpectedPoint;
 use super::missing::{MissingIndices, ROOM};
@@ -12,6 +13,7 @@ use super::Call;
 use crate::bytes::Bytes;
 use crate::chain::STATE;
 use crate::random::Random;
+use crate::readings::table::READING;
 
 /// How many calls there are of each operation; every other one is spoilt.
 const ROUNDS: u64 = 80;
@@ -186,6 +188,38 @@ impl Sampled for MissingIndices {
     }
 }
 
+impl Sampled for AskedOfForest {
+    fn settle(&mut self) {
+        self.out.fill(NUMBER);
+    }
+
+    /// The state, the reading and the last descriptor may lack their last byte.
+    fn stored(&self) -> Option<Vec<u8>> {
+        let h = &self.handed;
+        let mut numbers = [0; 7];
+        let mut bytes = Vec::new();
+        let slices = [(&h.state, STATE), (&h.reading, READING), (&h.last, READING)];
+        for ((slice, whole), short) in slices.into_iter().zip(&mut numbers) {
+            *short = whole.checked_sub(slice.len()).filter(|n| *n <= 1)?;
+            bytes.extend(slice);
+            bytes.extend(vec![0; *short]);
+        }
+        let stored = Stored {
+            operation: 4,
+            numbers,
+            out: self.out.len(),
+            state: &bytes,
+            ..Stored::default()
+        };
+        (self.out.len() <= ROOM).then(|| stored.bytes()).flatten()
+    }
+
+    fn words(mut left: Vec<usize>) -> Vec<u64> {
+        left.resize(ROOM, NUMBER);
+        left.into_iter().map(|n| n as u64).collect()
+    }
+}
+
 /// A call of which the program has room for all, and its bytes.
 fn drawn<C: Sampled>(random: &mut Random, spoilt: bool) -> (C, Vec<u8>) {
     loop {
@@ -224,6 +258,7 @@ pub fn write(random: &mut Random) -> Result<()> {
         add::<Corrector>(random, spoilt, &mut calls, &mut lines);
         add::<AutoAdjust>(random, spoilt, &mut calls, &mut lines);
         add::<MissingIndices>(random, spoilt, &mut calls, &mut lines);
+        add::<AskedOfForest>(random, spoilt, &mut calls, &mut lines);
     }
     println!(
         "{} calls on buffers, {} bytes",

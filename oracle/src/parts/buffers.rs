@@ -2,6 +2,7 @@
 //! refused by one damage or two.
 
 use crate::buffers::adjusting::AutoAdjust;
+use crate::buffers::asked::AskedOfForest;
 use crate::buffers::corrector::Corrector;
 use crate::buffers::expected::ExpectedPoint;
 use crate::buffers::missing::MissingIndices;
@@ -13,6 +14,10 @@ const CASES: u64 = 1_000_000;
 
 /// How often each number has to come up alone, and each pair of numbers.
 const LEAST: u64 = 2_000;
+
+/// How often each combination of yes and no has to come up among the Rust's answers, in a tenth of
+/// the cases.
+const LEAST_ANSWERS: u64 = 1_000;
 
 fn sound<C: Call>(tally: &mut Tally, random: &mut Random) -> C {
     let call = C::sound(random);
@@ -80,4 +85,21 @@ pub fn adjusting(tally: &mut Tally, random: &mut Random) {
 
 pub fn missing(tally: &mut Tally, random: &mut Random) {
     compare::<MissingIndices>(tally, random);
+}
+
+pub fn asked(tally: &mut Tally, random: &mut Random) {
+    compare::<AskedOfForest>(tally, random);
+    let mut seen = [0; 16];
+    for _ in 0..CASES / 10 {
+        let answers = AskedOfForest::sound(random).rust();
+        seen[answers[1..].iter().fold(0, |k, n| 2 * k + n)] += 1;
+    }
+    let least = seen.into_iter().min().expect("sixteen");
+    println!(
+        "    answers: each of the sixteen at least {least} times in {}",
+        CASES / 10
+    );
+    tally.compare(&(least >= LEAST_ANSWERS), &true, || {
+        format!("answers that came up too seldom: {seen:?}")
+    });
 }

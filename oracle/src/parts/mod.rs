@@ -50,5 +50,6 @@ pub const PARTS: &[Part] = &[
     part("corrector", buffers::corrector),
     part("adjusting", buffers::adjusting),
     part("missing", buffers::missing),
+    part("asked", buffers::asked),
     part("demand3", demand3::compare),
 ];

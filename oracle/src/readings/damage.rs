@@ -29,7 +29,7 @@ pub fn spoil(random: &mut Random, h: &mut Handed, number: u8) {
 }
 
 /// A size or a code beyond its range, in a slice that has its length.
-fn range(random: &mut Random, h: &mut Handed) {
+pub fn range(random: &mut Random, h: &mut Handed) {
     let above = random.of(&[2, 3, 255]);
     let method = 6 + random.below(250) as u8;
     let size = random.of(&[0, u32::MAX as usize]);
@@ -148,7 +148,7 @@ fn unbounded(random: &mut Random, h: &mut Handed) {
 }
 
 /// A number of values seen that is 0, too large or not later than the last anomaly's.
-fn time(random: &mut Random, h: &mut Handed) {
+pub fn time(random: &mut Random, h: &mut Handed) {
     let seen = word(&h.last, LAST_SEEN);
     let before = random.below(seen as u64 + 1) as usize;
     let earlier = random.of(&[seen, before]);

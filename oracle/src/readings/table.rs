@@ -24,7 +24,7 @@ pub fn word(bytes: &[u8], at: usize) -> usize {
 }
 
 /// A code or a size out of its range, in the slices that have their length.
-fn out_of_range(h: &Handed) -> bool {
+pub fn out_of_range(h: &Handed) -> bool {
     let (state, reading, last) = (&h.state, &h.reading, &h.last);
     let (whole_state, whole_reading) = (state.len() == chain::STATE, reading.len() == READING);
     let mut bad = false;
@@ -71,7 +71,7 @@ fn of_another_length(h: &Handed) -> bool {
 }
 
 /// A float that is not finite; behind a no the anomaly's are not looked at.
-fn not_finite(h: &Handed) -> bool {
+pub fn not_finite(h: &Handed) -> bool {
     let single = |bytes: &[u8], at: usize| f32::get(&bytes[at..]).is_finite();
     let anomaly = h.last[ANOMALY] == 1;
     let behind = |k: usize| k == chain::LAST_EXPECTED || k == chain::LAST_EXPECTED + 1;
@@ -87,7 +87,7 @@ fn not_finite(h: &Handed) -> bool {
         && h.vectors.iter().flatten().all(|x| x.is_finite()))
 }
 
-fn out_of_time(h: &Handed) -> bool {
+pub fn out_of_time(h: &Handed) -> bool {
     let seen = word(&h.reading, SEEN);
     let anomaly = h.last[ANOMALY] == 1;
     !(1..=16_777_216).contains(&seen) || (anomaly && seen <= word(&h.last, LAST_SEEN))

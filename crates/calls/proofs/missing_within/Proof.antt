@@ -2,7 +2,7 @@ use mathlib.Core.Path.{sym, _∙_}
 use native.Mathlib.Nat.{zero-mul}
 use denote.Ref.{now}
 use Rattle.calls.specs.Calls.{missingWithin, blockOf}
-use Rattle.calls.proofs.Asked.{block-inside}
+use Rattle.calls.proofs.Indices.{block-inside}
 use borrow.Author.Needs.{needs}
 use Rattle.calls.proofs.missing_within.Statement.{statement}
 use Rattle.calls.proofs.missing_within.Tie as tie

@@ -4,10 +4,10 @@ use Rattle.calls_replay.proofs.mix_numbers.Statement.{statement}
 use Rattle.calls_replay.proofs.mix_numbers.Tie as tie
 
 abbrev Inv-loop : tie.InvT-loop
-Inv-loop x sum₀ i₀ sum i = i ≤ 7
+Inv-loop x sum₀ i₀ sum i = i ≤ 8
 
 abbrev μ-loop : tie.MeasureT-loop
-μ-loop x sum₀ i₀ sum i = 7 - i
+μ-loop x sum₀ i₀ sum i = 8 - i
 
 loop-holds : tie.Need-loop-holds Inv-loop μ-loop
 loop-holds c = search needs

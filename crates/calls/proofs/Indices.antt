@@ -23,7 +23,7 @@ use Rattle.attributors.specs.Attributors.{asked, askedIndices, missing}
 use Rattle.attributors.proofs.Laws.{Row, asked-row}
 use Rattle.corrector.specs.Corrector.{predicted, expectedPoint}
 use Rattle.corrector.proofs.Rows.{all-are}
-use Rattle.calls.specs.Calls.{gapAnswer, missingAnswer, blockOf, missingAt, missingWithin, missingBy, likelyMissingIndices, AskedOfTheForest}
+use Rattle.calls.specs.Calls.{gapAnswer, missingAnswer, blockOf, missingAt, missingWithin, missingBy, likelyMissingIndices, AskedIndicesAreExpected}
 use Rattle.calls.specs.declared.Missing.{Missing}
 use Rattle.calls.proofs.Accepted.{passed, gap-above}
 
@@ -64,7 +64,7 @@ module _ (shingle base gap : ℕ) (high low : List Float) (done : missingAnswer 
 
 module _ (base gap : ℕ) (high low point median : List Float) (m : Missing) where
   accepted : (shingle : ℕ) → missingAnswer shingle base gap high low ≡ Done → m ≡ missingBy Done base gap high low
-      → expectedPoint high low (m .block * base) base point median ≡ predicted (take (m .count) (m .indices)) median point
+      → expectedPoint high low (m .start) base point median ≡ predicted (take (m .count) (m .indices)) median point
   unfolding missingBy missingWithin missingAt expectedPoint
   accepted shingle q r =
       let start : ℕ = blockOf (maxGapContribution high low base gap) * base in
@@ -73,15 +73,15 @@ module _ (base gap : ℕ) (high low point median : List Float) (m : Missing) whe
       (sym (all-are high low start base (asked high low start base) (asked-row high low start base (row-asked shingle base gap high low q)))))
 
   refused : (why : Refusal) → m ≡ missingBy (Refused why) base gap high low → m .answer ≡ Done
-      → expectedPoint high low (m .block * base) base point median ≡ predicted (take (m .count) (m .indices)) median point
+      → expectedPoint high low (m .start) base point median ≡ predicted (take (m .count) (m .indices)) median point
   unfolding missingBy
   refused why r h = absurd (let f = ap (λ (n : Missing). n .answer) r in let z : _≡_ {A = ℕ} 0 1 = cc in omega arith)
 
-pub asked-of-the-forest : AskedOfTheForest
+pub asked-indices-are-expected : AskedIndicesAreExpected
 unfolding likelyMissingIndices
-asked-of-the-forest shingle base gap high low point median m e h = by-answer (missingAnswer shingle base gap high low) refl e
+asked-indices-are-expected shingle base gap high low point median m e h = by-answer (missingAnswer shingle base gap high low) refl e
   where
     by-answer : (a : Answer) → missingAnswer shingle base gap high low ≡ a → m ≡ missingBy a base gap high low
-        → expectedPoint high low (m .block * base) base point median ≡ predicted (take (m .count) (m .indices)) median point
+        → expectedPoint high low (m .start) base point median ≡ predicted (take (m .count) (m .indices)) median point
     by-answer Done q r = accepted base gap high low point median m shingle q r
     by-answer (Refused why) q r = refused base gap high low point median m why r h
