@@ -2,19 +2,14 @@
 // Numbers, and slices of bytes, sizes or floats (a pointer, then a length); a state, a reading and the last descriptor are their bytes, as the crate layout has them.
 // A call answers document 01's number, 0 where it is done; a refused one has written nothing.
 use calls::Asked;
-use layout::CoreRead;
-use layout::LastRead;
-use layout::ReadingRead;
+use layout::CallRead;
 use types::Answer;
 use types::Refusal;
 ghost use mathlib.Core.Path.{_≡_};
-ghost use mathlib.Core.Bool.{true};
 ghost use mathlib.Core.List.{_∷_};
 ghost use lib.ListN.{length};
 ghost use Rattle.layout.specs.Left.{left};
-ghost use Rattle.layout.specs.Chain.{stateCodesOk};
 ghost use Rattle.layout.specs.Numbers.{flagByte};
-ghost use Rattle.layout.specs.Readings.{readingCodesOk};
 ghost use Rattle.calls.specs.Calls.{unasked};
 ghost use Rattle.c_calls.specs.Forest as Forest;
 ghost use Rattle.c_calls.specs.Buffers as Buffers;
@@ -24,39 +19,6 @@ ghost use Rattle.c_calls.specs.Buffers.{filled};
 const RANGE: u8 = 2;
 
 const LENGTH: u8 = 3;
-
-// The codes and yes/no bytes of all three. Nothing inside a slice of another length is looked at.
-fn codes_ok(state: &[u8], reading: &[u8], last: &[u8]) -> bool
-    ensures { λ r. ⌜ r ≡ Forest.codesOk (now (state .entry)) (now (reading .entry)) (now (last .entry)) ⌝ }
-{
-    layout::state_codes_ok(state)
-        & (layout::reading_codes_ok(reading) & layout::last_codes_ok(last))
-}
-
-fn slices_ok(state: usize, reading: usize, last: usize, out: usize) -> bool
-    ensures { λ r. ⌜ r ≡ Forest.slicesOk state reading last out ⌝ }
-{
-    (state == layout::STATE_LENGTH)
-        & ((reading == layout::READING_LENGTH) & ((last == layout::LAST_LENGTH) & (out == 5)))
-}
-
-// The sizes, as far as the two slices can be read.
-fn sizes_fit(state: &[u8], reading: &[u8]) -> bool
-    requires { ⌜ stateCodesOk (now state) ≡ true ⌝ ∗ ⌜ readingCodesOk (now reading) ≡ true ⌝ }
-    ensures { λ r. ⌜ r ≡ Forest.sizesFit (now (state .entry)) (now (reading .entry)) ⌝ }
-{
-    match layout::read_reading(reading) {
-        ReadingRead::Read(r) => match layout::read_core(state) {
-            CoreRead::Read(core) => descriptor::range_ok(
-                r.shingle_size,
-                r.base_dimension,
-                core.base_dimension as usize,
-            ),
-            CoreRead::Refused(_) => descriptor::sizes_ok(r.shingle_size, r.base_dimension),
-        },
-        ReadingRead::Refused(_) => true,
-    }
-}
 
 // Nothing is asked for.
 fn refused(why: Refusal) -> Asked
@@ -76,25 +38,12 @@ fn refused(why: Refusal) -> Asked
 fn asked_over(state: &[u8], reading: &[u8], last: &[u8], out: usize) -> Asked
     ensures { λ r. ⌜ r ≡ Forest.askedOver (now (state .entry)) (now (reading .entry)) (now (last .entry)) out ⌝ }
 {
-    if codes_ok(state, reading, last) {
-        if slices_ok(state.len(), reading.len(), last.len(), out) {
-            let CoreRead::Read(core) = layout::read_core(state) else {
-                return refused(Refusal::Length);
-            };
-            let ReadingRead::Read(r) = layout::read_reading(reading) else {
-                return refused(Refusal::Length);
-            };
-            let LastRead::Read(l) = layout::read_last(last) else {
-                return refused(Refusal::Length);
-            };
-            return calls::asked_of_forest(core.auto_adjust, core.base_dimension as usize, r, l);
+    match layout::read_call(state, reading, last, out == 5) {
+        CallRead::Read(core, r, l) => {
+            calls::asked_of_forest(core.auto_adjust, core.base_dimension as usize, r, l)
         }
-        if sizes_fit(state, reading) {
-            return refused(Refusal::Length);
-        }
-        return refused(Refusal::Range);
+        CallRead::Refused(why) => refused(why),
     }
-    refused(Refusal::Range)
 }
 
 fn flag(b: bool) -> usize

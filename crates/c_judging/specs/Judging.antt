@@ -2,7 +2,7 @@
 -- a slice of another length is looked at.
 use Prim.Native.Nat.{ℕ, _-_}
 use mathlib.Core.Path.{_≡_}
-use mathlib.Core.Bool.{Bool, true, cond, _&&_}
+use mathlib.Core.Bool.{Bool, cond, _&&_}
 use mathlib.Core.List.{List}
 use lib.Dec.{eqb}
 use lib.IntN.{ℤ}
@@ -11,7 +11,6 @@ use lib.Ieee.{Float}
 use Rattle.types.specs.Refusals.{number, answered}
 use Rattle.types.specs.declared.Refusal.the-variants.{Range, Length}
 use Rattle.divector.specs.DiVector.{normalized}
-use Rattle.descriptor.specs.Checks.{sizesOk, rangeOk}
 use Rattle.descriptor.specs.Lent.{Lent}
 use Rattle.predictorcorrector.specs.declared.PredictorCorrector.{PredictorCorrector}
 use Rattle.detection.specs.Judging.{expected}
@@ -21,26 +20,13 @@ use Rattle.detection.specs.declared.Outcome.the-variants.{Refused}
 use Rattle.corrector.specs.Corrector.{newestRowAnswer}
 use Rattle.layout.specs.Places.{stateLength, readingLength, lastLength, verdictLength}
 use Rattle.layout.specs.Numbers.{bytes8}
-use Rattle.layout.specs.Chain.{decodeState, stateCodesOk}
-use Rattle.layout.specs.Readings.{decodeReading, decodeLast, readingCodesOk, lastCodesOk}
+use Rattle.layout.specs.Chain.{decodeState}
+use Rattle.layout.specs.Readings.{decodeReading, decodeLast}
+unfoldable pub use Rattle.layout.specs.Call.{codesOk, sizesFit}
 unfoldable pub use Rattle.verdict_bytes.specs.Bytes.{told, changesState, stored, stateLeft, verdictLeft}
-
--- The codes and yes/no bytes of all three.
-unfoldable pub codesOk : (state reading last : List ℕ) → Bool
-codesOk state reading last = stateCodesOk state && (readingCodesOk reading && lastCodesOk last)
 
 unfoldable pub slicesOk : (state reading last verdict : ℕ) → Bool
 slicesOk state reading last verdict = eqb state stateLength && (eqb reading readingLength && (eqb last lastLength && eqb verdict verdictLength))
-
--- The reading's sizes, as far as the slices can be read.
-unfoldable pub sizesFit : (state reading : List ℕ) → Bool
-sizesFit state reading =
-    let r = decodeReading reading in
-    cond (eqb (length reading) readingLength)
-    (cond (eqb (length state) stateLength)
-    (rangeOk (r .«shingle_size») (r .«base_dimension») (decodeState state .«base_dimension»))
-    (sizesOk (r .«shingle_size») (r .«base_dimension»)))
-    true
 
 module _ (state reading last : List ℕ) (b : Lent) where
   -- The outcome. The four numbers are the lengths of the slices that may be written: expected point, attribution, verdict.

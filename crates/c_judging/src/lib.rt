@@ -6,12 +6,9 @@ use detection::Standing;
 use layout::CallRead;
 use layout::Core;
 ghost use mathlib.Core.Path.{_≡_};
-ghost use mathlib.Core.Bool.{true};
 ghost use Prim.Native.Nat.{_-_};
 ghost use lib.ListN.{length};
 ghost use Rattle.descriptor.specs.Lent.{lent};
-ghost use Rattle.layout.specs.Chain.{stateCodesOk};
-ghost use Rattle.layout.specs.Readings.{readingCodesOk};
 ghost use Rattle.c_judging.specs.Judging as Judging;
 ghost use Rattle.c_judging.specs.Steps as Steps;
 

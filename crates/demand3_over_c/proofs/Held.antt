@@ -5,6 +5,7 @@ use mathlib.Core.List.{List, [], _∷_}
 use Prim.Native.Nat.{ℕ, zero, suc, _+_, _-_, _*_, _<_, _≤_}
 use native.Mathlib.Omega.{arith}
 use lib.Dec.{T, leb, ltb, leb→le}
+use borrow.Author.Tests.{le-leb, leb-true}
 use lib.IntN.{ℤ, pos, negsuc, _+ℤ_}
 use lib.Signed.{mag}
 use lib.ListN.{length, getD}
@@ -18,7 +19,7 @@ use Rattle.types.specs.Codes.{isHeight}
 use Rattle.types.specs.declared.Refusal.the-variants as Refusals
 use Rattle.types.specs.declared.Answer.the-variants as Answers
 use Rattle.types.specs.declared.ScoringStrategy.{ScoringStrategy}
-use Rattle.deviation.specs.Const.{zero64, one64}
+use Rattle.deviation.specs.Const.{zero64, one64, countLimit}
 use Rattle.deviation.specs.Statistics as Statistics
 use Rattle.deviation.specs.Statistics.{fresh, reset, mean, counted, next, countable, oneMore}
 use Rattle.deviation.specs.declared.Deviation.{Deviation}
@@ -26,7 +27,8 @@ use Rattle.deviation.specs.declared.Updated as Counted
 use Rattle.basicthresholder.specs.Const.{zero32, two32, two64}
 use Rattle.basicthresholder.specs.Updates.{freshThresholder, withCounted, countedGap, countedOver, primaryCounted, bothCounted, countsOk, done, refused, updated, updatePrimary, updateBoth, update, withZFactor, withScoreDifferencing}
 use Rattle.basicthresholder.specs.declared.BasicThresholder.{BasicThresholder}
-use Rattle.predictorcorrector.specs.Lists.{changed, stepped, rowCounted, rowReset}
+use Rattle.predictorcorrector.specs.Lists.{changed, stepped, rowFits}
+use Rattle.predictorcorrector.proofs.Rows.{both, fits-within}
 use Rattle.predictorcorrector.specs.State.{existing, freshList, freshState, withRun, withThresholder, longerRun, runEnded, autoAdjusted, candidateCounted, runGrown, heightScore, updateScore}
 use Rattle.predictorcorrector.specs.declared.PredictorCorrector.{PredictorCorrector}
 use Rattle.descriptor.specs.Lent.{Lent}
@@ -259,22 +261,19 @@ stepped-list n ds xs f = record {
   rest = λ (k : ℕ) (h : n ≤ k). stepped-other (fresh zero64) counted n ds xs k h ∙ f .rest k h;
 }
 
-reset-list : (auto : Bool) (base : ℕ) (ds : List Deviation) → auto ≡ true → ListFits (entries auto base) ds → ListFits (entries auto base) (rowReset base ds)
-unfolding entries rowReset
-reset-list auto base ds e = subst (λ (a : Bool). ListFits (entries a base) ds → ListFits (entries a base) (rowReset base ds)) (sym e) (go (leb base 16))
-  where
-    go : (c : Bool) → ListFits (cond c base 16) ds → ListFits (cond c base 16) (cond c (changed reset base ds) ds)
-    go true f = changed-list base ds f
-    go false f = f
+entries-are : (auto : Bool) (base : ℕ) → auto ≡ true → base ≤ 16 → entries auto base ≡ base
+unfolding entries
+entries-are auto base e few = rw (e, le-leb base 16 few)
 
-count-list : (auto : Bool) (base : ℕ) (ds : List Deviation) (xs : List Float) → auto ≡ true → ListFits (entries auto base) ds → ListFits (entries auto base) (rowCounted base ds xs)
-unfolding entries rowCounted
-count-list auto base ds xs e = subst (λ (a : Bool). ListFits (entries a base) ds → ListFits (entries a base) (rowCounted base ds xs)) (sym e) (go (leb base 16) (leb base (length xs)))
-  where
-    go : (c k : Bool) → ListFits (cond c base 16) ds → ListFits (cond c base 16) (cond (c && k) (stepped counted base ds xs) ds)
-    go true true f = stepped-list base ds xs f
-    go true false f = f
-    go false k f = f
+module _ (auto : Bool) (base : ℕ) (ds : List Deviation) (e : auto ≡ true) (few : base ≤ 16) (f : ListFits (entries auto base) ds) where
+  whole : ListFits base ds
+  whole = subst (λ (n : ℕ). ListFits n ds) (entries-are auto base e few) f
+
+  reset-list : ListFits (entries auto base) (changed reset base ds)
+  reset-list = subst (λ (n : ℕ). ListFits n (changed reset base ds)) (sym (entries-are auto base e few)) (changed-list base ds whole)
+
+  count-list : (xs : List Float) → ListFits (entries auto base) (stepped counted base ds xs)
+  count-list xs = subst (λ (n : ℕ). ListFits n (stepped counted base ds xs)) (sym (entries-are auto base e few)) (stepped-list base ds xs whole)
 
 -- ---- states
 with-run : (s : PredictorCorrector) (n : ℕ) (us vs : List Deviation) → StateFits s → n < 0x1_0000_0000 → ListFits (entries (s .«auto_adjust») (s .«base_dimension»)) us
@@ -286,30 +285,40 @@ with-thresholder s t f h = record { thresholder = h; run = f .run; base = f .bas
 
 ended-fits : (s : PredictorCorrector) → StateFits s → StateFits (runEnded s)
 unfolding runEnded
-ended-fits s f = go (s .«auto_adjust») refl
+ended-fits s f = go (s .«auto_adjust» && leb (s .«base_dimension») 16) refl
   where
-    go : (c : Bool) → s .«auto_adjust» ≡ c → StateFits (cond c (withRun s 0 (rowReset (s .«base_dimension») (s .«deviations_actual»)) (rowReset (s .«base_dimension») (s .«deviations_expected»))) s)
-    go true e = with-run s 0 _ _ f (omega arith) (reset-list _ _ _ e (f .actual)) (reset-list _ _ _ e (f .expected))
-    go false e = f
+    go : (c : Bool) → (s .«auto_adjust» && leb (s .«base_dimension») 16) ≡ c
+        → StateFits (cond c (withRun s 0 (changed reset (s .«base_dimension») (s .«deviations_actual»)) (changed reset (s .«base_dimension») (s .«deviations_expected»))) s)
+    go true h =
+        let p = both (s .«auto_adjust») (leb (s .«base_dimension») 16) h in
+        let few = leb-true (s .«base_dimension») 16 (p .1) in
+        with-run s 0 _ _ f (omega arith) (reset-list _ _ _ (p .0) few (f .actual)) (reset-list _ _ _ (p .0) few (f .expected))
+    go false h = f
 
 adjusted-fits : (s : PredictorCorrector) (point : List Float) → StateFits s → StateFits (autoAdjusted s point)
 unfolding autoAdjusted
-adjusted-fits s point f = go (s .«auto_adjust») (ltb 0 (s .«run_length»)) refl
+adjusted-fits s point f = go (s .«auto_adjust» && (ltb 0 (s .«run_length») && (leb (s .«run_length») countLimit && rowFits (s .«base_dimension») (s .«deviations_actual») point))) refl
   where
-    go : (c k : Bool) → s .«auto_adjust» ≡ c
-        → StateFits (cond (c && k) (withRun s (longerRun (s .«run_length»)) (rowCounted (s .«base_dimension») (s .«deviations_actual») point) (s .«deviations_expected»)) s)
-    go true true e = with-run s _ _ _ f (longer-small (s .«run_length») (f .run)) (count-list _ _ _ point e (f .actual)) (f .expected)
-    go true false e = f
-    go false k e = f
+    go : (c : Bool) → (s .«auto_adjust» && (ltb 0 (s .«run_length») && (leb (s .«run_length») countLimit && rowFits (s .«base_dimension») (s .«deviations_actual») point))) ≡ c
+        → StateFits (cond c (withRun s (longerRun (s .«run_length»)) (stepped counted (s .«base_dimension») (s .«deviations_actual») point) (s .«deviations_expected»)) s)
+    go true h =
+        let p = both (s .«auto_adjust») _ h in
+        let q = both (ltb 0 (s .«run_length»)) _ (p .1) in
+        let row = fits-within (s .«base_dimension») (s .«deviations_actual») point (both (leb (s .«run_length») countLimit) _ (q .1) .1) in
+        with-run s _ _ _ f (longer-small (s .«run_length») (f .run)) (count-list _ _ _ (p .0) (row .0) (f .actual) point) (f .expected)
+    go false h = f
 
 candidate-fits : (s : PredictorCorrector) (xs ys : List Float) → StateFits s → StateFits (candidateCounted s xs ys)
 unfolding candidateCounted
-candidate-fits s xs ys f = go (s .«auto_adjust») refl
+candidate-fits s xs ys f = go (s .«auto_adjust» && (rowFits (s .«base_dimension») (s .«deviations_actual») xs && rowFits (s .«base_dimension») (s .«deviations_expected») ys)) refl
   where
-    go : (c : Bool) → s .«auto_adjust» ≡ c
-        → StateFits (cond c (withRun s (s .«run_length») (rowCounted (s .«base_dimension») (s .«deviations_actual») xs) (rowCounted (s .«base_dimension») (s .«deviations_expected») ys)) s)
-    go true e = with-run s _ _ _ f (f .run) (count-list _ _ _ xs e (f .actual)) (count-list _ _ _ ys e (f .expected))
-    go false e = f
+    go : (c : Bool) → (s .«auto_adjust» && (rowFits (s .«base_dimension») (s .«deviations_actual») xs && rowFits (s .«base_dimension») (s .«deviations_expected») ys)) ≡ c
+        → StateFits (cond c (withRun s (s .«run_length») (stepped counted (s .«base_dimension») (s .«deviations_actual») xs) (stepped counted (s .«base_dimension») (s .«deviations_expected») ys)) s)
+    go true h =
+        let p = both (s .«auto_adjust») _ h in
+        let row = fits-within (s .«base_dimension») (s .«deviations_actual») xs (both (rowFits (s .«base_dimension») (s .«deviations_actual») xs) _ (p .1) .0) in
+        with-run s _ _ _ f (f .run) (count-list _ _ _ (p .0) (row .0) (f .actual) xs) (count-list _ _ _ (p .0) (row .0) (f .expected) ys)
+    go false h = f
 
 with-fits : (c : Bool) (s : PredictorCorrector) (xs ys : List Float) → StateFits s → StateFits (candidateWith c s xs ys)
 unfolding candidateWith

@@ -15,7 +15,7 @@ use Rattle.attributors.proofs.Laws.{take-padded}
 use Rattle.deviation.specs.Const.{zero64}
 use Rattle.deviation.specs.Statistics.{fresh}
 use Rattle.corrector.proofs.Kept.{expected-length}
-use Rattle.descriptor.specs.Checks.{answerOf}
+use Rattle.descriptor.specs.Checks.{answerOf, rangeOk}
 use Rattle.descriptor.specs.Lent.{Lent}
 use Rattle.descriptor.specs.declared.Reading.{Reading}
 use Rattle.descriptor.specs.declared.LastDescriptor.{LastDescriptor}
@@ -36,7 +36,7 @@ use Rattle.detection.specs.declared.Outcome.{Outcome}
 use Rattle.detection.specs.declared.Outcome.the-variants.{Accepted, Refused}
 use Rattle.detection.specs.declared.Standing.{Standing}
 use Rattle.detection.specs.declared.Decision.{Decision}
-use Rattle.detection.proofs.Entry.{branching, same-base, counts-ok}
+use Rattle.detection.proofs.Entry.{branching, in-range, same-base, counts-ok}
 
 module _ (r : Reading) (l : LastDescriptor) (b : Lent) where
   -- The newest rows are `base` long.
@@ -108,6 +108,17 @@ module _ (r : Reading) (l : LastDescriptor) (b : Lent) where
     pub fitting : (o : Outcome) → o ≡ decision r l b k e h w → Fitting r (length (b .point)) o
     unfolding decision
     fitting o q = subst (Fitting r (length (b .point))) (sym q) (fitting-by _ (answerOf r l b (k .«base_dimension») e h w (k .«counts_ok»)) refl)
+
+    accepted-by : (v x : Verdict) (a : Answer) → answerOf r l b (k .«base_dimension») e h w (k .«counts_ok») ≡ a → outcomeOf v a ≡ Accepted x
+        → (rangeOk (r .«shingle_size») (r .«base_dimension») (k .«base_dimension») ≡ true) × (k .«counts_ok» ≡ true)
+    unfolding outcomeOf
+    accepted-by v x Answers.Done q o = (in-range r l b (k .«base_dimension») e h w (k .«counts_ok») q, counts-ok r l b (k .«base_dimension») e h w (k .«counts_ok») q)
+    accepted-by v x (Answers.Refused why) q o = absurd (let z : _≡_ {A = ℕ} 0 1 = cc in omega arith)
+
+    -- What an accepted reading gives the change of a stored state.
+    pub accepted : (o : Outcome) (x : Verdict) → o ≡ decision r l b k e h w → o ≡ Accepted x → (rangeOk (r .«shingle_size») (r .«base_dimension») (k .«base_dimension») ≡ true) × (k .«counts_ok» ≡ true)
+    unfolding decision
+    accepted o x q p = accepted-by _ x (answerOf r l b (k .«base_dimension») e h w (k .«counts_ok»)) refl (sym q ∙ p)
 
     module _ (s : PredictorCorrector) (row : List Float) where
       counted-is : Branching r l b → row ≡ newestExpected r l b → (t : Float) → rowsCounted s r l t (b .point) row ≡ candidateState r l b s t

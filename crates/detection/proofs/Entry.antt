@@ -115,6 +115,9 @@ module _ (r : Reading) (l : LastDescriptor) (b : Lent) (stateBase e h w : ℕ) (
   unfolding rangeOk
   sized = both (sizesOk (r .«shingle_size») (r .«base_dimension»)) (eqb (r .«base_dimension») stateBase) (tests .range) .0
 
+  pub in-range : rangeOk (r .«shingle_size») (r .«base_dimension») stateBase ≡ true
+  in-range = tests .range
+
   pub same-base : r .«base_dimension» ≡ stateBase
   unfolding rangeOk
   same-base = eqb-true (r .«base_dimension») stateBase (both (sizesOk (r .«shingle_size») (r .«base_dimension»)) (eqb (r .«base_dimension») stateBase) (tests .range) .1)

@@ -3,7 +3,7 @@ use Prim.Native.Nat.{ℕ, _-_}
 use mathlib.Core.Path.{_≡_}
 use mathlib.Core.Bool.{Bool, cond}
 use mathlib.Core.List.{List}
-use lib.ListN.{length, getD, replicate}
+use lib.ListN.{length, getD, replicate, take, drop}
 use lib.Ieee.{Float}
 use Rattle.attributors.specs.Attributors.{padded}
 use Rattle.deviation.specs.Const.{zero64}
@@ -13,12 +13,13 @@ use Rattle.descriptor.specs.Checks.{answerOf}
 use Rattle.descriptor.specs.Lent.{Lent}
 use Rattle.descriptor.specs.declared.Reading.{Reading}
 use Rattle.descriptor.specs.declared.LastDescriptor.{LastDescriptor}
-use Rattle.predictorcorrector.specs.State.{stateCountsOk}
+use Rattle.predictorcorrector.specs.State.{stateCountsOk, runEnded, autoAdjusted, runGrown}
 use Rattle.predictorcorrector.specs.declared.PredictorCorrector.{PredictorCorrector}
-use Rattle.candidate.specs.Candidate.{isCandidate, driftAt}
+use Rattle.candidate.specs.Candidate.{isCandidate, candidateWith, driftAt}
 use Rattle.detection.specs.Const.{zero32}
-use Rattle.detection.specs.Judging.{opening, expected, newestOf, decided, isDriftMode}
+use Rattle.detection.specs.Judging.{opening, expected, newestOf, decided, isDriftMode, correctedScore, entered}
 use Rattle.detection.specs.Judged.{outcomeOf, indexAfter, written}
+use Rattle.detection.specs.declared.Verdict.{Verdict}
 use Rattle.detection.specs.declared.Verdict.the-variants.{Quiet, Corrected, Raised, Skipped}
 use Rattle.detection.specs.declared.Outcome.{Outcome}
 use Rattle.detection.specs.declared.Outcome.the-variants.{Accepted, Refused}
@@ -75,3 +76,20 @@ module _ (r : Reading) (l : LastDescriptor) (b : Lent) where
     pub point : e′ ≡ written o e (expected r l b)
     pub highs : h′ ≡ written o h (normalized (r .score) (b .high) (b .low) (b .high))
     pub lows : w′ ≡ written o w (normalized (r .score) (b .high) (b .low) (b .low))
+
+-- What a verdict does to the state, by the point and the newest row of its expected point, which stands in front of `row`: `Judging.after`, where the row is that.
+module _ (s : PredictorCorrector) (r : Reading) (l : LastDescriptor) where
+  unfoldable pub rowsCounted : Float → List Float → List Float → PredictorCorrector
+  rowsCounted threshold point row =
+      candidateWith (isCandidate r l (s .«run_length») (r .«shingle_size») threshold) s (drop (length point - r .«base_dimension») point) (take (r .«base_dimension») row)
+
+  module _ (point row : List Float) where
+    unfoldable pub afterRows : Verdict → PredictorCorrector
+    afterRows (Quiet t) = entered (runEnded s) r l (r .score)
+    afterRows (Corrected t m) = entered (cond (isDriftMode m) (rowsCounted t point row) (autoAdjusted s point)) r l (correctedScore r l)
+    afterRows (Raised t g) = entered (runGrown (rowsCounted t point row)) r l (correctedScore r l)
+    afterRows Skipped = s
+
+    unfoldable pub stateRows : Outcome → PredictorCorrector
+    stateRows (Accepted v) = afterRows v
+    stateRows (Refused why) = s

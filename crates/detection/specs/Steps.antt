@@ -5,7 +5,7 @@ use mathlib.Core.Bool.{Bool, cond, _&&_}
 use mathlib.Core.List.{List, []}
 use mathlib.Core.Logic.{_⊎_}
 use lib.IntN.{pos}
-use lib.ListN.{length, take, drop}
+use lib.ListN.{length}
 use lib.Ieee as Ieee
 use lib.Ieee.{Float, binary32}
 use Rattle.types.specs.declared.Answer.{Answer}
@@ -19,12 +19,12 @@ use Rattle.descriptor.specs.Checks.{answerOf}
 use Rattle.descriptor.specs.Lent.{Lent, lent}
 use Rattle.descriptor.specs.declared.Reading.{Reading}
 use Rattle.descriptor.specs.declared.LastDescriptor.{LastDescriptor}
-use Rattle.predictorcorrector.specs.State.{runEnded, autoAdjusted, runGrown}
 use Rattle.predictorcorrector.specs.declared.PredictorCorrector.{PredictorCorrector}
-use Rattle.candidate.specs.Candidate.{driftAt}
+use Rattle.candidate.specs.Candidate.{isCandidate, driftAt}
 use Rattle.detection.specs.Const.{zero32}
-use Rattle.detection.specs.Judging.{gapOf, recent, opening, noisePass, start, block, expected, lateVerdict, isDriftMode, isCandidate, candidateWith, correctedScore, entered}
+use Rattle.detection.specs.Judging.{gapOf, recent, opening, noisePass, start, block, expected, lateVerdict}
 use Rattle.detection.specs.Decided.{noRow, driftOf}
+unfoldable pub use Rattle.detection.specs.Decided.{rowsCounted, afterRows, stateRows}
 use Rattle.detection.specs.declared.Way.{Way}
 use Rattle.detection.specs.declared.Way.the-variants as Ways
 use Rattle.detection.specs.declared.Verdict.{Verdict}
@@ -105,7 +105,7 @@ module _ (k : Standing) (r : Reading) (l : LastDescriptor) (b : Lent) where
 unfoldable pub withoutRow : Outcome → Decision
 withoutRow o = record { outcome = o; «relative_index» = pos 0; «newest_expected» = noRow }
 
--- ---- what a verdict does to the state, by the point and the newest row of its expected point
+-- ---- what a verdict does to the state asks of a reading
 pub record Counting (r : Reading) (point : ℕ) : Type 0 where
   pub shingle-most : r .«shingle_size» ≤ 64
   pub base-most : r .«base_dimension» ≤ 16
@@ -114,19 +114,3 @@ pub record Counting (r : Reading) (point : ℕ) : Type 0 where
 abbrev pub Fitting : Reading → ℕ → Outcome → Type 0
 Fitting r point (Accepted v) = Counting r point
 Fitting r point (Refused why) = Unit
-
-module _ (s : PredictorCorrector) (r : Reading) (l : LastDescriptor) where
-  unfoldable pub rowsCounted : Float → List Float → List Float → PredictorCorrector
-  rowsCounted threshold point row =
-      candidateWith (isCandidate r l (s .«run_length») (r .«shingle_size») threshold) s (drop (length point - r .«base_dimension») point) (take (r .«base_dimension») row)
-
-  module _ (point row : List Float) where
-    unfoldable pub afterRows : Verdict → PredictorCorrector
-    afterRows (Quiet t) = entered (runEnded s) r l (r .score)
-    afterRows (Corrected t m) = entered (cond (isDriftMode m) (rowsCounted t point row) (autoAdjusted s point)) r l (correctedScore r l)
-    afterRows (Raised t g) = entered (runGrown (rowsCounted t point row)) r l (correctedScore r l)
-    afterRows Skipped = s
-
-    unfoldable pub stateRows : Outcome → PredictorCorrector
-    stateRows (Accepted v) = afterRows v
-    stateRows (Refused why) = s

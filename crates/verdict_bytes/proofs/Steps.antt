@@ -1,49 +1,50 @@
 -- The calls' shapes over plain variables. Assumes nothing.
 use mathlib.Core.Path.{_≡_, refl, sym, ap, _∙_}
-use mathlib.Core.Bool.{Bool, true, false, cond, _&&_}
+use mathlib.Core.Bool.{Bool, true, false, cond, _&&_, true≢false}
 use mathlib.Core.List.{List}
 use Prim.Native.Nat.{ℕ, _-_, _≤_}
 use native.Mathlib.Omega.{arith}
 use lib.Dec.{eqb, leb, ltb}
 use lib.ListN.{length, take, drop, length-drop}
-use lib.Seq.{take-all}
+use lib.Seq.{take-all, length-take-le}
 use lib.IntN.{ℤ}
 use lib.Ieee.{Float}
-use borrow.Author.Tests.{leb-true, eqb-true}
+use borrow.Author.Tests.{leb-true, eqb-true, eq-eqb, le-leb}
 use Rattle.types.specs.Codes.{modeCode}
+use Rattle.types.specs.Refusals.{number, answered}
 use Rattle.types.specs.declared.CorrectionMode.{CorrectionMode}
-use Rattle.types.specs.declared.Refusal.the-variants.{Range, Length}
-use Rattle.basicthresholder.specs.declared.BasicThresholder.{BasicThresholder}
+use Rattle.types.specs.declared.Refusal.{Refusal}
+use Rattle.types.specs.declared.Refusal.the-variants as Why
+use Rattle.types.specs.declared.Answer.{Answer}
+use Rattle.types.specs.declared.Answer.the-variants as Answers
+use Rattle.deviation.specs.Const.{countLimit}
+use Rattle.descriptor.specs.Checks.{sizesOk, rangeOk}
 use Rattle.descriptor.proofs.Bounds.{both}
 use Rattle.descriptor.specs.declared.Reading.{Reading}
 use Rattle.descriptor.specs.declared.LastDescriptor.{LastDescriptor}
-use Rattle.predictorcorrector.specs.State.{longerRun, runEnded, autoAdjusted, candidateCounted, runGrown}
+use Rattle.predictorcorrector.specs.Lists.{rowFits}
+use Rattle.predictorcorrector.specs.State.{runEnded, autoAdjusted, candidateCounted, runGrown, stateCountsOk}
 use Rattle.predictorcorrector.specs.declared.PredictorCorrector.{PredictorCorrector}
 use Rattle.scoring.specs.Scores.{updateScore, entered}
 use Rattle.candidate.specs.Candidate.{isCandidate, candidateWith}
 use Rattle.detection.specs.Const.{zero32}
 use Rattle.detection.specs.Judging.{isDriftMode, correctedScore}
-use Rattle.detection.specs.Steps.{Counting, rowsCounted, afterRows}
+use Rattle.detection.specs.Judged.{outcomeOf, outcomeNumber}
+use Rattle.detection.specs.Steps.{Counting}
+use Rattle.detection.specs.Decided.{rowsCounted, afterRows}
+use Rattle.detection.specs.declared.Outcome.{Outcome}
 use Rattle.detection.specs.declared.Verdict.{Verdict}
 use Rattle.detection.specs.declared.Verdict.the-variants.{Quiet, Corrected, Raised, Skipped}
-use Rattle.detection.specs.declared.Outcome.the-variants.{Accepted, Refused}
 use Rattle.layout.specs.Places.{stateLength, verdictLength}
 use Rattle.layout.specs.Numbers.{writtenOf}
 use Rattle.layout.specs.Chain.{decodeState, encodeStateOver}
-use Rattle.layout.specs.InPlace.{kept, ended, adjusted, counted}
+use Rattle.layout.specs.InPlace as InPlace
+use Rattle.layout.specs.InPlace.{readingAnswer, storedBy, storedRun, runAfter, rowsFit}
 use Rattle.layout.specs.Readings.{verdictBytes}
+use Rattle.layout.proofs.InPlace.{fitting}
 use Rattle.verdict_bytes.specs.Bytes.{told, changesState, stored, stateLeft, verdictLeft}
 use Rattle.verdict_bytes.specs.Put.{Put, putOutcome}
-use Rattle.verdict_bytes.specs.Steps.{scoreUsed, runRows, rowsOver}
-
--- What was there, written again.
-again : (n : ℕ) (xs : List ℕ) → xs ≡ writtenOf n xs xs
-unfolding writtenOf
-again n xs = pick (eqb (length xs) n)
-  where
-    pick : (b : Bool) → xs ≡ cond b xs xs
-    pick true = refl
-    pick false = refl
+use Rattle.verdict_bytes.specs.Steps.{rowsAfter, putOver}
 
 -- ---- the verdict's bytes.
 module _ (v : Verdict) (xs zs : List ℕ) where
@@ -64,165 +65,263 @@ module _ (v : Verdict) (xs zs : List ℕ) where
     unfolding told
     told-skipped e p = p ∙ rw (e, f)
 
--- ---- the state with its scores entered first: run and lists do not look at the thresholder.
-module _ (s : PredictorCorrector) (t u : BasicThresholder) (run : ℕ) (r : Reading) (l : LastDescriptor) where
-  module _ (x : Float) (e : u ≡ updateScore t r l x) where
-    quiet-enters : runEnded (kept s u run) ≡ entered (runEnded (kept s t run)) r l x
-    unfolding runEnded entered
-    quiet-enters = go (s .«auto_adjust») refl
+-- ---- run and lists do not look at the thresholder: the scores may enter first.
+module _ (s : PredictorCorrector) (r : Reading) (l : LastDescriptor) (x : Float) where
+  quiet-enters : InPlace.ended s r l x ≡ entered (runEnded s) r l x
+  unfolding runEnded entered updateScore
+  quiet-enters = go (s .«auto_adjust» && leb (s .«base_dimension») 16) refl
+    where
+      go : (b : Bool) → (s .«auto_adjust» && leb (s .«base_dimension») 16) ≡ b → InPlace.ended s r l x ≡ entered (runEnded s) r l x
+      go true h = rw h
+      go false h = rw h
+
+  adjusted-enters : (point : List Float) → InPlace.adjusted s r l x point ≡ entered (autoAdjusted s point) r l x
+  unfolding autoAdjusted entered updateScore
+  adjusted-enters point = go (s .«auto_adjust» && (ltb 0 (s .«run_length») && (leb (s .«run_length») countLimit && rowFits (s .«base_dimension») (s .«deviations_actual») point))) refl
+    where
+      go : (b : Bool) → (s .«auto_adjust» && (ltb 0 (s .«run_length») && (leb (s .«run_length») countLimit && rowFits (s .«base_dimension») (s .«deviations_actual») point))) ≡ b
+          → InPlace.adjusted s r l x point ≡ entered (autoAdjusted s point) r l x
+      go true h = rw h
+      go false h = rw h
+
+  entered-enters : (grows : Bool) → InPlace.entered s r l x grows ≡ entered (cond grows (runGrown s) s) r l x
+  unfolding entered updateScore runGrown runAfter
+  entered-enters true = refl
+  entered-enters false = refl
+
+  module _ (newest rowExpected : List Float) where
+    abbrev fit : Bool
+    fit = s .«auto_adjust» && (rowFits (s .«base_dimension») (s .«deviations_actual») newest && rowFits (s .«base_dimension») (s .«deviations_expected») rowExpected)
+
+    counted-enters : (grows : Bool) → InPlace.counted s r l x grows newest rowExpected ≡ entered (cond grows (runGrown (candidateCounted s newest rowExpected)) (candidateCounted s newest rowExpected)) r l x
+    unfolding candidateCounted entered updateScore runGrown runAfter
+    counted-enters true = go fit refl
       where
-        go : (b : Bool) → s .«auto_adjust» ≡ b → runEnded (kept s u run) ≡ entered (runEnded (kept s t run)) r l x
-        go true h = rw (h, e)
-        go false h = rw (h, e)
-
-    adjusted-enters : (point : List Float) → autoAdjusted (kept s u run) point ≡ entered (autoAdjusted (kept s t run) point) r l x
-    unfolding autoAdjusted entered
-    adjusted-enters point = go (s .«auto_adjust» && ltb 0 run) refl
+        go : (b : Bool) → fit ≡ b → InPlace.counted s r l x true newest rowExpected ≡ entered (runGrown (candidateCounted s newest rowExpected)) r l x
+        go true h = rw h
+        go false h = rw h
+    counted-enters false = go fit refl
       where
-        go : (b : Bool) → (s .«auto_adjust» && ltb 0 run) ≡ b → autoAdjusted (kept s u run) point ≡ entered (autoAdjusted (kept s t run) point) r l x
-        go true h = rw (h, e)
-        go false h = rw (h, e)
-
-    module _ (newest rowExpected : List Float) where
-      counted-enters : candidateCounted (kept s u run) newest rowExpected ≡ entered (candidateCounted (kept s t run) newest rowExpected) r l x
-      unfolding candidateCounted entered
-      counted-enters = go (s .«auto_adjust») refl
-        where
-          go : (b : Bool) → s .«auto_adjust» ≡ b → candidateCounted (kept s u run) newest rowExpected ≡ entered (candidateCounted (kept s t run) newest rowExpected) r l x
-          go true h = rw (h, e)
-          go false h = rw (h, e)
-
-      branch-enters : (b : Bool) → candidateWith b (kept s u run) newest rowExpected ≡ entered (candidateWith b (kept s t run) newest rowExpected) r l x
-      unfolding candidateWith entered
-      branch-enters true = counted-enters
-      branch-enters false = rw e
-
-      grown-enters : (y z : PredictorCorrector) → y ≡ entered z r l x → runGrown y ≡ entered (runGrown z) r l x
-      unfolding runGrown entered
-      grown-enters y z q = ap runGrown q
-
-  module _ (point row : List Float) where
-    mode-enters : (d : Bool) (threshold x : Float) → u ≡ updateScore t r l x
-        → cond d (rowsCounted (kept s u run) r l threshold point row) (autoAdjusted (kept s u run) point) ≡ entered (cond d (rowsCounted (kept s t run) r l threshold point row) (autoAdjusted (kept s t run) point)) r l x
-    unfolding rowsCounted
-    mode-enters true threshold x e = branch-enters x e (drop (length point - r .«base_dimension») point) (take (r .«base_dimension») row) (isCandidate r l run (r .«shingle_size») threshold)
-    mode-enters false threshold x e = adjusted-enters x e point
-
-    after-enters : (v : Verdict) → changesState v ≡ true → u ≡ updateScore t r l (scoreUsed r l v) → runRows (kept s u run) r l point row v ≡ afterRows (kept s t run) r l point row v
-    unfolding changesState scoreUsed runRows afterRows rowsCounted
-    after-enters (Quiet w) c e = quiet-enters (r .score) e
-    after-enters (Corrected w m) c e = mode-enters (isDriftMode m) w (correctedScore r l) e
-    after-enters (Raised w g) c e =
-        let n = drop (length point - r .«base_dimension») point in
-        let k = take (r .«base_dimension») row in
-        let b = isCandidate r l run (r .«shingle_size») w in
-        grown-enters (correctedScore r l) e n k (candidateWith b (kept s u run) n k) (candidateWith b (kept s t run) n k) (branch-enters (correctedScore r l) e n k b)
-    after-enters Skipped c e = absurd (let z : _≡_ {A = ℕ} 0 1 = cc in omega arith)
-
--- A raised reading is one more of the run, whether the rows are counted before or after.
-grown : (s : PredictorCorrector) (t : BasicThresholder) (run : ℕ) (newest rowExpected : List Float) (b : Bool)
-    → cond b (counted s t (longerRun run) newest rowExpected) (kept s t (longerRun run)) ≡ runGrown (candidateWith b (kept s t run) newest rowExpected)
-unfolding candidateWith candidateCounted runGrown
-grown s t run newest rowExpected false = refl
-grown s t run newest rowExpected true = go (s .«auto_adjust») refl
-  where
-    go : (b : Bool) → s .«auto_adjust» ≡ b → counted s t (longerRun run) newest rowExpected ≡ runGrown (candidateCounted (kept s t run) newest rowExpected)
-    go true h = rw h
-    go false h = rw h
+        go : (b : Bool) → fit ≡ b → InPlace.counted s r l x false newest rowExpected ≡ entered (candidateCounted s newest rowExpected) r l x
+        go true h = rw h
+        go false h = rw h
 
 -- ---- the state's bytes.
 -- What a part to the end is.
 pub tail-is : (xs : List Float) (n : ℕ) → take (length xs - n) (drop n xs) ≡ drop n xs
 tail-is xs n = take-all (length xs - n) (drop n xs) (simp length-drop (omega arith))
 
-abbrev stateOver : List ℕ → PredictorCorrector → List ℕ
-stateOver xs s = writtenOf stateLength xs (encodeStateOver xs s)
+stored-same : (a : Answer) (xs : List ℕ) (s t : PredictorCorrector) → (a ≡ Answers.Done → s ≡ t) → storedBy a xs s ≡ storedBy a xs t
+unfolding storedBy
+stored-same Answers.Done xs s t e = ap (encodeStateOver xs) (e refl)
+stored-same (Answers.Refused why) xs s t e = refl
 
-module _ (xs zs : List ℕ) (t : BasicThresholder) (run : ℕ) (r : Reading) (l : LastDescriptor) (point row : List Float) where
-  module _ (after : ℕ) (threshold : Float) (b : Bool) (e : b ≡ isCandidate r l run (r .«shingle_size») threshold) where
-    pub rows-counted : (newest rowExpected : List Float) → b ≡ true → newest ≡ drop (length point - r .«base_dimension») point → rowExpected ≡ take (r .«base_dimension») row
-        → zs ≡ stateOver xs (counted (decodeState xs) t after newest rowExpected) → zs ≡ rowsOver xs t run after r l threshold point row
-    unfolding rowsOver
-    rows-counted newest rowExpected h p q o = o ∙ (λ i. stateOver xs (counted (decodeState xs) t after (p i) (q i))) ∙ rw (sym e ∙ h)
+module _ (xs : List ℕ) (r : Reading) (l : LastDescriptor) (threshold : Float) (point row : List Float) (grows : Bool) where
+  abbrev newest : List Float
+  newest = drop (length point - r .«base_dimension») point
 
-    pub rows-kept : b ≡ false → zs ≡ stateOver xs (kept (decodeState xs) t after) → zs ≡ rowsOver xs t run after r l threshold point row
-    unfolding rowsOver
-    rows-kept h o = o ∙ rw (sym e ∙ h)
+  abbrev expected : List Float
+  expected = take (r .«base_dimension») row
 
-  module _ (v : Verdict) where
-    abbrev ran : List ℕ
-    ran = writtenOf stateLength xs (stored v xs (runRows (kept (decodeState xs) t run) r l point row v))
+  after-counted : (s : PredictorCorrector) → isCandidate r l (s .«run_length») (r .«shingle_size») threshold ≡ true
+      → InPlace.counted s r l (correctedScore r l) grows newest expected ≡ rowsAfter s r l threshold point row grows
+  unfolding rowsAfter rowsCounted candidateWith
+  after-counted s h = rw h (counted-enters s r l (correctedScore r l) newest expected grows)
 
-    pub run-quiet : (x : Float) → v ≡ Quiet x → zs ≡ stateOver xs (ended (decodeState xs) t run) → zs ≡ ran
-    unfolding stored changesState runRows
-    run-quiet x e p = p ∙ rw e
+  after-entered : (s : PredictorCorrector) → isCandidate r l (s .«run_length») (r .«shingle_size») threshold ≡ false
+      → InPlace.entered s r l (correctedScore r l) grows ≡ rowsAfter s r l threshold point row grows
+  unfolding rowsAfter rowsCounted candidateWith
+  after-entered s h = rw h (entered-enters s r l (correctedScore r l) grows)
 
-    module _ (x : Float) (m : CorrectionMode) (e : v ≡ Corrected x m) (d : Bool) (q : d ≡ isDriftMode m) where
-      pub run-drift : d ≡ true → zs ≡ rowsOver xs t run run r l x point row → zs ≡ ran
-      unfolding stored changesState runRows rowsOver rowsCounted candidateWith
-      run-drift h p = p ∙ rw (e, sym q ∙ h)
+  rows-fit : Counting r (length point) → length row ≡ 16 → rowsFit r (length newest) (length expected) ≡ true
+  unfolding rowsFit
+  rows-fit f long =
+      let n = length-drop (length point - r .«base_dimension») point in
+      let m = length-take-le (r .«base_dimension») row (omega (arith, f .base-most)) in
+      rw (le-leb (r .«base_dimension») (length newest) (omega (arith, f .inside)), le-leb (r .«base_dimension») (length expected) (omega arith))
 
-      pub run-adjusted : d ≡ false → zs ≡ stateOver xs (adjusted (decodeState xs) t run point) → zs ≡ ran
-      unfolding stored changesState runRows
-      run-adjusted h p = p ∙ rw (e, sym q ∙ h)
+  module _ (run : ℕ) (ran : run ≡ storedRun xs) (c : Bool) (e : c ≡ isCandidate r l run (r .«shingle_size») threshold) where
+    -- The run of bytes that take the reading is their own.
+    candidate-is : readingAnswer xs r true ≡ Answers.Done → isCandidate r l (decodeState xs .«run_length») (r .«shingle_size») threshold ≡ c
+    unfolding storedRun
+    candidate-is d =
+        let long = fitting xs r true d .taking .long in
+        let q : run ≡ decodeState xs .«run_length» = ran ∙ rw (eq-eqb (length xs) stateLength long) in
+        ap (λ (n : ℕ). isCandidate r l n (r .«shingle_size») threshold) (sym q) ∙ sym e
 
-    pub run-raised : (x g : Float) (after : ℕ) → v ≡ Raised x g → after ≡ longerRun run → zs ≡ rowsOver xs t run after r l x point row → zs ≡ ran
-    unfolding stored changesState runRows rowsOver rowsCounted
-    run-raised x g after e n p =
-        p ∙ rw (e, n) (ap (stateOver xs) (grown (decodeState xs) t run (drop (length point - r .«base_dimension») point) (take (r .«base_dimension») row) (isCandidate r l run (r .«shingle_size») x)))
+    module _ (a : Answer) (zs : List ℕ) (x : Float) (used : x ≡ correctedScore r l) where
+      abbrev Rows : Type 0
+      Rows = (a ≡ readingAnswer xs r true) × (zs ≡ storedBy (readingAnswer xs r true) xs (rowsAfter (decodeState xs) r l threshold point row grows))
 
-    module _ (t₀ : BasicThresholder) (c : Bool) (q : c ≡ changesState v) where
-      pub state-put : (x : Float) → c ≡ true → x ≡ scoreUsed r l v → t ≡ updateScore t₀ r l x → zs ≡ ran → zs ≡ writtenOf stateLength xs (stored v xs (afterRows (kept (decodeState xs) t₀ run) r l point row v))
-      state-put x h n e p =
-          p ∙ ap (λ (s : PredictorCorrector). writtenOf stateLength xs (stored v xs s)) (after-enters (decodeState xs) t₀ t run r l point row v (sym q ∙ h) (e ∙ ap (updateScore t₀ r l) n))
+      pub rows-counted : Counting r (length point) → length row ≡ 16 → c ≡ true → (n m : List Float) → n ≡ newest → m ≡ expected → a ≡ readingAnswer xs r (rowsFit r (length n) (length m))
+          → zs ≡ storedBy (readingAnswer xs r (rowsFit r (length n) (length m))) xs (InPlace.counted (decodeState xs) r l x grows n m) → Rows
+      rows-counted f long h n m p q o b =
+          let t = (λ i. rowsFit r (length (p i)) (length (q i))) ∙ rows-fit f long in (
+            o ∙ ap (readingAnswer xs r) t,
+            b ∙ (λ i. storedBy (readingAnswer xs r (t i)) xs (InPlace.counted (decodeState xs) r l (used i) grows (p i) (q i)))
+                ∙ stored-same (readingAnswer xs r true) xs _ _ (λ (d : readingAnswer xs r true ≡ Answers.Done). after-counted (decodeState xs) (candidate-is d ∙ h)),
+          )
 
-module _ (v : Verdict) (xs : List ℕ) (s : PredictorCorrector) where
-  pub run-skipped : v ≡ Skipped → xs ≡ writtenOf stateLength xs (stored v xs s)
-  unfolding stored changesState
-  run-skipped e = rw e (again stateLength xs)
+      pub rows-entered : c ≡ false → a ≡ readingAnswer xs r true → zs ≡ storedBy (readingAnswer xs r true) xs (InPlace.entered (decodeState xs) r l x grows) → Rows
+      rows-entered h o b = (
+        o,
+        b ∙ (λ i. storedBy (readingAnswer xs r true) xs (InPlace.entered (decodeState xs) r l (used i) grows))
+            ∙ stored-same (readingAnswer xs r true) xs _ _ (λ (d : readingAnswer xs r true ≡ Answers.Done). after-entered (decodeState xs) (candidate-is d ∙ h)),
+      )
 
-  pub state-kept : (c : Bool) → c ≡ changesState v → c ≡ false → xs ≡ writtenOf stateLength xs (stored v xs s)
-  unfolding stored
-  state-kept c q h = rw (sym q ∙ h) (again stateLength xs)
+put-same : (a : Answer) (v : Verdict) (xs : List ℕ) (s t : PredictorCorrector) → changesState v ≡ true → s ≡ t → storedBy a xs s ≡ putOver a v xs t
+unfolding storedBy putOver stored
+put-same Answers.Done v xs s t c e = rw c (ap (encodeStateOver xs) e)
+put-same (Answers.Refused why) v xs s t c e = refl
+
+skip-over : (a : Answer) (xs : List ℕ) (s : PredictorCorrector) → xs ≡ putOver a Skipped xs s
+unfolding putOver stored changesState
+skip-over Answers.Done xs s = refl
+skip-over (Answers.Refused why) xs s = refl
+
+module _ (xs zs : List ℕ) (r : Reading) (l : LastDescriptor) (point row : List Float) (v : Verdict) (a : Answer) where
+  abbrev s : PredictorCorrector
+  s = decodeState xs
+
+  abbrev PutState : Type 0
+  PutState = (a ≡ readingAnswer xs r true) × (zs ≡ putOver (readingAnswer xs r true) v xs (afterRows s r l point row v))
+
+  pub state-quiet : (t : Float) → v ≡ Quiet t → a ≡ readingAnswer xs r true → zs ≡ storedBy (readingAnswer xs r true) xs (InPlace.ended s r l (r .score)) → PutState
+  unfolding changesState afterRows
+  state-quiet t e p o = (p, o ∙ put-same (readingAnswer xs r true) v xs _ _ (rw e) (rw e (quiet-enters s r l (r .score))))
+
+  module _ (t : Float) (m : CorrectionMode) (e : v ≡ Corrected t m) (d : Bool) (q : d ≡ isDriftMode m) where
+    pub state-drift : d ≡ true → a ≡ readingAnswer xs r true → zs ≡ storedBy (readingAnswer xs r true) xs (rowsAfter s r l t point row false) → PutState
+    unfolding changesState afterRows rowsAfter
+    state-drift h p o = (p, o ∙ put-same (readingAnswer xs r true) v xs _ _ (rw e) (rw (e, sym q ∙ h)))
+
+    pub state-adjusted : Counting r (length point) → (x : Float) → x ≡ correctedScore r l → d ≡ false → a ≡ readingAnswer xs r (leb (r .«base_dimension») (length point))
+        → zs ≡ storedBy (readingAnswer xs r (leb (r .«base_dimension») (length point))) xs (InPlace.adjusted s r l x point) → PutState
+    unfolding changesState afterRows
+    state-adjusted f x used h p o =
+        let w = le-leb (r .«base_dimension») (length point) (f .inside) in (
+          p ∙ ap (readingAnswer xs r) w,
+          o ∙ (λ i. storedBy (readingAnswer xs r (w i)) xs (InPlace.adjusted s r l (used i) point))
+              ∙ put-same (readingAnswer xs r true) v xs _ _ (rw e) (rw (e, sym q ∙ h) (adjusted-enters s r l (correctedScore r l) point)),
+        )
+
+  pub state-raised : (t g : Float) → v ≡ Raised t g → a ≡ readingAnswer xs r true → zs ≡ storedBy (readingAnswer xs r true) xs (rowsAfter s r l t point row true) → PutState
+  unfolding changesState afterRows rowsAfter
+  state-raised t g e p o = (p, o ∙ put-same (readingAnswer xs r true) v xs _ _ (rw e) (rw e))
+
+  pub state-skipped : v ≡ Skipped → a ≡ readingAnswer xs r true → zs ≡ xs → PutState
+  state-skipped e p o = (p, o ∙ rw e (skip-over (readingAnswer xs r true) xs _))
 
 -- ---- the whole call.
-pub counting : (r : Reading) (point state verdict : ℕ) → (leb (r .«shingle_size») 64 && leb (r .«base_dimension») 16) ≡ true
-    → (eqb state stateLength && (eqb verdict verdictLength && leb (r .«base_dimension») point)) ≡ true → Counting r point
-counting r point state verdict h k =
-    let sizes = both (leb (r .«shingle_size») 64) (leb (r .«base_dimension») 16) h in
-    let rest = both (eqb state stateLength) (eqb verdict verdictLength && leb (r .«base_dimension») point) k .1 in
-    record {
-      shingle-most = leb-true (r .«shingle_size») 64 (sizes .0);
-      base-most = leb-true (r .«base_dimension») 16 (sizes .1);
-      inside = leb-true (r .«base_dimension») point (both (eqb verdict verdictLength) (leb (r .«base_dimension») point) rest .1);
-    }
+answer-number : (v : Verdict) (a : Answer) → answered a ≡ outcomeNumber (outcomeOf v a)
+unfolding answered outcomeNumber outcomeOf
+answer-number v Answers.Done = refl
+answer-number v (Answers.Refused why) = refl
 
-pub most-is : (r : Reading) (most : ℕ) (b : Bool) → most ≡ 16 → (leb (r .«shingle_size») 64 && leb (r .«base_dimension») most) ≡ b → (leb (r .«shingle_size») 64 && leb (r .«base_dimension») 16) ≡ b
-most-is r most b e h = ap (λ (m : ℕ). leb (r .«shingle_size») 64 && leb (r .«base_dimension») m) (sym e) ∙ h
+module _ (xs : List ℕ) (r : Reading) where
+  short-state : (v : Verdict) (s : PredictorCorrector) → xs ≡ stateLeft (outcomeOf v (readingAnswer xs r false)) xs s
+  unfolding readingAnswer outcomeOf stateLeft
+  short-state v s = go (eqb (length xs) stateLength) (rangeOk (r .«shingle_size») (r .«base_dimension») (decodeState xs .«base_dimension»)) (sizesOk (r .«shingle_size») (r .«base_dimension»))
+    where
+      go : (a c d : Bool) → xs ≡ stateLeft (outcomeOf v (cond a (cond c (cond false (cond (stateCountsOk (decodeState xs)) Answers.Done (Answers.Refused Why.Count)) (Answers.Refused Why.Length)) (Answers.Refused Why.Range)) (cond d (Answers.Refused Why.Length) (Answers.Refused Why.Range)))) xs s
+      go true true d = refl
+      go true false d = refl
+      go false c true = refl
+      go false c false = refl
+
+  short-verdict : (v : Verdict) (ys : List ℕ) (i : ℤ) → ys ≡ verdictLeft (outcomeOf v (readingAnswer xs r false)) ys i
+  unfolding readingAnswer outcomeOf verdictLeft
+  short-verdict v ys i = go (eqb (length xs) stateLength) (rangeOk (r .«shingle_size») (r .«base_dimension») (decodeState xs .«base_dimension»)) (sizesOk (r .«shingle_size») (r .«base_dimension»))
+    where
+      go : (a c d : Bool) → ys ≡ verdictLeft (outcomeOf v (cond a (cond c (cond false (cond (stateCountsOk (decodeState xs)) Answers.Done (Answers.Refused Why.Count)) (Answers.Refused Why.Length)) (Answers.Refused Why.Range)) (cond d (Answers.Refused Why.Length) (Answers.Refused Why.Range)))) ys i
+      go true true d = refl
+      go true false d = refl
+      go false c true = refl
+      go false c false = refl
+
+  -- Sizes out of their range are refused whatever else fits.
+  no-size : (leb (r .«shingle_size») 64 && leb (r .«base_dimension») 16) ≡ false → sizesOk (r .«shingle_size») (r .«base_dimension») ≡ false
+  unfolding sizesOk
+  no-size h = go (leb 1 (r .«shingle_size»)) (leb (r .«shingle_size») 64) (leb 1 (r .«base_dimension»)) (leb (r .«base_dimension») 16) h
+    where
+      go : (a c d e : Bool) → (c && e) ≡ false → (a && (c && (d && e))) ≡ false
+      go false c d e q = refl
+      go true false d e q = refl
+      go true true false e q = refl
+      go true true true e q = q
+
+  no-fit : (fit : Bool) → (leb (r .«shingle_size») 64 && (leb (r .«base_dimension») 16 && fit)) ≡ false → readingAnswer xs r fit ≡ readingAnswer xs r false
+  unfolding readingAnswer rangeOk
+  no-fit false h = refl
+  no-fit true h =
+      let q = no-size (go (leb (r .«shingle_size») 64) (leb (r .«base_dimension») 16) h) in
+      rw q
+    where
+      go : (c e : Bool) → (c && (e && true)) ≡ false → (c && e) ≡ false
+      go true true q = q
+      go true false q = refl
+      go false e q = refl
 
 whole : (n : ℕ) (xs ys : List ℕ) → eqb (length xs) n ≡ true → writtenOf n xs ys ≡ ys
 unfolding writtenOf
 whole n xs ys h = rw h
 
-module _ (t : BasicThresholder) (run : ℕ) (r : Reading) (l : LastDescriptor) (v : Verdict) (index : ℤ) (point row : List Float) (state verdict : List ℕ) where
-  pub put-range : (leb (r .«shingle_size») 64 && leb (r .«base_dimension») 16) ≡ false → Put t run r l v index point row 2 state verdict state verdict
-  unfolding putOutcome stateLeft verdictLeft
-  put-range h = record { answer = rw h; bytes = rw h; says = rw h }
+module _ (r : Reading) (l : LastDescriptor) (v : Verdict) (index : ℤ) (point row : List Float) (state verdict : List ℕ) where
+  abbrev fits : Bool
+  fits = eqb (length verdict) verdictLength && leb (r .«base_dimension») (length point)
 
-  module _ (h : (leb (r .«shingle_size») 64 && leb (r .«base_dimension») 16) ≡ true) where
-    pub put-length : (eqb (length state) stateLength && (eqb (length verdict) verdictLength && leb (r .«base_dimension») (length point))) ≡ false → Put t run r l v index point row 3 state verdict state verdict
-    unfolding putOutcome stateLeft verdictLeft
-    put-length k = record { answer = rw (h, k); bytes = rw (h, k); says = rw (h, k) }
+  pub most-is : (most : ℕ) (b : Bool) → most ≡ 16 → (leb (r .«shingle_size») 64 && (leb (r .«base_dimension») most && fits)) ≡ b → (leb (r .«shingle_size») 64 && (leb (r .«base_dimension») 16 && fits)) ≡ b
+  most-is most b e h = ap (λ (m : ℕ). leb (r .«shingle_size») 64 && (leb (r .«base_dimension») m && fits)) (sym e) ∙ h
 
-    pub put-done : (state′ verdict′ : List ℕ) (i : ℤ) → (eqb (length state) stateLength && (eqb (length verdict) verdictLength && leb (r .«base_dimension») (length point))) ≡ true → i ≡ index
-        → state′ ≡ writtenOf stateLength state (stored v state (afterRows (kept (decodeState state) t run) r l point row v)) → verdict′ ≡ writtenOf verdictLength verdict (told v i)
-        → Put t run r l v index point row 0 state verdict state′ verdict′
-    unfolding putOutcome stateLeft verdictLeft
-    put-done state′ verdict′ i k f p q =
-        let first = both (eqb (length state) stateLength) (eqb (length verdict) verdictLength && leb (r .«base_dimension») (length point)) k in
-        let second = both (eqb (length verdict) verdictLength) (leb (r .«base_dimension») (length point)) (first .1) in
+  pub put-short : (leb (r .«shingle_size») 64 && (leb (r .«base_dimension») 16 && fits)) ≡ false → (n : ℕ) (a : Answer) → a ≡ readingAnswer state r false → n ≡ answered a → Put r l v index point row n state verdict state verdict
+  unfolding putOutcome
+  put-short h n a e p =
+      let q = no-fit state r fits h in
+      record {
+        answer = p ∙ ap answered e ∙ answer-number v (readingAnswer state r false) ∙ ap (λ (x : Answer). outcomeNumber (outcomeOf v x)) (sym q);
+        bytes = short-state state r v _ ∙ ap (λ (x : Answer). stateLeft (outcomeOf v x) state _) (sym q);
+        says = short-verdict state r v verdict index ∙ ap (λ (x : Answer). verdictLeft (outcomeOf v x) verdict index) (sym q);
+      }
+
+  module _ (h : (leb (r .«shingle_size») 64 && (leb (r .«base_dimension») 16 && fits)) ≡ true) where
+    tests : (leb (r .«shingle_size») 64 ≡ true) × (leb (r .«base_dimension») 16 ≡ true) × (fits ≡ true)
+    tests =
+        let p = both (leb (r .«shingle_size») 64) (leb (r .«base_dimension») 16 && fits) h in
+        let q = both (leb (r .«base_dimension») 16) fits (p .1) in
+        (p .0, q .0, q .1)
+
+    pub counting : Counting r (length point)
+    counting =
+        let t = tests in
         record {
-          answer = rw (h, k);
-          bytes = p ∙ whole stateLength state (stored v state (afterRows (kept (decodeState state) t run) r l point row v)) (first .0) ∙ rw (h, k);
-          says = q ∙ whole verdictLength verdict (told v i) (second .0) ∙ rw (h, k, f);
+          shingle-most = leb-true (r .«shingle_size») 64 (t .0);
+          base-most = leb-true (r .«base_dimension») 16 (t .1);
+          inside = leb-true (r .«base_dimension») (length point) (both (eqb (length verdict) verdictLength) (leb (r .«base_dimension») (length point)) (t .2) .1);
         }
+
+    module _ (a : Answer) (state′ : List ℕ) (p : (a ≡ readingAnswer state r true) × (state′ ≡ putOver (readingAnswer state r true) v state (afterRows (decodeState state) r l point row v))) where
+      outcome-is : outcomeOf v a ≡ putOutcome state r v (length point) (length verdict)
+      unfolding putOutcome
+      outcome-is = ap (outcomeOf v) (p .0 ∙ ap (readingAnswer state r) (sym (tests .2)))
+
+      pub put-done : a ≡ Answers.Done → (verdict′ : List ℕ) (i : ℤ) → i ≡ index → verdict′ ≡ writtenOf verdictLength verdict (told v i) → Put r l v index point row 0 state verdict state′ verdict′
+      unfolding putOver stateLeft verdictLeft outcomeNumber outcomeOf
+      put-done d verdict′ i f q =
+          let o = ap (outcomeOf v) (sym d) ∙ outcome-is in
+          let e = sym (p .0) ∙ d in
+          record {
+            answer = ap outcomeNumber o;
+            bytes = p .1 ∙ ap (λ (x : Answer). putOver x v state (afterRows (decodeState state) r l point row v)) e ∙ (λ k. stateLeft (o k) state (afterRows (decodeState state) r l point row v));
+            says = q ∙ whole verdictLength verdict (told v i) (both (eqb (length verdict) verdictLength) (leb (r .«base_dimension») (length point)) (tests .2) .0) ∙ (λ k. verdictLeft (o k) verdict (f k));
+          }
+
+      pub put-refused : (why : Refusal) (n : ℕ) → a ≡ Answers.Refused why → n ≡ number why → Put r l v index point row n state verdict state′ verdict
+      unfolding putOver stateLeft verdictLeft outcomeNumber outcomeOf
+      put-refused why n d q =
+          let o = ap (outcomeOf v) (sym d) ∙ outcome-is in
+          let e = sym (p .0) ∙ d in
+          record {
+            answer = q ∙ ap outcomeNumber o;
+            bytes = p .1 ∙ ap (λ (x : Answer). putOver x v state (afterRows (decodeState state) r l point row v)) e ∙ (λ k. stateLeft (o k) state (afterRows (decodeState state) r l point row v));
+            says = ap (λ (x : Outcome). verdictLeft x verdict index) o;
+          }

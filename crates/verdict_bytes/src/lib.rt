@@ -4,12 +4,14 @@ use descriptor::Reading;
 use detection::Verdict;
 use types::Answer;
 ghost use mathlib.Core.Path.{_≡_};
+ghost use mathlib.Core.Bool.{true};
 ghost use lib.ListN.{length};
 ghost use Rattle.detection.specs.Steps.{Counting};
-ghost use Rattle.layout.specs.Places.{stateLength, verdictLength};
+ghost use Rattle.detection.specs.Decided.{afterRows};
+ghost use Rattle.layout.specs.Places.{verdictLength};
 ghost use Rattle.layout.specs.Numbers.{writtenOf};
 ghost use Rattle.layout.specs.Chain.{decodeState};
-ghost use Rattle.layout.specs.InPlace.{kept};
+ghost use Rattle.layout.specs.InPlace.{readingAnswer, storedBy};
 ghost use Rattle.verdict_bytes.specs.Bytes as Bytes;
 ghost use Rattle.verdict_bytes.specs.Put as Put;
 ghost use Rattle.verdict_bytes.specs.Steps as Steps;
@@ -42,7 +44,8 @@ fn put_rows(
     newest_expected: [f32; 16],
 ) -> Answer
     requires { ⌜ Counting r (length (now point)) ⌝ ∗ ⌜ length «newest_expected» ≡ 16 ⌝ }
-    ensures { λ a. ⌜ Steps.Put r (Steps.rowsAfter (decodeState (now (state .entry))) r l threshold (now (point .entry)) «newest_expected» grows) a (now (state .entry)) (now (state .exit)) ⌝ }
+    ensures { λ a. ⌜ a ≡ readingAnswer (now (state .entry)) r true ⌝ ∗ ⌜ now (state .exit) ≡ storedBy (readingAnswer (now (state .entry)) r true)
+        (now (state .entry)) (Steps.rowsAfter (decodeState (now (state .entry))) r l threshold (now (point .entry)) «newest_expected» grows) ⌝ }
 {
     let corrected = scoring::corrected_score(r, l);
     let run = layout::run_length(state);
@@ -72,7 +75,8 @@ fn put_state(
     newest_expected: [f32; 16],
 ) -> Answer
     requires { ⌜ Counting r (length (now point)) ⌝ ∗ ⌜ length «newest_expected» ≡ 16 ⌝ }
-    ensures { λ a. ⌜ Steps.PutState r l verdict (now (point .entry)) «newest_expected» a (now (state .entry)) (now (state .exit)) ⌝ }
+    ensures { λ a. ⌜ a ≡ readingAnswer (now (state .entry)) r true ⌝ ∗ ⌜ now (state .exit) ≡ Steps.putOver (readingAnswer (now (state .entry)) r true) verdict
+        (now (state .entry)) (afterRows (decodeState (now (state .entry))) r l (now (point .entry)) «newest_expected» verdict) ⌝ }
 {
     match verdict {
         Verdict::Quiet(_) => layout::write_ended(state, r, l, r.score),
