@@ -214,7 +214,7 @@ module _ (xs zs : List ℕ) (r : Reading) (l : LastDescriptor) (point row : List
 
 -- ---- the whole call.
 answer-number : (v : Verdict) (a : Answer) → answered a ≡ outcomeNumber (outcomeOf v a)
-unfolding answered outcomeNumber outcomeOf
+unfolding outcomeOf
 answer-number v Answers.Done = refl
 answer-number v (Answers.Refused why) = refl
 
@@ -279,7 +279,7 @@ module _ (r : Reading) (l : LastDescriptor) (v : Verdict) (index : ℤ) (point r
       let q = no-fit state r fits h in
       record {
         answer = p ∙ ap answered e ∙ answer-number v (readingAnswer state r false) ∙ ap (λ (x : Answer). outcomeNumber (outcomeOf v x)) (sym q);
-        bytes = short-state state r v _ ∙ ap (λ (x : Answer). stateLeft (outcomeOf v x) state _) (sym q);
+        bytes = short-state state r v (afterRows (decodeState state) r l point row v) ∙ ap (λ (x : Answer). stateLeft (outcomeOf v x) state (afterRows (decodeState state) r l point row v)) (sym q);
         says = short-verdict state r v verdict index ∙ ap (λ (x : Answer). verdictLeft (outcomeOf v x) verdict index) (sym q);
       }
 
@@ -305,7 +305,7 @@ module _ (r : Reading) (l : LastDescriptor) (v : Verdict) (index : ℤ) (point r
       outcome-is = ap (outcomeOf v) (p .0 ∙ ap (readingAnswer state r) (sym (tests .2)))
 
       pub put-done : a ≡ Answers.Done → (verdict′ : List ℕ) (i : ℤ) → i ≡ index → verdict′ ≡ writtenOf verdictLength verdict (told v i) → Put r l v index point row 0 state verdict state′ verdict′
-      unfolding putOver stateLeft verdictLeft outcomeNumber outcomeOf
+      unfolding putOver stateLeft verdictLeft outcomeOf
       put-done d verdict′ i f q =
           let o = ap (outcomeOf v) (sym d) ∙ outcome-is in
           let e = sym (p .0) ∙ d in
@@ -316,7 +316,7 @@ module _ (r : Reading) (l : LastDescriptor) (v : Verdict) (index : ℤ) (point r
           }
 
       pub put-refused : (why : Refusal) (n : ℕ) → a ≡ Answers.Refused why → n ≡ number why → Put r l v index point row n state verdict state′ verdict
-      unfolding putOver stateLeft verdictLeft outcomeNumber outcomeOf
+      unfolding putOver stateLeft verdictLeft outcomeOf
       put-refused why n d q =
           let o = ap (outcomeOf v) (sym d) ∙ outcome-is in
           let e = sym (p .0) ∙ d in
