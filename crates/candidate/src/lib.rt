@@ -163,7 +163,7 @@ pub fn is_data_drift(
     )
 }
 
-// The state with the newest rows counted, of a candidate.
+// The state with the newest rows counted, of a candidate; left alone where one of the rows cannot be.
 pub fn count_rows(
     s: PredictorCorrector,
     r: Reading,

@@ -104,7 +104,8 @@ pub fn update_score(
     predictorcorrector::update_score(t, strategy, r.score, corrected, last_strategy, l.score)
 }
 
-// The state after a quiet reading: the run ends, and the score enters.
+// The state after a quiet reading: the run ends, and the score enters. Here and below, run and lists that cannot be changed whole stay as they came, and so does a
+// thresholder that refusal 6 is of.
 pub fn after_quiet(s: PredictorCorrector, r: Reading, l: LastDescriptor) -> PredictorCorrector
     ensures { λ u. ⌜ u ≡ Scores.entered (runEnded s) r l (r .score) ⌝ }
 {
