@@ -1,2 +1,3 @@
 pub mod Laws
-pub mod Cutoff
+pub mod Order
+pub mod Sorting

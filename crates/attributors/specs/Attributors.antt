@@ -36,7 +36,8 @@ reaching high low limit position n =
     forUpTo (λ found i. cond (reaches high low limit (position + i)) (found ++ ((position + i) ∷ [])) found) [] n
 
 -- likely_missing_indices: of a row of one its index; else those whose sum reaches the limit, none if they are more than five.
--- The Rust sorts the sums, takes the smallest that reaches the limit as its cutoff, and picks what reaches the cutoff: the same (proofs/Cutoff.antt).
+-- The Rust sorts the sums, takes the last that reaches the limit as its cutoff, and picks what reaches the cutoff. Sorted.antt says so in its words, over any
+-- decreasing order of the sums, and that these are the same indices; `picked_by_sorting` (src/lib.rt) asks for the proof.
 unfoldable pub likelyMissingIndices : List Float → List Float → ℕ → ℕ → List ℕ
 likelyMissingIndices high low position base =
     let found = reaching high low (attributionLimit high low position base) position base in

@@ -1,2 +1,3 @@
 pub mod Const
 pub mod Attributors
+pub mod Sorted

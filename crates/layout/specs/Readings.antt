@@ -7,7 +7,6 @@ use lib.IntN.{ℤ}
 use lib.ListN.{length, getD}
 use lib.Ieee.{Float}
 use Rattle.types.specs.Codes.{methodOf}
-use Rattle.types.specs.declared.Refusal.the-variants as Why
 use Rattle.types.specs.declared.ScoringStrategy.{ScoringStrategy}
 use Rattle.types.specs.declared.ScoringStrategy.the-variants.{«EXPECTED_INVERSE_HEIGHT», DISTANCE}
 use Rattle.types.specs.declared.TransformMethod.{TransformMethod}
@@ -18,10 +17,6 @@ use Rattle.descriptor.specs.declared.Reading.{Reading}
 use Rattle.descriptor.specs.declared.LastAnomaly.{LastAnomaly}
 use Rattle.descriptor.specs.declared.LastDescriptor.{LastDescriptor}
 use Rattle.layout.specs.Places.{readingLength, strategyAt, methodAt, timeAugmentedAt, lastLength, lastStrategyAt, hasAnomalyAt, hasAttributionAt}
-use Rattle.layout.specs.declared.ReadingRead.{ReadingRead}
-use Rattle.layout.specs.declared.ReadingRead.the-variants as Reads
-use Rattle.layout.specs.declared.LastRead.{LastRead}
-use Rattle.layout.specs.declared.LastRead.the-variants as Lasts
 use Rattle.layout.specs.Numbers.{le4, f32At, i32At, flagAt, f32Bytes, i32Bytes}
 use Rattle.layout.specs.States.{joined}
 
@@ -72,13 +67,6 @@ lastCodesOk xs =
     cond (eqb (length xs) lastLength)
     (leb (getD xs lastStrategyAt 0) 1 && (leb (getD xs hasAnomalyAt 0) 1 && (eqb (getD xs hasAnomalyAt 0) 0 || leb (getD xs hasAttributionAt 0) 1)))
     true
-
--- What is read of a slice: 3 for another length, then 2 for a code outside its list.
-unfoldable pub readReading : List ℕ → ReadingRead
-readReading xs = cond (eqb (length xs) readingLength) (cond (readingCodesOk xs) (Reads.Read (decodeReading xs)) (Reads.Refused Why.Range)) (Reads.Refused Why.Length)
-
-unfoldable pub readLast : List ℕ → LastRead
-readLast xs = cond (eqb (length xs) lastLength) (cond (lastCodesOk xs) (Lasts.Read (decodeLast xs)) (Lasts.Refused Why.Range)) (Lasts.Refused Why.Length)
 
 -- A verdict's kind (0 quiet, 1 corrected, 2 raised, 3 skipped), its correction mode's code, threshold, grade and relative index.
 unfoldable pub verdictBytes : ℕ → ℕ → Float → Float → ℤ → List ℕ

@@ -123,16 +123,6 @@ pub enum CallRead {
     Refused(Refusal),
 }
 
-pub enum ReadingRead {
-    Read(Reading),
-    Refused(Refusal),
-}
-
-pub enum LastRead {
-    Read(LastDescriptor),
-    Refused(Refusal),
-}
-
 fn wide(b: u8) -> u32
     ensures { λ r. ⌜ (r ≡ b) × (r < 0x100) ⌝ }
 {
@@ -1050,19 +1040,6 @@ pub fn reading_codes_ok(bytes: &[u8]) -> bool
     true
 }
 
-// 3 for a slice of another length, then 2 for a code outside its list.
-pub fn read_reading(bytes: &[u8]) -> ReadingRead
-    ensures { λ r. ⌜ r ≡ Readings.readReading (now (bytes .entry)) ⌝ }
-{
-    if bytes.len() == READING_LENGTH {
-        if reading_codes_ok(bytes) {
-            return ReadingRead::Read(reading_of(bytes));
-        }
-        return ReadingRead::Refused(Refusal::Range);
-    }
-    ReadingRead::Refused(Refusal::Length)
-}
-
 fn anomaly_of(bytes: &[u8]) -> LastAnomaly
     requires { ⌜ length (now bytes) ≡ lastLength ⌝ }
     ensures { λ r. ⌜ r ≡ Readings.decodeAnomaly (now (bytes .entry)) ⌝ }
@@ -1100,19 +1077,6 @@ pub fn last_codes_ok(bytes: &[u8]) -> bool
                 & ((bytes[HAS_ANOMALY_AT] == 0) | (bytes[HAS_ATTRIBUTION_AT] <= 1)));
     }
     true
-}
-
-// 3 for a slice of another length, then 2 for a code outside its list.
-pub fn read_last(bytes: &[u8]) -> LastRead
-    ensures { λ r. ⌜ r ≡ Readings.readLast (now (bytes .entry)) ⌝ }
-{
-    if bytes.len() == LAST_LENGTH {
-        if last_codes_ok(bytes) {
-            return LastRead::Read(last_of(bytes));
-        }
-        return LastRead::Refused(Refusal::Range);
-    }
-    LastRead::Refused(Refusal::Length)
 }
 
 // The codes and yes/no bytes of all three.

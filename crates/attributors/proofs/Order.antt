@@ -1,19 +1,20 @@
--- The Rust sorts the sums, takes the smallest that reaches the limit as its cutoff, and picks what reaches the cutoff: the same as what reaches the limit. Assumes nothing.
+-- `<=` on floats is transitive, and of two floats that are not NaN one is `<=` the other. Assumes nothing.
 use mathlib.Core.Path.{_≡_, refl, sym, ap, _∙_}
 use mathlib.Core.Bool.{Bool, true, false, not, _&&_, _||_, Bool·beq}
 use mathlib.Core.Logic.{_⊎_, inl, inr}
 use Prim.Native.Nat.{ℕ, zero, suc, _+_, _*_, _<_, _≤_}
-use native.Mathlib.Nat.{le-mul-of-pos-right, le-of-mul-le-mul-right, mul-le-mul-right, mul-right-comm, zero-mul, le-trans, le-of-eq, le-of-lt, eq-or-lt-of-le}
+use native.Mathlib.Nat.{le-mul-of-pos-right, le-of-mul-le-mul-right, mul-le-mul-right, mul-right-comm, zero-mul, le-refl, le-trans, le-of-eq, le-of-lt, eq-or-lt-of-le}
 use native.Mathlib.Omega.{arith}
-use lib.Dec.{T, ltb, eqb, ltb→lt, lt→ltb, eqb→eq, eqb-refl}
+use borrow.Author.Tests.{leb-true, leb-false}
+use lib.Dec.{T, leb, ltb, eqb, ltb→lt, lt→ltb, eqb→eq, eqb-refl}
 use lib.Ieee.Fits.{and-i, and-l, and-r, down-pos}
 use lib.Ieee.{Float, nan, inf, fin, up, down, below, level, lt, eq, le}
 
-holds : (t : Bool) → t ≡ true → T t
+pub holds : (t : Bool) → t ≡ true → T t
 holds true e = tt
 holds false e = let z : _≡_ {A = ℕ} 0 1 = cc in absurd (omega arith)
 
-held : (t : Bool) → T t → t ≡ true
+pub held : (t : Bool) → T t → t ≡ true
 held true h = refl
 held false h = absurd h
 
@@ -129,7 +130,7 @@ never : (t : Bool) → T (not t || false) → T (t || false) → ⊥
 never true p q = p
 never false p q = q
 
-transitive : (x y z : Float) → T (le x y) → T (le y z) → T (le x z)
+pub transitive : (x y z : Float) → T (le x y) → T (le y z) → T (le x z)
 unfolding le lt eq
 transitive nan y z p q = absurd p
 transitive (inf s) nan z p q = absurd p
@@ -148,12 +149,53 @@ transitive (fin s m e) (fin t n d) (inf u) p q = q
 transitive (fin s m e) (fin t n d) (fin u o f) p q =
     fractions s t u (m * up e) (n * up d) (o * up f) (down e) (down d) (down f) (down-pos e) (down-pos d) (down-pos f) p q
 
--- Where the cutoff reaches the limit, and every x that reaches the limit reaches the cutoff, x reaches the one exactly if it reaches the other.
-pub cutoff : (limit cut x : Float) → le limit cut ≡ true → (le limit x ≡ true → le cut x ≡ true) → le cut x ≡ le limit x
-cutoff limit cut x r h = by-tests (le cut x) (le limit x) refl refl
+same-sign : (t : Bool) → T (infinities t t)
+same-sign true = tt
+same-sign false = tt
+
+itself : (t : Bool) (n : ℕ) → T (within t n t n)
+itself true n = of-downs n n (le-refl n)
+itself false n = of-ups n n (le-refl n)
+
+-- What is `>=` anything is `>=` itself.
+pub reflexive : (x y : Float) → T (le x y) → T (le y y)
+unfolding le lt eq
+reflexive nan y h = absurd h
+reflexive (inf s) nan h = absurd h
+reflexive (fin s m e) nan h = absurd h
+reflexive (inf s) (inf t) h = same-sign t
+reflexive (fin s m e) (inf t) h = same-sign t
+reflexive (inf s) (fin t n d) h = itself t (n * up d * down d)
+reflexive (fin s m e) (fin t n d) h = itself t (n * up d * down d)
+
+-- Of two numbers one is `<=` the other.
+either-way : (a b : ℕ) → (a ≤ b) ⊎ (b ≤ a)
+either-way a b = by-test (leb a b) refl
   where
-    by-tests : (t u : Bool) → le cut x ≡ t → le limit x ≡ u → t ≡ u
-    by-tests true true e f = refl
-    by-tests false false e f = refl
-    by-tests true false e f = sym (sym f ∙ held (le limit x) (transitive limit cut x (holds _ r) (holds _ e)))
-    by-tests false true e f = sym e ∙ h f
+    by-test : (t : Bool) → leb a b ≡ t → (a ≤ b) ⊎ (b ≤ a)
+    by-test true e = inl (leb-true a b e)
+    by-test false e = inr (le-of-lt (leb-false a b e))
+
+signed : (s t : Bool) (a b : ℕ) → T (within s a t b) ⊎ T (within t b s a)
+signed true false a b = inl (below-all a b)
+signed false true a b = inr (below-all b a)
+signed false false a b = elim (either-way a b) [ inl p ↦ inl (of-ups a b p) | inr p ↦ inr (of-ups b a p) ]
+signed true true a b = elim (either-way a b) [ inl p ↦ inr (of-downs b a p) | inr p ↦ inl (of-downs a b p) ]
+
+above-or-below : (t : Bool) → T (t || false) ⊎ T (not t || false)
+above-or-below true = inl tt
+above-or-below false = inr tt
+
+pub total : (x y : Float) → (x ≡ nan → ⊥) → (y ≡ nan → ⊥) → T (le x y) ⊎ T (le y x)
+unfolding le lt eq
+total nan y a b = absurd (a refl)
+total (inf s) nan a b = absurd (b refl)
+total (fin s m e) nan a b = absurd (b refl)
+total (inf true) (inf true) a b = inl tt
+total (inf true) (inf false) a b = inl tt
+total (inf false) (inf true) a b = inr tt
+total (inf false) (inf false) a b = inl tt
+total (inf s) (fin t n d) a b = above-or-below s
+total (fin s m e) (inf true) a b = inr tt
+total (fin s m e) (inf false) a b = inl tt
+total (fin s m e) (fin t n d) a b = signed s t (m * up e * down d) (n * up d * down e)

@@ -1,0 +1,49 @@
+use mathlib.Core.Path.{_≡_, sym, ap, _∙_}
+use Rattle.c_calls.specs.Forest.{askedBy, askedOver}
+use borrow.Author.Needs.{needs}
+use Rattle.c_calls.proofs.asked_over.Statement.{statement}
+use Rattle.c_calls.proofs.asked_over.Tie as tie
+use Rattle.c_calls.proofs.asked_over.Reads as reads
+use Rattle.c_calls.proofs.asked_over.Lts as lts
+use Rattle.c_calls.proofs.refused.Reads as refused-reads
+use Rattle.calls.proofs.asked_of_forest.Reads as asked-of-forest-reads
+use Rattle.layout.proofs.read_call.Reads as read-call-reads
+
+read-call-requires : tie.Need-read-call-requires
+read-call-requires c κs = search needs
+
+enum-known-core : tie.Need-enum-known-core
+enum-known-core c = search needs
+
+cast-asked-of-forest : tie.Need-cast-asked-of-forest
+cast-asked-of-forest c = search needs
+
+asked-of-forest-requires : tie.Need-asked-of-forest-requires
+asked-of-forest-requires c κs = search needs
+
+enum-known-why : tie.Need-enum-known-why
+enum-known-why c = search needs
+
+refused-requires : tie.Need-refused-requires
+refused-requires c κs = search needs
+
+returns : tie.Need-returns
+unfolding askedOver askedBy
+returns c = c .asked-of-forest .ensures ∙ ap askedBy (sym (c .before .before .before .core .given .1) ∙ c .before .before .before .before .before .read-call .ensures)
+
+returns-2 : tie.Need-returns-2
+unfolding askedOver askedBy
+returns-2 c = c .refused .ensures ∙ ap askedBy (sym (c .before .before .why .given .1) ∙ c .before .before .before .before .read-call .ensures)
+
+pub asked-over-spec : {M : Type 1} → statement M
+asked-over-spec =
+    tie.close
+    (tie.spec
+    read-call-requires
+    enum-known-core
+    cast-asked-of-forest
+    asked-of-forest-requires
+    enum-known-why
+    refused-requires
+    returns
+    returns-2)
