@@ -27,6 +27,7 @@
  *      neighbours that are not 0 to 256 whole points; a start position beyond D - base dimension
  *   4  a number of the reading or of the last descriptor is infinite or NaN
  *   5  values seen 0, over 16,777,216 or not later than the last anomaly's; gap 0 in the corrector
+ *      and for the missing indices
  *   6  a count or the run length in the state is outside 0 to 16,777,215
  *   7  horizon not 0 to 1
  *   8  blocks: gap or base 0, or a length that is empty or no multiple of the base

@@ -24,12 +24,12 @@ use Rattle.candidate.specs.Const.{one32, two32, ten32, tenth32, fifth32,
 unfoldable pub sameStrategy : ScoringStrategy → ScoringStrategy → Bool
 sameStrategy a b = cond (isHeight a) (isHeight b) (not (isHeight b))
 
--- How far a run of raised readings lifts the bar for a next candidate.
+-- What a run allows a next candidate: the longer the run, the more.
 unfoldable pub runShare : ℕ → ℕ → Float
 runShare run shingle =
     maxf32 fifth32 (Ieee.div binary32 (Ieee.ofInt binary32 (pos run)) (Ieee.mul binary32 two32 (maxf32 ten32 (Ieee.ofInt binary32 (pos shingle)))))
 
--- The score is larger than the last, or by less smaller than the run allows.
+-- The score is larger than the last, or it is over the larger threshold, with the run's allowance, by less than the last score was over its own.
 unfoldable pub stillHigh : Float → Float → Float → Float → Float → Bool
 stillHigh score threshold lastScore lastThreshold share =
     Ieee.lt lastScore score

@@ -42,7 +42,7 @@ pub enum Outcome {
     Refused(Refusal),
 }
 
-// How a state stands: all that judging looks at. Of the two lists the last entries alone decide.
+// How a state stands: all that judging looks at. Of the two lists the last entries alone decide; `counts_ok` is refusal 6's test, which the state's owner makes.
 pub struct Standing {
     pub basic_thresholder: BasicThresholder,
     pub auto_adjust: bool,
@@ -505,7 +505,7 @@ fn past_noise(
     )
 }
 
-// Decides on a reading: document 01's entry checks, then the exits of the Rust's `detect_and_modify`. The expected point and the normalised
+// Decides on a reading: document 01's entry checks (6 by `counts_ok`, as the caller has it), then the exits of the Rust's `detect_and_modify`. The expected point and the normalised
 // attribution are written to the last three buffers where the reading is raised, and left alone otherwise. What a verdict does to the
 // state is left to the caller, who has it as a struct (`after`) or in bytes.
 pub fn judge(
