@@ -156,13 +156,14 @@ fn block_of(block: Block) -> usize
     }
 }
 
-// The block that contributes most.
+// The block that contributes most; 0 where the search refuses its slices.
 pub fn anomaly_block(r: Reading, l: LastDescriptor, high: &[f64], low: &[f64]) -> usize
     ensures { λ k. ⌜ k ≡ Scores.blockOf (DiVector.maxGapContribution (now (high .entry)) (now (low .entry)) (r .«base_dimension») (Scores.gapOf (r .«values_seen») (l .«has_anomaly») (l .anomaly .«values_seen»))) ⌝ }
 {
     block_of(divector::max_gap_contribution(high, low, r.base_dimension, gap(r, l)))
 }
 
+// With auto adjust: whether enough neighbours have the point within their box.
 pub fn auto_explained(
     auto_adjust: bool,
     uncertainty_box: &[f32],
@@ -186,7 +187,7 @@ pub fn auto_explained(
     false
 }
 
-// The last anomaly is in the shingle, and the reading does not trigger anew.
+// The last anomaly is in the shingle, and the reading does not trigger anew, by slices that may be of any length.
 pub fn in_shingle(
     r: Reading,
     l: LastDescriptor,

@@ -24,7 +24,7 @@ fn outside(edge: f32, scale: f32, p: f32, q: f32) -> bool
     a > b + edge
 }
 
-// Whether the other point's box has the point within it. The first coordinate outside settles it.
+// Whether the other point's box has the point within it. The first coordinate outside settles it. No where a slice is too short for the box.
 pub fn within_unertainty_box(
     uncertainty_box: &[f32],
     start_position: usize,
@@ -75,7 +75,7 @@ fn path_mean(variation: f32, observation: u32) -> f32
     variation / std::num::nearest_u32_to_f32(observation)
 }
 
-// The mean variation of one coordinate from a row on.
+// The mean variation of one coordinate from a row on; 0 of no two rows, of base 0 and of a point over 65,536 long.
 pub fn calculate_path_deviation(
     point: &[f32],
     start_position: usize,
@@ -116,7 +116,7 @@ fn edge(scale: f32, path_gap: f32, shift: f32, deviation: f32) -> f32
     util::maxf32(scale * path_gap, noise_gap) + shift_amount
 }
 
-// The box around a point, an edge for each element of out.
+// The box around a point, an edge for each element of out, which is left alone where scale, shift or deviations are fewer.
 pub fn construct_uncertainty_box(
     point: &[f32],
     start_position: usize,
@@ -172,7 +172,7 @@ fn supported(weight: u32, total: u32) -> bool
     std::num::nearest_u32_to_f32(weight) >= 0.1 * std::num::nearest_u32_to_f32(total)
 }
 
-// Whether enough of the neighbours have the point within their box.
+// Whether enough of the neighbours have the point within their box. No where they are no whole points.
 pub fn explained_by_conditional_field(
     uncertainty_box: &[f32],
     point: &[f32],
