@@ -30,6 +30,7 @@ pub fn out_of_range(h: &Handed) -> bool {
     let mut bad = false;
     if whole_state {
         bad |= state[AUTO_THRESHOLD] > 1 || state[chain::ADJUST] > 1;
+        bad |= !(1..=16).contains(&word(state, chain::BASE));
     }
     if whole_reading {
         bad |= reading[8] > 1 || reading[9] > 5 || reading[10] > 1;
