@@ -1,9 +1,10 @@
--- The loop over a buffer, one element a turn. Assumes nothing.
-use mathlib.Core.Path.{_≡_, refl, sym, ap, ap₂, _∙_}
-use mathlib.Core.Bool.{Bool, true, false, _&&_}
-use mathlib.Core.List.{List, _∷_}
+-- The loop over buffers of one length, an element of each a turn. Assumes nothing.
+use mathlib.Core.Path.{_≡_, refl, sym, ap, _∙_}
+use mathlib.Core.Bool.{Bool, true, false, _&&_, and-true, and-false, and-assoc, and-comm}
+use mathlib.Core.List.{List, [], _∷_}
 use Prim.Native.Nat.{ℕ, _+_, _≤_, _<_}
 use native.Mathlib.Numerals.{add-one}
+use native.Mathlib.Omega.{arith}
 use lib.ListN.{length, getD, drop, drop-of-length-le}
 use lib.Seq.{drop-cons}
 use lib.Ieee.{Float, Format, nan, eq, sub}
@@ -11,55 +12,55 @@ use lib.Ieee.Scale.{finite}
 use Rattle.ieee.proofs.Finite.{finite-is}
 use Rattle.descriptor.specs.Checks.{every}
 
-pub and-moves : (a b c : Bool) → (a && (b && c)) ≡ ((a && b) && c)
-and-moves true b c = refl
-and-moves false b c = refl
+-- Each buffer has n elements.
+abbrev pub Long : ℕ → List (List Float) → Type 0
+Long n [] = Unit {0}
+Long n (xs ∷ rest) = (length xs ≡ n) × Long n rest
 
-and-end : (a : Bool) → (a && true) ≡ a
-and-end true = refl
-and-end false = refl
-
-module _ {A : Type 0} (f : A → Bool) (ok : Bool) (xs : List A) (i : ℕ) where
-  pub every-step : (d : A) → i < length xs → (ok && every f (drop i xs)) ≡ ((ok && f (getD xs i d)) && every f (drop (i + 1) xs))
-  unfolding every
-  every-step d h = ap (λ (l : List A). ok && every f l) (drop-cons xs i d h ∙ ap (λ (n : ℕ). getD xs i d ∷ drop n xs) (sym (add-one i))) ∙ and-moves ok (f (getD xs i d)) (every f (drop (i + 1) xs))
-
-  pub every-end : length xs ≤ i → (ok && every f (drop i xs)) ≡ ok
-  unfolding every
-  every-end h = ap (λ (l : List A). ok && every f l) (drop-of-length-le xs h) ∙ and-end ok
-
--- The same over two buffers of one length, an element of each a turn.
-shuffle : (a b c d e : Bool) → ((a && (b && c)) && (d && e)) ≡ ((((a && b) && d) && c) && e)
-shuffle false b c d e = refl
-shuffle true false c d e = refl
-shuffle true true c true e = refl
-shuffle true true true false e = refl
-shuffle true true false false e = refl
-
-module _ {A : Type 0} (f : A → Bool) (ok : Bool) (xs ys : List A) (i : ℕ) where
-  pair-step : (d : A) → i < length xs → i < length ys
-      → ((ok && every f (drop i xs)) && every f (drop i ys)) ≡ ((((ok && f (getD xs i d)) && f (getD ys i d)) && every f (drop (i + 1) xs)) && every f (drop (i + 1) ys))
-  unfolding every
-  pair-step d h k =
-      ap (λ (l : List A). (ok && every f l) && every f (drop i ys)) (drop-cons xs i d h ∙ ap (λ (n : ℕ). getD xs i d ∷ drop n xs) (sym (add-one i)))
-      ∙ ap (λ (l : List A). (ok && (f (getD xs i d) && every f (drop (i + 1) xs))) && every f l) (drop-cons ys i d k ∙ ap (λ (n : ℕ). getD ys i d ∷ drop n ys) (sym (add-one i)))
-      ∙ shuffle ok (f (getD xs i d)) (every f (drop (i + 1) xs)) (f (getD ys i d)) (every f (drop (i + 1) ys))
-
-  pub pair-end : length xs ≤ i → length ys ≤ i → ((ok && every f (drop i xs)) && every f (drop i ys)) ≡ ok
-  unfolding every
-  pair-end h k =
-      ap (λ (l : List A). (ok && every f l) && every f (drop i ys)) (drop-of-length-le xs h)
-      ∙ ap (λ (l : List A). (ok && true) && every f l) (drop-of-length-le ys k)
-      ∙ and-end (ok && true)
-      ∙ and-end ok
+-- What is left of a loop at element i: `ok`, and each buffer from there on.
+abbrev pub ahead : Bool → List (List Float) → ℕ → Bool
+ahead ok [] i = ok
+ahead ok (xs ∷ rest) i = ahead (ok && every finite (drop i xs)) rest i
 
 -- A number is finite where its difference with itself is a number.
 abbrev itself : Format → Float → Bool
 itself g x = eq (sub g x x) (sub g x x)
 
-pub pair-tested : (g : Format) (ok : Bool) (xs ys : List Float) (i : ℕ) → i < length xs → i < length ys
-    → ((ok && every finite (drop i xs)) && every finite (drop i ys))
-    ≡ ((((ok && itself g (getD xs i nan)) && itself g (getD ys i nan)) && every finite (drop (i + 1) xs)) && every finite (drop (i + 1) ys))
-pair-tested g ok xs ys i h k =
-    pair-step finite ok xs ys i nan h k
-    ∙ ap₂ (λ (a b : Bool). (((ok && a) && b) && every finite (drop (i + 1) xs)) && every finite (drop (i + 1) ys)) (sym (finite-is g (getD xs i nan))) (sym (finite-is g (getD ys i nan)))
+-- `ok` after the turn at element i.
+abbrev pub turned : Format → Bool → List (List Float) → ℕ → Bool
+turned g ok [] i = ok
+turned g ok (xs ∷ rest) i = turned g (ok && itself g (getD xs i nan)) rest i
+
+turned-and : (g : Format) (a b : Bool) (buffers : List (List Float)) (i : ℕ) → turned g (a && b) buffers i ≡ (turned g a buffers i && b)
+turned-and g a b [] i = refl
+turned-and g a b (xs ∷ rest) i =
+    let x = itself g (getD xs i nan) in
+    ap (λ (c : Bool). turned g c rest i) (and-assoc a b x ∙ ap (λ (c : Bool). a && c) (and-comm b x) ∙ sym (and-assoc a x b))
+    ∙ turned-and g (a && x) b rest i
+
+one-step : (g : Format) (ok : Bool) (xs : List Float) (i : ℕ) → i < length xs
+    → (ok && every finite (drop i xs)) ≡ (ok && itself g (getD xs i nan) && every finite (drop (i + 1) xs))
+unfolding every
+one-step g ok xs i h = rw (add-one, drop-cons xs i nan h, finite-is) (sym (and-assoc ok _ _))
+
+pub step : (g : Format) (ok : Bool) (buffers : List (List Float)) (n i : ℕ) → Long n buffers → i < n
+    → ahead ok buffers i ≡ ahead (turned g ok buffers i) buffers (i + 1)
+step g ok [] n i long h = refl
+step g ok (xs ∷ rest) n i long h =
+    let x = itself g (getD xs i nan) in
+    let more = every finite (drop (i + 1) xs) in
+    ap (λ (b : Bool). ahead b rest i) (one-step g ok xs i (omega (arith, h, long .0)))
+    ∙ step g (ok && x && more) rest n i (long .1) h
+    ∙ ap (λ (b : Bool). ahead b rest (i + 1)) (turned-and g (ok && x) more rest i)
+
+pub end : (ok : Bool) (buffers : List (List Float)) (n i : ℕ) → Long n buffers → n ≤ i → ahead ok buffers i ≡ ok
+unfolding every
+end ok [] n i long h = refl
+end ok (xs ∷ rest) n i long h = rw (drop-of-length-le xs {i = i} (omega (arith, h, long .0)), and-true) (end ok rest n i (long .1) h)
+
+-- The code's order of the tests gives the definition's: the median is scanned beside the point.
+pub in-order : (point scale shift deviations high low median idealHigh idealLow neighbours : Bool)
+    → (point && median && (scale && shift && deviations && (high && low && idealHigh && idealLow && neighbours)))
+    ≡ (point && (scale && (shift && (deviations && (high && (low && (median && (idealHigh && (idealLow && neighbours)))))))))
+in-order p sc sh d h l true ih il n = simp (and-true, and-assoc)
+in-order p sc sh d h l false ih il n = simp (and-false, and-assoc)

@@ -95,30 +95,78 @@ fn both_finite_f32(xs: &[f32], ys: &[f32]) -> bool
     all_finite_f32(xs) & all_finite_f32(ys)
 }
 
-fn pair_finite_f64(xs: &[f64], ys: &[f64]) -> bool
+// Three slices of one length in one loop.
+fn triple_finite_f32(xs: &[f32], ys: &[f32], zs: &[f32]) -> bool
     requires { ⌜ length (now ys) ≡ length (now xs) ⌝ }
-    ensures { λ r. ⌜ r ≡ (Checks.allFinite (now (xs .entry)) && Checks.allFinite (now (ys .entry))) ⌝ }
+    requires { ⌜ length (now zs) ≡ length (now xs) ⌝ }
+    ensures { λ r. ⌜ r ≡ (Checks.allFinite (now (xs .entry)) && Checks.allFinite (now (ys .entry)) && Checks.allFinite (now (zs .entry))) ⌝ }
 {
     let mut ok = true;
     let mut i = 0usize;
     while i < xs.len() {
         let x = xs[i];
         let y = ys[i];
+        let z = zs[i];
         let gap = x - x;
         let other = y - y;
-        ok = ok & (gap == gap) & (other == other);
+        let third = z - z;
+        ok = ok & (gap == gap) & (other == other) & (third == third);
         i += 1;
     }
     ok
 }
 
-fn both_finite_f64(xs: &[f64], ys: &[f64]) -> bool
-    ensures { λ r. ⌜ r ≡ (Checks.allFinite (now (xs .entry)) && Checks.allFinite (now (ys .entry))) ⌝ }
+// The three rows; in one loop where they are as long as each other.
+fn rows_finite(scale: &[f32], shift: &[f32], deviations: &[f32]) -> bool
+    ensures { λ r. ⌜ r ≡ (Checks.allFinite (now (scale .entry)) && Checks.allFinite (now (shift .entry)) && Checks.allFinite (now (deviations .entry))) ⌝ }
 {
-    if ys.len() == xs.len() {
-        return pair_finite_f64(xs, ys);
+    if shift.len() == scale.len() {
+        if deviations.len() == scale.len() {
+            return triple_finite_f32(scale, shift, deviations);
+        }
     }
-    all_finite_f64(xs) & all_finite_f64(ys)
+    all_finite_f32(scale) & all_finite_f32(shift) & all_finite_f32(deviations)
+}
+
+// Four slices of one length in one loop.
+fn quad_finite_f64(xs: &[f64], ys: &[f64], zs: &[f64], ws: &[f64]) -> bool
+    requires { ⌜ length (now ys) ≡ length (now xs) ⌝ }
+    requires { ⌜ length (now zs) ≡ length (now xs) ⌝ }
+    requires { ⌜ length (now ws) ≡ length (now xs) ⌝ }
+    ensures { λ r. ⌜ r ≡ (Checks.allFinite (now (xs .entry)) && Checks.allFinite (now (ys .entry)) && Checks.allFinite (now (zs .entry)) && Checks.allFinite (now (ws .entry))) ⌝ }
+{
+    let mut ok = true;
+    let mut i = 0usize;
+    while i < xs.len() {
+        let x = xs[i];
+        let y = ys[i];
+        let z = zs[i];
+        let w = ws[i];
+        let gap = x - x;
+        let other = y - y;
+        let third = z - z;
+        let fourth = w - w;
+        ok = ok & (gap == gap) & (other == other) & (third == third) & (fourth == fourth);
+        i += 1;
+    }
+    ok
+}
+
+// The two attributions, each a high and a low; in one loop where all four are as long as each other.
+fn attributions_finite(high: &[f64], low: &[f64], ideal_high: &[f64], ideal_low: &[f64]) -> bool
+    ensures { λ r. ⌜ r ≡ (Checks.allFinite (now (high .entry)) && Checks.allFinite (now (low .entry)) && Checks.allFinite (now («ideal_high» .entry)) && Checks.allFinite (now («ideal_low» .entry))) ⌝ }
+{
+    if low.len() == high.len() {
+        if ideal_high.len() == high.len() {
+            if ideal_low.len() == high.len() {
+                return quad_finite_f64(high, low, ideal_high, ideal_low);
+            }
+        }
+    }
+    all_finite_f64(high)
+        & all_finite_f64(low)
+        & all_finite_f64(ideal_high)
+        & all_finite_f64(ideal_low)
 }
 
 pub fn sizes_ok(shingle_size: usize, base_dimension: usize) -> bool
@@ -268,7 +316,7 @@ fn lengths_ok(
                 & last_points_ok(l.has_anomaly, d, last_expected.len(), last_anomalous.len())))
 }
 
-// Refusal 4's test.
+// Refusal 4's test. Buffers of one length share a loop.
 fn finite_ok(
     r: Reading,
     l: LastDescriptor,
@@ -292,13 +340,10 @@ fn finite_ok(
 {
     numbers_finite(r, l)
         & (last_finite(l, last_expected, last_anomalous)
-            & (all_finite_f32(point)
-                & (both_finite_f32(scale, shift)
-                    & (all_finite_f32(difference_deviations)
-                        & (both_finite_f64(high, low)
-                            & (all_finite_f32(median)
-                                & (both_finite_f64(ideal_high, ideal_low)
-                                    & all_finite_f32(neighbours))))))))
+            & (both_finite_f32(point, median)
+                & (rows_finite(scale, shift, difference_deviations)
+                    & (attributions_finite(high, low, ideal_high, ideal_low)
+                        & all_finite_f32(neighbours)))))
 }
 
 // The answer to a reading: the smallest refusal of document 01's table that applies. `counts_ok` is refusal 6's test, which the state's owner makes.

@@ -1,19 +1,17 @@
 use mathlib.Core.Path.{_≡_, refl, sym, _∙_}
-use mathlib.Core.Bool.{Bool, _&&_}
-use Prim.Native.Nat.{ℕ, _-_, _+_}
-use native.Mathlib.Omega.{arith}
+use mathlib.Core.Bool.{true}
+use mathlib.Core.List.{[], _∷_}
+use Prim.Native.Nat.{_-_}
 use borrow.Author.Needs.{needs}
 use denote.Ref.{now}
-use lib.ListN.{length, drop}
+use lib.ListN.{length}
 use lib.Ieee.{binary32}
-use lib.Ieee.Scale.{finite}
-use Rattle.descriptor.specs.Checks.{every}
-use Rattle.descriptor.proofs.Finite.{pair-tested, pair-end}
+use Rattle.descriptor.proofs.Finite.{ahead, step, end}
 use Rattle.descriptor.proofs.pair_finite_f32.Statement.{statement}
 use Rattle.descriptor.proofs.pair_finite_f32.Tie as tie
 
 abbrev Inv-loop : tie.InvT-loop
-Inv-loop xs ys ok₀ i₀ ok i = (every finite xs && every finite ys) ≡ ((ok && every finite (drop i xs)) && every finite (drop i ys))
+Inv-loop xs ys ok₀ i₀ ok i = ahead true (xs ∷ ys ∷ []) 0 ≡ ahead ok (xs ∷ ys ∷ []) i
 
 abbrev μ-loop : tie.MeasureT-loop
 μ-loop xs ys ok₀ i₀ ok i = length xs - i
@@ -41,11 +39,16 @@ loop-less c = search needs
 
 loop-again : tie.Need-loop-again Inv-loop μ-loop
 loop-again c =
+    let xs = now (c .before .before .before .before .args .xs) in
+    let ys = now (c .before .before .before .before .args .ys) in
     c .before .before .before .loop .inv
-    ∙ pair-tested binary32 (c .before .before .before .loop .ok) (now (c .before .before .before .before .args .xs)) (now (c .before .before .before .before .args .ys)) (c .before .before .before .loop .i) (c .before .before .loop-test .taken) (omega (arith, c .before .before .before .before .pre, c .before .before .loop-test .taken))
+    ∙ step binary32 (c .before .before .before .loop .ok) (xs ∷ ys ∷ []) (length xs) (c .before .before .before .loop .i) (refl, (c .before .before .before .before .pre, tt)) (c .before .before .loop-test .taken)
 
 returns : tie.Need-returns Inv-loop μ-loop
-returns c = sym (c .before .loop .inv ∙ pair-end finite (c .before .loop .ok) (now (c .before .before .args .xs)) (now (c .before .before .args .ys)) (c .before .loop .i) (c .loop-test .left) (omega (arith, c .before .before .pre, c .loop-test .left)))
+returns c =
+    let xs = now (c .before .before .args .xs) in
+    let ys = now (c .before .before .args .ys) in
+    sym (c .before .loop .inv ∙ end (c .before .loop .ok) (xs ∷ ys ∷ []) (length xs) (c .before .loop .i) (refl, (c .before .before .pre, tt)) (c .loop-test .left))
 
 pub pair-finite-f32-spec : {M : Type 1} → statement M
 pair-finite-f32-spec = tie.close (tie.spec Inv-loop μ-loop loop-holds mul-x shared-slice-read-x mul-y shared-slice-read-y add-i loop-less loop-again returns)
