@@ -1,7 +1,7 @@
 -- basicthresholder.rs: threshold and grade of a score against the state. One definition for each function, in the Rust's shape; the steps of the crate grading
 -- take the numbers they read, and `self`'s fields are handed to them. Operators are those of f32, `*₆₄` is f64's.
 use Prim.Native.Nat.{ℕ}
-use mathlib.Core.Bool.{Bool, true, false, cond, _&&_, _||_, not}
+use mathlib.Core.Bool.{Bool, cond, _&&_, _||_, not}
 use lib.Dec.{eqb}
 use lib.Ieee.{Float}
 use Rattle.ieee.specs.Round.{narrow}

@@ -1,5 +1,5 @@
 -- basicthresholder.rs: construction, updates and setters. One definition for each function, in the Rust's shape. Operators are those of f32, `/₆₄` is f64's.
-use mathlib.Core.Bool.{Bool, true, false, cond, _&&_}
+use mathlib.Core.Bool.{Bool, cond, _&&_}
 use lib.IntN.{ℤ, pos}
 use lib.Ieee.{Float}
 use Rattle.ieee.specs.Round.{narrow}

@@ -33,7 +33,7 @@ use Rattle.detection.specs.declared.Outcome.the-variants.{Accepted, Refused}
 use Rattle.detection.proofs.ByState as ByState
 use Rattle.layout.specs.Places.{stateLength, readingLength, lastLength, verdictLength, actualAt, expectedAt, autoAdjustAt, baseDimensionAt}
 use Rattle.layout.specs.Numbers.{le4, flagAt}
-use Rattle.layout.specs.Chain.{entries, decodeState, coreOf}
+use Rattle.layout.specs.Chain.{stateCodesOk, entries, decodeState, coreOf}
 use Rattle.layout.specs.InPlace.{readingAnswer}
 use Rattle.layout.specs.Call as Call
 use Rattle.layout.specs.Call.{readCall}
@@ -160,14 +160,15 @@ module _ (state reading last : List ℕ) (b : Lent) (e h w : List Float) (v : Li
               (p .0, both (eqb (length last) lastLength) (eqb (length v) verdictLength) (q .1) .1)
 
           put-is : putOutcome state (decodeReading reading) said (length (b .point)) (length v) ≡ Accepted said
-          unfolding putOutcome readingAnswer outcomeOf standing
+          unfolding putOutcome readingAnswer outcomeOf standing codesOk
           put-is =
+              let flags : stateCodesOk state ≡ true = both (stateCodesOk state) _ c .0 in
               let q = lengths-are in
               let x = range-counts in
               let range : rangeOk (decodeReading reading .«shingle_size») (decodeReading reading .«base_dimension») (decodeState state .«base_dimension») ≡ true
               = ap (λ (z : Standing). rangeOk (decodeReading reading .«shingle_size») (decodeReading reading .«base_dimension») (z .«base_dimension»)) (sym stands) ∙ x .0 in
               let counts : stateCountsOk (decodeState state) ≡ true = ap (λ (z : Standing). z .«counts_ok») (sym stands) ∙ x .1 in
-              rw (q .0, range, q .1, le-leb _ _ (fits .inside), counts)
+              rw (flags, q .0, range, q .1, le-leb _ _ (fits .inside), counts)
 
           after-is : afterRows (decodeState state) (decodeReading reading) (decodeLast last) (b .point) (j .«newest_expected») said ≡ after
           unfolding stateRows

@@ -29,7 +29,7 @@ unfoldable pub slicesOk : (state reading last verdict : ℕ) → Bool
 slicesOk state reading last verdict = eqb state stateLength && (eqb reading readingLength && (eqb last lastLength && eqb verdict verdictLength))
 
 module _ (state reading last : List ℕ) (b : Lent) where
-  -- The outcome. The four numbers are the lengths of the slices that may be written: expected point, attribution, verdict.
+  -- The outcome. The four numbers are the lengths of the slices that may be written beside the state: expected point, attribution, verdict.
   unfoldable pub outcomeOver : (e h w v : ℕ) → Outcome
   outcomeOver e h w v =
       cond (codesOk state reading last)

@@ -1,6 +1,6 @@
 -- The calls on a reading's buffers that predictorcorrector.rs has public, and what its detect_and_modify asks the forest for: what each answers, and what it leaves
 -- in its buffer or state.
-use Prim.Native.Nat.{ℕ, _+_, _-_, _*_}
+use Prim.Native.Nat.{ℕ, _-_, _*_}
 use mathlib.Core.Path.{_≡_}
 use mathlib.Core.Bool.{Bool, true, false, cond, _&&_}
 use mathlib.Core.List.{List, [], _∷_}
@@ -18,11 +18,9 @@ use Rattle.descriptor.specs.Checks.{sizesOk, dimension, rangeOk, seenOk, lastPo
 use Rattle.descriptor.specs.declared.Reading.{Reading}
 use Rattle.descriptor.specs.declared.LastDescriptor.{LastDescriptor}
 use Rattle.scoring.specs.Scores.{gapOf, isRecent}
+unfoldable pub use Rattle.scoring.specs.Scores.{blockOf}
 use Rattle.attributors.specs.Attributors.{asked}
 use Rattle.divector.specs.DiVector.{maxGapContribution}
-use Rattle.divector.specs.declared.Block.{Block}
-use Rattle.divector.specs.declared.Block.the-variants as Block
-use Rattle.divector.specs.declared.Block.the-variants.{At}
 use Rattle.corrector.specs.Corrector.{predicted, expectedPoint, applyBasicCorrector}
 use Rattle.predictorcorrector.specs.State.{autoAdjusted, stateCountsOk}
 use Rattle.predictorcorrector.specs.declared.PredictorCorrector.{PredictorCorrector}
@@ -104,11 +102,6 @@ missingAnswer shingle base gap high low =
 unfoldable pub missingAt : (high low : List Float) → (base block start : ℕ) → Missing
 missingAt high low base block start =
     record { answer = Done; block = block; start = start; count = asked high low start base .count; indices = asked high low start base .indices }
-
--- The block that a search answers. It is refused for no accepted attribution.
-unfoldable pub blockOf : Block → ℕ
-blockOf (At k) = k
-blockOf (Block.Refused why) = 0
 
 -- The same of the block that contributes most.
 unfoldable pub missingWithin : (high low : List Float) → (base gap : ℕ) → Missing

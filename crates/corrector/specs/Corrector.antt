@@ -1,6 +1,6 @@
 -- The calls of predictorcorrector.rs on lent points and attributions, as the Rust has them: the expected point, the trigger, the basic corrector; and the newest row.
 -- Each `..Fits` says where a call can be carried out; elsewhere a buffer stays as it was. Behind a no, its slices are not looked at.
-use Prim.Native.Nat.{ℕ, zero, suc, _+_, _-_, _*_}
+use Prim.Native.Nat.{ℕ, _+_, _-_, _*_}
 use mathlib.Core.Bool.{Bool, true, false, cond, not, _&&_, _||_}
 use mathlib.Core.List.{List, [], _∷_, _++_}
 use lib.ListN.{length, getD, set, take, drop}

@@ -32,6 +32,7 @@ use Rattle.detection.specs.declared.Verdict.the-variants.{Quiet, Corrected, Rai
 use Rattle.detection.specs.declared.Outcome.{Outcome}
 use Rattle.detection.specs.declared.Outcome.the-variants.{Accepted, Refused}
 use Rattle.detection.specs.declared.Judgment.{Judgment}
+use Rattle.layout.specs.Places.{stateLength, readingLength}
 use Rattle.layout.specs.Numbers.{le4, f32At}
 use Rattle.layout.specs.Chain.{decodeState, encodeStateOver}
 use Rattle.layout.specs.Readings.{decodeReading, decodeLast}
@@ -131,12 +132,12 @@ module _ (xs : List ℕ) (c : Judging) where
       go true false false n = absurd (number-above Range n)
       go false q f n = absurd (number-above Range n)
 
-  long : slices ≡ true → (length xs ≡ 1310) × (length (c .reading) ≡ 23)
+  long : slices ≡ true → (length xs ≡ stateLength) × (length (c .reading) ≡ readingLength)
   unfolding slicesOk
   long q =
-      let a = both (eqb (length xs) 1310) _ q in
+      let a = both (eqb (length xs) stateLength) _ q in
       let b = both (eqb (length (c .reading)) 23) _ (a .1) in
-      (eqb-true (length xs) 1310 (a .0), eqb-true (length (c .reading)) 23 (b .0))
+      (eqb-true (length xs) stateLength (a .0), eqb-true (length (c .reading)) readingLength (b .0))
 
   done-at : outcomeNumber byValue ≡ 0 → answerBy ≡ Answers.Done
   unfolding outcome
@@ -167,8 +168,8 @@ module _ (xs : List ℕ) (c : Judging) where
   pub record Taken : Type 0 where
     pub codes-ok : codes ≡ true
     pub slices-ok : slices ≡ true
-    pub size : length xs ≡ 1310
-    pub reading-size : length (c .reading) ≡ 23
+    pub size : length xs ≡ stateLength
+    pub reading-size : length (c .reading) ≡ readingLength
     pub done : answerBy ≡ Answers.Done
     pub says : over ≡ Accepted (verdict readingOf lastOf (c .lent) stateOf)
     pub says-by : byValue ≡ Accepted (verdict readingOf lastOf (c .lent) stateOf)
@@ -206,11 +207,11 @@ module _ (xs : List ℕ) (c : Judging) where
     abbrev later : Verdict → PredictorCorrector
     later v = after readingOf lastOf (c .lent) stateOf v
 
-    written-back : (v : Verdict) → (length (encodeStateOver xs (later v)) ≡ 1310) × (decodeState (encodeStateOver xs (later v)) ≡ later v)
+    written-back : (v : Verdict) → (length (encodeStateOver xs (later v)) ≡ stateLength) × (decodeState (encodeStateOver xs (later v)) ≡ later v)
     written-back v =
         (state-length xs (later v) (k .size), state-back xs (later v) (k .size) (after-fits readingOf lastOf (c .lent) (score-fits (c .reading)) stateOf v (k .fits)))
 
-    put-back : (v : Verdict) → (length (stored v xs (later v)) ≡ 1310) × (decodeState (stored v xs (later v)) ≡ later v)
+    put-back : (v : Verdict) → (length (stored v xs (later v)) ≡ stateLength) × (decodeState (stored v xs (later v)) ≡ later v)
     unfolding stored changesState after
     put-back (Quiet t) = written-back (Quiet t)
     put-back (Corrected t m) = written-back (Corrected t m)

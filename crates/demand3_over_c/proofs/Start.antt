@@ -27,6 +27,7 @@ use Rattle.predictorcorrector.specs.Lists.{changed}
 use Rattle.predictorcorrector.specs.State.{new, freshState, freshList, refusedNew, existing, zFactorSet, setHorizon, updated, withThresholder}
 use Rattle.predictorcorrector.specs.declared.PredictorCorrector.{PredictorCorrector}
 use Rattle.predictorcorrector.specs.declared.Updated.{Updated}
+use Rattle.layout.specs.Places.{autoThresholdAt, stateLength, autoAdjustAt}
 use Rattle.layout.specs.Numbers.{flagByte, f32Bytes, f64Bytes, i32Bytes, flagBytes, bytes4, bytes8}
 use Rattle.layout.specs.States.{joined, encodeDeviation, encodeThresholder}
 use Rattle.layout.specs.Chain.{entries, decodeState, encodeHead, encodeStateOver}
@@ -40,31 +41,31 @@ use Rattle.demand3_over_c.proofs.Held.{fresh-fits, z-fits, differencing
 
 -- ---- bytes that hold a state, and whose two yes/no bytes no call refuses
 pub record Holds (s : PredictorCorrector) (xs : List ℕ) : Type 0 where
-  pub size : length xs ≡ 1310
+  pub size : length xs ≡ stateLength
   pub state : decodeState xs ≡ s
   pub fits : StateFits s
-  pub first-flag : getD xs 124 0 ≤ 1
-  pub second-flag : getD xs 149 0 ≤ 1
+  pub first-flag : getD xs autoThresholdAt 0 ≤ 1
+  pub second-flag : getD xs autoAdjustAt 0 ≤ 1
 
 flag-most : (b : Bool) → flagByte b ≤ 1
 flag-most true = omega arith
 flag-most false = omega arith
 
-head-first : (s : PredictorCorrector) → getD (encodeHead s) 124 0 ≡ flagByte (s .«basic_thresholder» .«auto_threshold»)
+head-first : (s : PredictorCorrector) → getD (encodeHead s) autoThresholdAt 0 ≡ flagByte (s .«basic_thresholder» .«auto_threshold»)
 unfolding encodeHead encodeThresholder encodeDeviation joined f32Bytes f64Bytes i32Bytes flagBytes bytes8 bytes4
 head-first s = refl
 
-head-second : (s : PredictorCorrector) → getD (encodeHead s) 149 0 ≡ flagByte (s .«auto_adjust»)
+head-second : (s : PredictorCorrector) → getD (encodeHead s) autoAdjustAt 0 ≡ flagByte (s .«auto_adjust»)
 unfolding encodeHead encodeThresholder encodeDeviation joined f32Bytes f64Bytes i32Bytes flagBytes bytes8 bytes4
 head-second s = refl
 
-pub put-holds : (xs : List ℕ) (s : PredictorCorrector) → length xs ≡ 1310 → StateFits s → Holds s (encodeStateOver xs s)
+pub put-holds : (xs : List ℕ) (s : PredictorCorrector) → length xs ≡ stateLength → StateFits s → Holds s (encodeStateOver xs s)
 put-holds xs s size f = record {
   size = state-length xs s size;
   state = state-back xs s size f;
   fits = f;
-  first-flag = subst (λ (n : ℕ). n ≤ 1) (sym (first (omega arith) (part (head-put xs s size) 124 1 (omega arith)) ∙ head-first s)) (flag-most (s .«basic_thresholder» .«auto_threshold»));
-  second-flag = subst (λ (n : ℕ). n ≤ 1) (sym (first (omega arith) (part (head-put xs s size) 149 1 (omega arith)) ∙ head-second s)) (flag-most (s .«auto_adjust»));
+  first-flag = subst (λ (n : ℕ). n ≤ 1) (sym (first (omega arith) (part (head-put xs s size) autoThresholdAt 1 (omega arith)) ∙ head-first s)) (flag-most (s .«basic_thresholder» .«auto_threshold»));
+  second-flag = subst (λ (n : ℕ). n ≤ 1) (sym (first (omega arith) (part (head-put xs s size) autoAdjustAt 1 (omega arith)) ∙ head-second s)) (flag-most (s .«auto_adjust»));
 }
 
 -- ---- a new state
@@ -140,19 +141,19 @@ number-above (Answers.Refused Refusals.Blocks) e = absurd (omega arith)
 -- `krcf_new` answered 0.
 pub record MadeOver (made : Updated) (out xs : List ℕ) : Type 0 where
   pub done : made .answer ≡ Answers.Done
-  pub size : length out ≡ 1310
+  pub size : length out ≡ stateLength
   pub bytes : xs ≡ encodeStateOver (replicate (length out) 0) (made .state)
 
 pub made-over : (made : Updated) (adjust : ℕ) (out xs : List ℕ) → left 0 xs ≡ chainMade made adjust out → MadeOver made out xs
 unfolding chainMade
-made-over made adjust out xs = go (eqb (answered (made .answer)) 0) (leb adjust 1) (eqb (length out) 1310) refl refl
+made-over made adjust out xs = go (eqb (answered (made .answer)) 0) (leb adjust 1) (eqb (length out) stateLength) refl refl
   where
-    go : (a b c : Bool) → eqb (answered (made .answer)) 0 ≡ a → eqb (length out) 1310 ≡ c
+    go : (a b c : Bool) → eqb (answered (made .answer)) 0 ≡ a → eqb (length out) stateLength ≡ c
         → left 0 xs ≡ cond a (cond b (cond c (left 0 (encodeStateOver (replicate (length out) 0) (made .state))) (left (number Refusals.Length) out)) (left (number Refusals.Range) out)) (left (answered (made .answer)) out)
         → MadeOver made out xs
     go true true true p q e = record {
       done = number-above (made .answer) (eqb-true (answered (made .answer)) 0 p);
-      size = eqb-true (length out) 1310 q;
+      size = eqb-true (length out) stateLength q;
       bytes = ap (λ (l : Left). l .bytes) e;
     }
     go true true false p q e = (let n : _≡_ {A = ℕ} 0 3 = ap (λ (l : Left). l .answer) e in absurd (omega arith))
@@ -171,7 +172,7 @@ new-holds d auto base adjust out xs h e =
 -- ---- the setters
 no-refusal : (s : PredictorCorrector) (xs : List ℕ) → Holds s xs → chainRefusal xs ≡ 0
 unfolding chainRefusal
-no-refusal s xs k = rw (eq-eqb (length xs) 1310 (k .size), le-leb (getD xs 124 0) 1 (k .first-flag), le-leb (getD xs 149 0) 1 (k .second-flag))
+no-refusal s xs k = rw (eq-eqb (length xs) stateLength (k .size), le-leb (getD xs autoThresholdAt 0) 1 (k .first-flag), le-leb (getD xs autoAdjustAt 0) 1 (k .second-flag))
 
 module _ (s : PredictorCorrector) (xs : List ℕ) (k : Holds s xs) where
   set-done : (f : PredictorCorrector → PredictorCorrector) (n : ℕ) (ys : List ℕ) → StateFits (f s) → left n ys ≡ left 0 (encodeStateOver xs (f (decodeState xs))) → Holds (f s) ys

@@ -1,4 +1,4 @@
--- The premises can be met: `krcf_new` makes a state in any 1310 bytes, and `krcf_detect_and_modify` accepts a calm DISTANCE reading eleven times in turn over it. Assumes nothing.
+-- The premises can be met: `krcf_new` makes a state in any 1,310 bytes, and `krcf_detect_and_modify` accepts a calm DISTANCE reading eleven times in turn over it. Assumes nothing.
 use mathlib.Core.Path.{_≡_, refl, sym, ap, ap₂, _∙_, subst}
 use mathlib.Core.Logic.{inr}
 use mathlib.Core.Bool.{Bool, true, false, not, cond, _&&_}
@@ -33,6 +33,7 @@ use Rattle.detection.specs.Judged.{outcomeNumber, stateAfter}
 use Rattle.detection.specs.declared.Verdict.{Verdict}
 use Rattle.detection.specs.declared.Verdict.the-variants.{Quiet, Corrected, Raised, Skipped}
 use Rattle.detection.specs.declared.Outcome.{Outcome}
+use Rattle.layout.specs.Places.{autoThresholdAt, stateLength, autoAdjustAt}
 use Rattle.layout.specs.Numbers.{le4, f32At, i32At, signed, flagAt}
 use Rattle.layout.specs.Chain.{decodeState, encodeStateOver, stateCodesOk}
 use Rattle.layout.specs.Left.{left}
@@ -55,11 +56,11 @@ new-done : new nought false 1 .answer ≡ Answers.Done
 unfolding new lt le eq ofBits
 new-done = refl
 
-over-by : (out : List ℕ) → length out ≡ 1310 → left 0 (made out) ≡ chainMade (new nought false 1) 0 out
+over-by : (out : List ℕ) → length out ≡ stateLength → left 0 (made out) ≡ chainMade (new nought false 1) 0 out
 unfolding chainMade
-over-by out h = rw (new-done, eq-eqb (length out) 1310 h) refl
+over-by out h = rw (new-done, eq-eqb (length out) stateLength h) refl
 
-made-is : (out : List ℕ) → length out ≡ 1310 → Made nought 0 1 out 0 (made out)
+made-is : (out : List ℕ) → length out ≡ stateLength → Made nought 0 1 out 0 (made out)
 made-is out h = record { discount = none-fits; contract = over-by out h; accepted = refl }
 
 -- ---- the same reading again and again, each time over the bytes that the call before left
@@ -95,8 +96,8 @@ module _ (xs : List ℕ) (s : PredictorCorrector) (k : Holds s xs) (d : answerFr
   ok : (codes xs (judging xs) ≡ true) × (slices xs (judging xs) ≡ true)
   unfolding codesOk stateCodesOk readingCodesOk lastCodesOk slicesOk
   ok = (
-    rw (eq-eqb (length xs) 1310 (k .size), le-leb (getD xs 124 0) 1 (k .first-flag), le-leb (getD xs 149 0) 1 (k .second-flag)) refl,
-    rw (eq-eqb (length xs) 1310 (k .size)) refl,
+    rw (eq-eqb (length xs) stateLength (k .size), le-leb (getD xs autoThresholdAt 0) 1 (k .first-flag), le-leb (getD xs autoAdjustAt 0) 1 (k .second-flag)) refl,
+    rw (eq-eqb (length xs) stateLength (k .size)) refl,
   )
 
   taken-here : Taken xs (judging xs)
@@ -150,7 +151,7 @@ z-bounds : (xs : List ℕ) → T (lt zero32 (zOf (eleven xs))) × T (le (zOf (el
 unfolding lt le eq ofBits
 z-bounds xs = (tt, tt)
 
-pub calm-met : (out : List ℕ) → length out ≡ 1310
+pub calm-met : (out : List ℕ) → length out ≡ stateLength
     → InTurn (krcf-new nought 0 1 out 0 (made out) ∷ eleven (made out)) × InBounds (zOf (eleven (made out))) (toldOf (eleven (made out))) × (accepted (toldOf (eleven (made out))) ≡ 11)
 calm-met out h =
     let m = made-is out h in

@@ -12,7 +12,7 @@ use Rattle.ledger.specs.Statement.{Told, Shown}
 use Rattle.descriptor.specs.Lent.{Lent}
 use Rattle.predictorcorrector.specs.State.{new, zFactorSet}
 use Rattle.predictorcorrector.specs.declared.PredictorCorrector.{PredictorCorrector}
-use Rattle.layout.specs.Places.{readingLength, strategyAt}
+use Rattle.layout.specs.Places.{readingLength, strategyAt, scoreAt, kindAt, thresholdAt, gradeAt}
 use Rattle.layout.specs.Numbers.{f32At}
 use Rattle.layout.specs.Left.{left}
 use Rattle.c_chain.specs.States.{chainSet, horizonSetIn, chainMade}
@@ -101,7 +101,7 @@ abbrev pub isRefused : Judging → Bool
 isRefused c = not (eqb (c .answer) 0)
 
 abbrev pub scoreOf : Judging → Float
-scoreOf c = f32At (c .reading) 15
+scoreOf c = f32At (c .reading) scoreAt
 
 abbrev pub toldOf : List Call → List Told
 toldOf [] = []
@@ -112,13 +112,13 @@ toldOf (krcf-detect-and-modify c ∷ cs) = record { refused = isRefused c; score
 
 -- ---- what the bytes of its verdict show: kind (0 quiet, 1 corrected, 2 raised, 3 skipped), threshold and grade
 abbrev pub kindIn : List ℕ → ℕ
-kindIn ys = getD ys 0 0
+kindIn ys = getD ys kindAt 0
 
 abbrev pub thresholdIn : List ℕ → Float
-thresholdIn ys = f32At ys 2
+thresholdIn ys = f32At ys thresholdAt
 
 abbrev pub gradeIn : List ℕ → Float
-gradeIn ys = f32At ys 6
+gradeIn ys = f32At ys gradeAt
 
 -- The opening grade is not among the bytes, but whether it is 0: it is for the kind "quiet" alone (`Opens`). The ledger's statement asks only whether it is above 0.
 abbrev pub openingIn : List ℕ → Float

@@ -8,6 +8,7 @@ use Rattle.predictorcorrector.specs.State.{new}
 use Rattle.detection.specs.Judging as Exits
 use Rattle.detection.specs.Judged.{outcomeNumber, written}
 use Rattle.detection.specs.declared.Outcome.{Outcome}
+use Rattle.layout.specs.Places.{lastLength, verdictLength}
 use Rattle.layout.specs.Chain.{encodeStateOver}
 use Rattle.layout.specs.Readings.{decodeReading, decodeLast}
 use Rattle.c_judging.specs.Judging.{stateLeft, verdictLeft, outcomeOver, stateOver, indexOver}
@@ -20,11 +21,11 @@ abbrev pub reading : List ℕ
 reading = 1 ∷ 0 ∷ 0 ∷ 0 ∷ 1 ∷ 0 ∷ 0 ∷ 0 ∷ 1 ∷ 0 ∷ 0 ∷ 1 ∷ 0 ∷ 0 ∷ 0 ∷ 0 ∷ 0 ∷ 128 ∷ 63 ∷ 0 ∷ 0 ∷ 128 ∷ 63 ∷ []
 
 abbrev pub last : List ℕ
-last = replicate 23 0
+last = replicate lastLength 0
 
 -- What the contract says of it over the state's bytes xs, and the call.
 abbrev pub said : List ℕ → Outcome
-said xs = outcomeOver xs reading last buffers 1 1 1 14
+said xs = outcomeOver xs reading last buffers 1 1 1 verdictLength
 
 abbrev pub judging : List ℕ → Judging
 judging xs = record {
@@ -35,12 +36,12 @@ judging xs = record {
   expected = ones;
   high = ones;
   low = ones;
-  verdict = replicate 14 0;
+  verdict = replicate verdictLength 0;
   state′ = stateLeft (said xs) xs (stateOver xs reading last buffers (said xs));
   expected′ = written (said xs) ones (Exits.expected (decodeReading reading) (decodeLast last) buffers);
   high′ = written (said xs) ones (normalized (decodeReading reading .score) ones ones ones);
   low′ = written (said xs) ones (normalized (decodeReading reading .score) ones ones ones);
-  verdict′ = verdictLeft (said xs) (replicate 14 0) (indexOver xs reading last buffers (said xs));
+  verdict′ = verdictLeft (said xs) (replicate verdictLength 0) (indexOver xs reading last buffers (said xs));
 }
 
 abbrev pub judgings : ℕ → List ℕ → List Call

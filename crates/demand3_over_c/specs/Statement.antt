@@ -1,7 +1,7 @@
 -- Demand 3 of the C functions: what this crate proves. Definitions only.
 use Prim.Native.Nat.{ℕ, _<_}
 use mathlib.Core.Path.{_≡_}
-use mathlib.Core.Bool.{Bool, true, false, not}
+use mathlib.Core.Bool.{true, not}
 use mathlib.Core.List.{List, _∷_}
 use lib.Dec.{T, eqb}
 use lib.IntN.{ℤ}
@@ -17,7 +17,7 @@ use Rattle.detection.specs.declared.Outcome.{Outcome}
 use Rattle.detection.specs.declared.Outcome.the-variants.{Accepted, Refused}
 use Rattle.detection.specs.declared.Judgment.{Judgment}
 use Rattle.detection.specs.Judged.{Judged, outcomeNumber}
-use Rattle.layout.specs.Places.{stateLength}
+use Rattle.layout.specs.Places.{stateLength, verdictLength, modeAt, relativeIndexAt}
 use Rattle.layout.specs.Numbers.{i32At}
 use Rattle.layout.specs.Chain.{decodeState}
 use Rattle.layout.specs.Readings.{decodeReading, decodeLast}
@@ -41,12 +41,12 @@ modeOf Skipped = 0
 
 -- The verdict v with its relative index n stands in the bytes ys.
 pub record Reads (v : Verdict) (n : ℤ) (ys : List ℕ) : Type 0 where
-  pub long : length ys ≡ 14
+  pub long : length ys ≡ verdictLength
   pub kind : kindIn ys ≡ kindOf v
-  pub mode : getD ys 1 0 ≡ modeOf v
+  pub mode : getD ys modeAt 0 ≡ modeOf v
   pub threshold : thresholdIn ys ≡ thresholdOf v
   pub grade : gradeIn ys ≡ gradeOf v
-  pub index : i32At ys 10 ≡ n
+  pub index : i32At ys relativeIndexAt ≡ n
 
 -- ---- a call over C and a judgment by value
 -- What a call leaves of the verdict's slice: an accepted reading's verdict with its relative index n, or what it was.

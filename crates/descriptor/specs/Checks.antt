@@ -1,6 +1,6 @@
 -- Document 01's entry checks of a reading: one test for each refusal, and the answer, which asks them in the order of their numbers.
 use Prim.Native.Nat.{ℕ, _*_, _%_, _/_}
-use mathlib.Core.Bool.{Bool, true, false, cond, _&&_, not}
+use mathlib.Core.Bool.{Bool, true, false, cond, _&&_}
 use mathlib.Core.List.{List, [], _∷_}
 use lib.Dec.{leb, ltb, eqb}
 use lib.ListN.{length}

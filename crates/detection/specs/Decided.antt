@@ -26,7 +26,7 @@ use Rattle.detection.specs.declared.Outcome.the-variants.{Accepted, Refu
 use Rattle.detection.specs.declared.Standing.{Standing}
 use Rattle.detection.specs.declared.Decision.{Decision}
 
--- How a state stands. For it `decision` is `outcome` (proofs/Standing.antt).
+-- How a state stands. For it `decision` is `outcome` (proofs/ByState.antt).
 unfoldable pub standing : PredictorCorrector → Standing
 standing s = record {
   «basic_thresholder» = s .«basic_thresholder»;

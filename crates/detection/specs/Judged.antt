@@ -6,7 +6,6 @@ use lib.IntN.{ℤ, pos}
 use lib.ListN.{length}
 use lib.Ieee.{Float}
 use Rattle.types.specs.Refusals.{number}
-use Rattle.types.specs.declared.Refusal.{Refusal}
 use Rattle.types.specs.declared.Answer.{Answer}
 use Rattle.types.specs.declared.Answer.the-variants as Answers
 use Rattle.divector.specs.DiVector.{normalized}

@@ -19,7 +19,6 @@ use Rattle.descriptor.specs.Checks.{answerOf}
 use Rattle.descriptor.specs.Lent.{Lent, lent}
 use Rattle.descriptor.specs.declared.Reading.{Reading}
 use Rattle.descriptor.specs.declared.LastDescriptor.{LastDescriptor}
-use Rattle.predictorcorrector.specs.declared.PredictorCorrector.{PredictorCorrector}
 use Rattle.candidate.specs.Candidate.{isCandidate, driftAt}
 use Rattle.detection.specs.Const.{zero32}
 use Rattle.detection.specs.Judging.{gapOf, recent, opening, noisePass, start, block, expected, lateVerdict}
@@ -27,7 +26,6 @@ use Rattle.detection.specs.Decided.{noRow, driftOf}
 unfoldable pub use Rattle.detection.specs.Decided.{rowsCounted, afterRows, stateRows}
 use Rattle.detection.specs.declared.Way.{Way}
 use Rattle.detection.specs.declared.Way.the-variants as Ways
-use Rattle.detection.specs.declared.Verdict.{Verdict}
 use Rattle.detection.specs.declared.Verdict.the-variants.{Quiet, Corrected, Raised, Skipped}
 use Rattle.detection.specs.declared.Outcome.{Outcome}
 use Rattle.detection.specs.declared.Outcome.the-variants.{Accepted, Refused}

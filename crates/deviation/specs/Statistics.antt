@@ -1,6 +1,6 @@
 -- deviation.rs: discounted statistics of a run of scores. One definition for each function, in the Rust's order. Operators are those of f64, every step
 -- rounded; `sqrt` is the correctly rounded root.
-use mathlib.Core.Bool.{Bool, true, false, cond, _&&_}
+use mathlib.Core.Bool.{Bool, false, cond, _&&_}
 use lib.IntN.{ℤ, pos, negsuc, _+ℤ_}
 use lib.Dec.{leb}
 use lib.Ieee.{Float, ofInt, binary64}

@@ -18,7 +18,7 @@ use Rattle.deviation.specs.Statistics as Statistics
 use Rattle.deviation.specs.Statistics.{fresh, countable, reset}
 use Rattle.deviation.specs.declared.Deviation.{Deviation}
 use Rattle.basicthresholder.specs.declared.BasicThresholder.{BasicThresholder}
-use Rattle.predictorcorrector.specs.State.{state, withRun, existing, stateCountsOk, longerRun, runEnded, autoAdjusted, candidateCounted, heightScore, updateScore}
+use Rattle.predictorcorrector.specs.State.{state, withThresholder, withRun, existing, stateCountsOk, longerRun, runEnded, autoAdjusted, candidateCounted, heightScore, updateScore}
 use Rattle.predictorcorrector.specs.declared.PredictorCorrector.{PredictorCorrector}
 use Rattle.predictorcorrector.specs.Lists.{changed, stepped, rowFits, firstCountable, listCountable}
 use Rattle.predictorcorrector.proofs.Rows.{countable-next, changed-at, stepped-at, none-left, row-fits, lists-ok, thresholder-ok}
@@ -35,10 +35,10 @@ use Rattle.descriptor.proofs.Bounds.{both}
 use Rattle.layout.specs.Places.{deviationLength, stateLength, autoAdjustAt, runLengthAt, baseDimensionAt, actualAt, expectedAt, listLength, readingLength, lastLength}
 use Rattle.layout.specs.Numbers.{le4, le8, f64At, i32At, flagAt, f32Bytes, f64Bytes, i32Bytes, flagByte, flagBytes, bytes8, bytes4, pasted, writtenOf}
 use Rattle.layout.specs.States.{joined, deviationAt, encodeDeviation, encodeThresholder, decodeThresholder}
-use Rattle.layout.specs.Chain.{entries, filled, emptyList, listAt, listOver, encodeHead, encodeStateOver, decodeState, coreOf}
+use Rattle.layout.specs.Chain.{stateCodesOk, entries, filled, emptyList, listAt, listOver, encodeHead, encodeStateOver, decodeState, coreOf}
 use Rattle.layout.specs.declared.Core.{Core}
-use Rattle.layout.specs.InPlace.{readingAnswer, runAfter, scores, entered, ended, adjusted, counted, kept}
-use Rattle.layout.specs.Parts.{most, head, lastOf, rowKeptOver, Taking, entering, scored, primaryScore, lastScore, secondAfter}
+use Rattle.layout.specs.InPlace.{readingAnswer, runAfter, entered, ended, adjusted, counted, kept}
+use Rattle.layout.specs.Parts.{most, head, lastOf, rowKeptOver, Taking, scored, primaryScore, lastScore, secondAfter}
 use Rattle.layout.proofs.Laws.{deviation-length}
 use Rattle.layout.proofs.Pasting.{pasted-length, pasted-split, pasted-onwards, set-next, front}
 
@@ -242,46 +242,46 @@ run-ok : (s : PredictorCorrector) → stateCountsOk s ≡ true → leb (s .«run
 unfolding stateCountsOk
 run-ok s e = both (leb (s .«run_length») countLimit) _ e .0
 
-module _ (s : PredictorCorrector) (r : Reading) (l : LastDescriptor) (corrected : Float) where
+module _ (s : PredictorCorrector) (t : BasicThresholder) where
   ended-is : s .«auto_adjust» ≡ true → s .«base_dimension» ≤ 16
-      → withRun (scores s r l corrected) 0 (changed reset (s .«base_dimension») (s .«deviations_actual»)) (changed reset (s .«base_dimension») (s .«deviations_expected»)) ≡ ended s r l corrected
+      → withRun (withThresholder s t) 0 (changed reset (s .«base_dimension») (s .«deviations_actual»)) (changed reset (s .«base_dimension») (s .«deviations_expected»)) ≡ ended s t
   unfolding runEnded
   ended-is h few = rw (h, le-leb (s .«base_dimension») 16 few)
 
-  ended-same : s .«auto_adjust» ≡ false → entered s r l corrected false ≡ ended s r l corrected
+  ended-same : s .«auto_adjust» ≡ false → entered s t false ≡ ended s t
   unfolding runEnded runAfter
   ended-same h = rw h
 
   adjusted-is : (point : List Float) → stateCountsOk s ≡ true → s .«base_dimension» ≤ 16 → s .«base_dimension» ≤ length point → s .«auto_adjust» ≡ true → ltb 0 (s .«run_length») ≡ true
-      → withRun (scores s r l corrected) (longerRun (s .«run_length»)) (stepped Statistics.counted (s .«base_dimension») (s .«deviations_actual») point) (s .«deviations_expected»)
-      ≡ adjusted s r l corrected point
+      → withRun (withThresholder s t) (longerRun (s .«run_length»)) (stepped Statistics.counted (s .«base_dimension») (s .«deviations_actual») point) (s .«deviations_expected»)
+      ≡ adjusted s t point
   unfolding autoAdjusted
   adjusted-is point counts few wide h due =
       let ok = lists-ok s counts few h in
       rw (h, due, run-ok s counts, row-fits (s .«base_dimension») (s .«deviations_actual») point few wide (ok .0))
 
-  adjusted-same : (point : List Float) → (s .«auto_adjust» && ltb 0 (s .«run_length»)) ≡ false → entered s r l corrected false ≡ adjusted s r l corrected point
+  adjusted-same : (point : List Float) → (s .«auto_adjust» && ltb 0 (s .«run_length»)) ≡ false → entered s t false ≡ adjusted s t point
   unfolding autoAdjusted runAfter
   adjusted-same point h =
       rw (sym (none-left (s .«auto_adjust») (ltb 0 (s .«run_length»)) (leb (s .«run_length») countLimit && rowFits (s .«base_dimension») (s .«deviations_actual») point) h))
 
   counted-is : (grows : Bool) (row rowExpected : List Float) → stateCountsOk s ≡ true → s .«base_dimension» ≤ 16 → s .«base_dimension» ≤ length row → s .«base_dimension» ≤ length rowExpected
       → s .«auto_adjust» ≡ true
-      → withRun (entered s r l corrected grows) (runAfter grows (s .«run_length»)) (stepped Statistics.counted (s .«base_dimension») (s .«deviations_actual») row)
-      (stepped Statistics.counted (s .«base_dimension») (s .«deviations_expected») rowExpected) ≡ counted s r l corrected grows row rowExpected
+      → withRun (entered s t grows) (runAfter grows (s .«run_length»)) (stepped Statistics.counted (s .«base_dimension») (s .«deviations_actual») row)
+      (stepped Statistics.counted (s .«base_dimension») (s .«deviations_expected») rowExpected) ≡ counted s t grows row rowExpected
   unfolding candidateCounted
   counted-is grows row rowExpected counts few wide wide′ h =
       let ok = lists-ok s counts few h in
       rw (h, row-fits (s .«base_dimension») (s .«deviations_actual») row few wide (ok .0), row-fits (s .«base_dimension») (s .«deviations_expected») rowExpected few wide′ (ok .1))
 
-  counted-same : (grows : Bool) (row rowExpected : List Float) → s .«auto_adjust» ≡ false → entered s r l corrected grows ≡ counted s r l corrected grows row rowExpected
+  counted-same : (grows : Bool) (row rowExpected : List Float) → s .«auto_adjust» ≡ false → entered s t grows ≡ counted s t grows row rowExpected
   unfolding candidateCounted
   counted-same grows row rowExpected h = rw h
 
 most-is : (base : ℕ) → base ≤ 16 → base ≡ most base
 most-is base few = rw (le-leb base 16 few) refl
 
-module _ (xs : List ℕ) (k : Taking xs) (r : Reading) (l : LastDescriptor) (corrected : Float) (auto : Bool) (flagged : auto ≡ flagAt xs autoAdjustAt) where
+module _ (xs : List ℕ) (k : Taking xs) (t : BasicThresholder) (auto : Bool) (flagged : auto ≡ flagAt xs autoAdjustAt) where
   auto-is : (b : Bool) → auto ≡ b → decodeState xs .«auto_adjust» ≡ b
   unfolding decodeState
   auto-is b h = sym flagged ∙ h
@@ -298,18 +298,15 @@ module _ (xs : List ℕ) (k : Taking xs) (r : Reading) (l : LastDescriptor) (cor
   unfolding decodeState
   run-is run e = ap (ltb 0) (sym e)
 
-  pub ended-entered : (zs : List ℕ) → auto ≡ false → zs ≡ encodeStateOver xs (entered (decodeState xs) r l corrected false) → zs ≡ encodeStateOver xs (ended (decodeState xs) r l corrected)
-  ended-entered zs h o = o ∙ ap (encodeStateOver xs) (ended-same (decodeState xs) r l corrected (auto-is false h))
+  pub ended-entered : (zs : List ℕ) → auto ≡ false → zs ≡ encodeStateOver xs (entered (decodeState xs) t false) → zs ≡ encodeStateOver xs (ended (decodeState xs) t)
+  ended-entered zs h o = o ∙ ap (encodeStateOver xs) (ended-same (decodeState xs) t (auto-is false h))
 
-  pub adjusted-entered : (run : ℕ) (point : List Float) (zs : List ℕ) → run ≡ le4 xs runLengthAt → (auto && ltb 0 run) ≡ false → zs ≡ encodeStateOver xs (entered (decodeState xs) r l corrected false)
-      → zs ≡ encodeStateOver xs (adjusted (decodeState xs) r l corrected point)
+  pub adjusted-entered : (run : ℕ) (point : List Float) (zs : List ℕ) → run ≡ le4 xs runLengthAt → (auto && ltb 0 run) ≡ false → zs ≡ encodeStateOver xs (entered (decodeState xs) t false)
+      → zs ≡ encodeStateOver xs (adjusted (decodeState xs) t point)
   unfolding decodeState
-  adjusted-entered run point zs n h o = o ∙ ap (encodeStateOver xs) (adjusted-same (decodeState xs) r l corrected point ((λ i. sym flagged i && ltb 0 (sym n i)) ∙ h))
+  adjusted-entered run point zs n h o = o ∙ ap (encodeStateOver xs) (adjusted-same (decodeState xs) t point ((λ i. sym flagged i && ltb 0 (sym n i)) ∙ h))
 
   module _ (base : ℕ) (based : base ≡ le4 xs baseDimensionAt) where
-    abbrev t : BasicThresholder
-    t = entering xs r l corrected
-
     -- The first `base` entries are those that a list has.
     lists-are : (f g : List Deviation → List Deviation) (run : ℕ) (hs ys zs : List ℕ) → auto ≡ true → hs ≡ pasted xs 0 (head t auto run base) → ys ≡ listOver hs actualAt (f (listAt hs actualAt base)) base
         → zs ≡ listOver ys expectedAt (g (listAt ys expectedAt base)) base
@@ -324,60 +321,60 @@ module _ (xs : List ℕ) (k : Taking xs) (r : Reading) (l : LastDescriptor) (cor
 
     module _ (hs ys zs : List ℕ) (h : auto ≡ true) where
       ended-over : hs ≡ pasted xs 0 (head t auto 0 base) → ys ≡ listOver hs actualAt (changed reset base (listAt hs actualAt base)) base → zs ≡ listOver ys expectedAt (changed reset base (listAt ys expectedAt base)) base
-          → zs ≡ encodeStateOver xs (withRun (scores (decodeState xs) r l corrected) 0 (changed reset (decodeState xs .«base_dimension») (decodeState xs .«deviations_actual»)) (changed reset (decodeState xs .«base_dimension») (decodeState xs .«deviations_expected»)))
+          → zs ≡ encodeStateOver xs (withRun (withThresholder (decodeState xs) t) 0 (changed reset (decodeState xs .«base_dimension») (decodeState xs .«deviations_actual»)) (changed reset (decodeState xs .«base_dimension») (decodeState xs .«deviations_expected»)))
       unfolding decodeState
       ended-over o p q =
           lists-are (λ (ds : List Deviation). changed reset base ds) (λ (ds : List Deviation). changed reset base ds) 0 hs ys zs h o p q
           ∙ (λ i. encodeStateOver xs (state t (flagAt xs autoAdjustAt) 0 (le4 xs baseDimensionAt) (changed reset (based i) (listAt xs actualAt n)) (changed reset (based i) (listAt xs expectedAt n))))
 
       pub ended-lists : hs ≡ pasted xs 0 (head t auto 0 base) → ys ≡ listOver hs actualAt (changed reset base (listAt hs actualAt base)) base → zs ≡ listOver ys expectedAt (changed reset base (listAt ys expectedAt base)) base
-          → zs ≡ encodeStateOver xs (ended (decodeState xs) r l corrected)
-      ended-lists o p q = ended-over o p q ∙ ap (encodeStateOver xs) (ended-is (decodeState xs) r l corrected (auto-is true h) few-is)
+          → zs ≡ encodeStateOver xs (ended (decodeState xs) t)
+      ended-lists o p q = ended-over o p q ∙ ap (encodeStateOver xs) (ended-is (decodeState xs) t (auto-is true h) few-is)
 
       module _ (run longer : ℕ) (point : List Float) (stored : run ≡ le4 xs runLengthAt) (grown : longer ≡ longerRun run) (wide : le4 xs baseDimensionAt ≤ length point) where
         adjusted-over : hs ≡ pasted xs 0 (head t auto longer base) → ys ≡ listOver hs actualAt (stepped Statistics.counted base (listAt hs actualAt base) point) base
             → zs ≡ listOver ys expectedAt (listAt ys expectedAt base) base
-            → zs ≡ encodeStateOver xs (withRun (scores (decodeState xs) r l corrected) (longerRun (decodeState xs .«run_length»)) (stepped Statistics.counted (decodeState xs .«base_dimension») (decodeState xs .«deviations_actual») point) (decodeState xs .«deviations_expected»))
+            → zs ≡ encodeStateOver xs (withRun (withThresholder (decodeState xs) t) (longerRun (decodeState xs .«run_length»)) (stepped Statistics.counted (decodeState xs .«base_dimension») (decodeState xs .«deviations_actual») point) (decodeState xs .«deviations_expected»))
         unfolding decodeState
         adjusted-over o p q =
             lists-are (λ (ds : List Deviation). stepped Statistics.counted base ds point) (λ (ds : List Deviation). ds) longer hs ys zs h o p q
             ∙ (λ i. encodeStateOver xs (state t (flagAt xs autoAdjustAt) ((grown ∙ ap longerRun stored) i) (le4 xs baseDimensionAt) (stepped Statistics.counted (based i) (listAt xs actualAt n) point) (listAt xs expectedAt n)))
 
         pub adjusted-lists : ltb 0 run ≡ true → hs ≡ pasted xs 0 (head t auto longer base) → ys ≡ listOver hs actualAt (stepped Statistics.counted base (listAt hs actualAt base) point) base
-            → zs ≡ listOver ys expectedAt (listAt ys expectedAt base) base → zs ≡ encodeStateOver xs (adjusted (decodeState xs) r l corrected point)
+            → zs ≡ listOver ys expectedAt (listAt ys expectedAt base) base → zs ≡ encodeStateOver xs (adjusted (decodeState xs) t point)
         adjusted-lists due o p q =
             adjusted-over o p q
-            ∙ ap (encodeStateOver xs) (adjusted-is (decodeState xs) r l corrected point (k .counts) few-is (wide-is (length point) wide) (auto-is true h) (run-is run stored ∙ due))
+            ∙ ap (encodeStateOver xs) (adjusted-is (decodeState xs) t point (k .counts) few-is (wide-is (length point) wide) (auto-is true h) (run-is run stored ∙ due))
 
     module _ (grows : Bool) (run : ℕ) (after : run ≡ runAfter grows (le4 xs runLengthAt)) where
-      pub entered-none : (zs : List ℕ) → auto ≡ false → zs ≡ pasted xs 0 (head t auto run base) → zs ≡ encodeStateOver xs (entered (decodeState xs) r l corrected grows)
+      pub entered-none : (zs : List ℕ) → auto ≡ false → zs ≡ pasted xs 0 (head t auto run base) → zs ≡ encodeStateOver xs (entered (decodeState xs) t grows)
       unfolding decodeState
       entered-none zs h o =
           o ∙ none-over xs t run (k .long) auto base flagged based (listAt xs actualAt n) (listAt xs expectedAt n) h
           ∙ (λ i. encodeStateOver xs (state t (flagAt xs autoAdjustAt) (after i) (le4 xs baseDimensionAt) (listAt xs actualAt n) (listAt xs expectedAt n)))
 
       pub entered-lists : (hs ys zs : List ℕ) → auto ≡ true → hs ≡ pasted xs 0 (head t auto run base) → ys ≡ listOver hs actualAt (listAt hs actualAt base) base
-          → zs ≡ listOver ys expectedAt (listAt ys expectedAt base) base → zs ≡ encodeStateOver xs (entered (decodeState xs) r l corrected grows)
+          → zs ≡ listOver ys expectedAt (listAt ys expectedAt base) base → zs ≡ encodeStateOver xs (entered (decodeState xs) t grows)
       unfolding decodeState
       entered-lists hs ys zs h o p q =
           lists-are (λ (ds : List Deviation). ds) (λ (ds : List Deviation). ds) run hs ys zs h o p q
           ∙ (λ i. encodeStateOver xs (state t (flagAt xs autoAdjustAt) (after i) (le4 xs baseDimensionAt) (listAt xs actualAt n) (listAt xs expectedAt n)))
 
       module _ (row rowExpected : List Float) where
-        pub counted-none : (zs : List ℕ) → auto ≡ false → zs ≡ pasted xs 0 (head t auto run base) → zs ≡ encodeStateOver xs (counted (decodeState xs) r l corrected grows row rowExpected)
-        counted-none zs h o = entered-none zs h o ∙ ap (encodeStateOver xs) (counted-same (decodeState xs) r l corrected grows row rowExpected (auto-is false h))
+        pub counted-none : (zs : List ℕ) → auto ≡ false → zs ≡ pasted xs 0 (head t auto run base) → zs ≡ encodeStateOver xs (counted (decodeState xs) t grows row rowExpected)
+        counted-none zs h o = entered-none zs h o ∙ ap (encodeStateOver xs) (counted-same (decodeState xs) t grows row rowExpected (auto-is false h))
 
         module _ (hs ys zs : List ℕ) (h : auto ≡ true) (o : hs ≡ pasted xs 0 (head t auto run base)) (p : ys ≡ listOver hs actualAt (stepped Statistics.counted base (listAt hs actualAt base) row) base) (q : zs ≡ listOver ys expectedAt (stepped Statistics.counted base (listAt ys expectedAt base) rowExpected) base) where
-          counted-over : zs ≡ encodeStateOver xs (withRun (entered (decodeState xs) r l corrected grows) (runAfter grows (decodeState xs .«run_length»)) (stepped Statistics.counted (decodeState xs .«base_dimension») (decodeState xs .«deviations_actual») row) (stepped Statistics.counted (decodeState xs .«base_dimension») (decodeState xs .«deviations_expected») rowExpected))
+          counted-over : zs ≡ encodeStateOver xs (withRun (entered (decodeState xs) t grows) (runAfter grows (decodeState xs .«run_length»)) (stepped Statistics.counted (decodeState xs .«base_dimension») (decodeState xs .«deviations_actual») row) (stepped Statistics.counted (decodeState xs .«base_dimension») (decodeState xs .«deviations_expected») rowExpected))
           unfolding decodeState
           counted-over =
               lists-are (λ (ds : List Deviation). stepped Statistics.counted base ds row) (λ (ds : List Deviation). stepped Statistics.counted base ds rowExpected) run hs ys zs h o p q
               ∙ (λ i. encodeStateOver xs (state t (flagAt xs autoAdjustAt) (after i) (le4 xs baseDimensionAt) (stepped Statistics.counted (based i) (listAt xs actualAt n) row) (stepped Statistics.counted (based i) (listAt xs expectedAt n) rowExpected)))
 
-          pub counted-lists : le4 xs baseDimensionAt ≤ length row → le4 xs baseDimensionAt ≤ length rowExpected → zs ≡ encodeStateOver xs (counted (decodeState xs) r l corrected grows row rowExpected)
+          pub counted-lists : le4 xs baseDimensionAt ≤ length row → le4 xs baseDimensionAt ≤ length rowExpected → zs ≡ encodeStateOver xs (counted (decodeState xs) t grows row rowExpected)
           counted-lists wide wide′ =
               counted-over
-              ∙ ap (encodeStateOver xs) (counted-is (decodeState xs) r l corrected grows row rowExpected (k .counts) few-is (wide-is (length row) wide) (wide-is (length rowExpected) wide′) (auto-is true h))
+              ∙ ap (encodeStateOver xs) (counted-is (decodeState xs) t grows row rowExpected (k .counts) few-is (wide-is (length row) wide) (wide-is (length rowExpected) wide′) (auto-is true h))
 
 -- ---- a reading that is not refused: what the bytes hold
 pub record Fitting (xs : List ℕ) (r : Reading) (lengths : Bool) : Type 0 where
@@ -385,19 +382,20 @@ pub record Fitting (xs : List ℕ) (r : Reading) (lengths : Bool) : Type 0 where
   pub based : r .«base_dimension» ≡ le4 xs baseDimensionAt
   pub fit : lengths ≡ true
 
-passed : (a c d e f : Bool) → cond a (cond c (cond d (cond e Done (Refused Count)) (Refused Length)) (Refused Range)) (cond f (Refused Length) (Refused Range)) ≡ Done
+passed : (b a c d e f : Bool) → cond b (cond a (cond c (cond d (cond e Done (Refused Count)) (Refused Length)) (Refused Range)) (cond f (Refused Length) (Refused Range))) (Refused Range) ≡ Done
     → (a ≡ true) × (c ≡ true) × (d ≡ true) × (e ≡ true)
-passed true true true true f h = (refl, refl, refl, refl)
-passed true true true false f h = absurd (let z : _≡_ {A = ℕ} 0 1 = cc in omega arith)
-passed true true false e f h = absurd (let z : _≡_ {A = ℕ} 0 1 = cc in omega arith)
-passed true false d e f h = absurd (let z : _≡_ {A = ℕ} 0 1 = cc in omega arith)
-passed false c d e true h = absurd (let z : _≡_ {A = ℕ} 0 1 = cc in omega arith)
-passed false c d e false h = absurd (let z : _≡_ {A = ℕ} 0 1 = cc in omega arith)
+passed true true true true true f h = (refl, refl, refl, refl)
+passed true true true true false f h = absurd (let z : _≡_ {A = ℕ} 0 1 = cc in omega arith)
+passed true true true false e f h = absurd (let z : _≡_ {A = ℕ} 0 1 = cc in omega arith)
+passed true true false d e f h = absurd (let z : _≡_ {A = ℕ} 0 1 = cc in omega arith)
+passed true false c d e true h = absurd (let z : _≡_ {A = ℕ} 0 1 = cc in omega arith)
+passed true false c d e false h = absurd (let z : _≡_ {A = ℕ} 0 1 = cc in omega arith)
+passed false a c d e f h = absurd (let z : _≡_ {A = ℕ} 0 1 = cc in omega arith)
 
 pub fitting : (xs : List ℕ) (r : Reading) (lengths : Bool) → readingAnswer xs r lengths ≡ Done → Fitting xs r lengths
 unfolding readingAnswer rangeOk decodeState
 fitting xs r lengths h =
-    let p = passed (eqb (length xs) stateLength) (rangeOk (r .«shingle_size») (r .«base_dimension») (decodeState xs .«base_dimension»)) lengths (stateCountsOk (decodeState xs)) (sizesOk (r .«shingle_size») (r .«base_dimension»)) h in
+    let p = passed (stateCodesOk xs) (eqb (length xs) stateLength) (rangeOk (r .«shingle_size») (r .«base_dimension») (decodeState xs .«base_dimension»)) lengths (stateCountsOk (decodeState xs)) (sizesOk (r .«shingle_size») (r .«base_dimension»)) h in
     let q = both (sizesOk (r .«shingle_size») (r .«base_dimension»)) (eqb (r .«base_dimension») (le4 xs baseDimensionAt)) (p .1) in
     let e = eqb-true (r .«base_dimension») (le4 xs baseDimensionAt) (q .1) in
     let few = sizes (r .«shingle_size») (r .«base_dimension») (q .0) .base-most in

@@ -16,18 +16,21 @@ use Rattle.predictorcorrector.specs.State.{state, withThresholder, withRun, upd
 use Rattle.basicthresholder.specs.declared.BasicThresholder.{BasicThresholder}
 use Rattle.predictorcorrector.specs.declared.PredictorCorrector.{PredictorCorrector}
 use Rattle.layout.specs.Places.{stateLength}
-use Rattle.layout.specs.Chain.{decodeState, encodeStateOver}
+use Rattle.layout.specs.Chain.{stateCodesOk, decodeState, encodeStateOver}
 
--- The smallest refusal of a reading that the bytes xs meet: its sizes, as far as the state can be read; lengths, of which the caller tests the others; counts.
+-- The smallest refusal of a reading that the bytes xs meet: their yes/no bytes, and its sizes, as far as the state can be read; lengths, of which the caller tests the
+-- others; counts.
 unfoldable pub readingAnswer : List ℕ → Reading → Bool → Answer
 readingAnswer xs r lengths =
-    cond (eqb (length xs) stateLength)
+    cond (stateCodesOk xs)
+    (cond (eqb (length xs) stateLength)
     (cond (rangeOk (r .«shingle_size») (r .«base_dimension») (decodeState xs .«base_dimension»))
     (cond lengths (cond (stateCountsOk (decodeState xs)) Done (Refused Count)) (Refused Length))
     (Refused Range))
-    (cond (sizesOk (r .«shingle_size») (r .«base_dimension»)) (Refused Length) (Refused Range))
+    (cond (sizesOk (r .«shingle_size») (r .«base_dimension»)) (Refused Length) (Refused Range)))
+    (Refused Range)
 
--- The candidate branch's two rows are as long as the base.
+-- The candidate branch's two rows have at least as many numbers as the base.
 unfoldable pub rowsFit : Reading → (newest expected : ℕ) → Bool
 rowsFit r newest expected = leb (r .«base_dimension») newest && leb (r .«base_dimension») expected
 
@@ -44,22 +47,24 @@ storedRun xs = cond (eqb (length xs) stateLength) (decodeState xs .«run_length�
 unfoldable pub runAfter : Bool → ℕ → ℕ
 runAfter grows run = cond grows (longerRun run) run
 
-module _ (s : PredictorCorrector) (r : Reading) (l : LastDescriptor) (corrected : Float) where
-  abbrev pub scores : PredictorCorrector
-  scores = withThresholder s (updateScore (s .«basic_thresholder») (r .«scoring_strategy») (r .score) corrected (l .«scoring_strategy») (l .score))
+-- The thresholder of s with a reading's scores entered, `corrected` being the corrected point's.
+abbrev pub scored : PredictorCorrector → Reading → LastDescriptor → (corrected : Float) → BasicThresholder
+scored s r l corrected = updateScore (s .«basic_thresholder») (r .«scoring_strategy») (r .score) corrected (l .«scoring_strategy») (l .score)
 
+-- What a reading leaves of a state s, t being that thresholder.
+module _ (s : PredictorCorrector) (t : BasicThresholder) where
   abbrev pub entered : Bool → PredictorCorrector
-  entered grows = withRun scores (runAfter grows (s .«run_length»)) (s .«deviations_actual») (s .«deviations_expected»)
+  entered grows = withRun (withThresholder s t) (runAfter grows (s .«run_length»)) (s .«deviations_actual») (s .«deviations_expected»)
 
   abbrev pub ended : PredictorCorrector
-  ended = runEnded scores
+  ended = runEnded (withThresholder s t)
 
   abbrev pub adjusted : List Float → PredictorCorrector
-  adjusted point = autoAdjusted scores point
+  adjusted point = autoAdjusted (withThresholder s t) point
 
   abbrev pub counted : Bool → List Float → List Float → PredictorCorrector
   counted grows newest expected = candidateCounted (entered grows) newest expected
 
--- What a setter leaves: another thresholder. (The run is the one that stands there.)
+-- What a setter leaves: another thresholder, and the run that it hands on.
 abbrev pub kept : PredictorCorrector → BasicThresholder → ℕ → PredictorCorrector
 kept s t run = state t (s .«auto_adjust») run (s .«base_dimension») (s .«deviations_actual») (s .«deviations_expected»)

@@ -16,12 +16,11 @@ use Rattle.deviation.specs.declared.Deviation.{Deviation}
 use Rattle.basicthresholder.specs.Const.{two32}
 use Rattle.basicthresholder.specs.Updates.{withCounted, countedOver}
 use Rattle.basicthresholder.specs.declared.BasicThresholder.{BasicThresholder}
-use Rattle.descriptor.specs.declared.Reading.{Reading}
-use Rattle.descriptor.specs.declared.LastDescriptor.{LastDescriptor}
 use Rattle.predictorcorrector.specs.State.{state, updateScore, stateCountsOk}
+use Rattle.predictorcorrector.specs.declared.PredictorCorrector.{PredictorCorrector}
 use Rattle.layout.specs.Places.{deviationLength, stateLength, baseDimensionAt}
 use Rattle.layout.specs.Numbers.{le4, f32Bytes, f64Bytes}
-use Rattle.layout.specs.States.{deviationAt, decodeThresholder}
+use Rattle.layout.specs.States.{deviationAt}
 use Rattle.layout.specs.Chain.{listAt, listOver, encodeHead, decodeState}
 
 -- Two floats, one behind the other.
@@ -52,9 +51,9 @@ pub record Taking (xs : List ℕ) : Type 0 where
   pub few : le4 xs baseDimensionAt ≤ 16
   pub counts : stateCountsOk (decodeState xs) ≡ true
 
--- The stored thresholder with a reading's scores entered.
-abbrev pub entering : List ℕ → Reading → LastDescriptor → Float → BasicThresholder
-entering xs r l corrected = updateScore (decodeThresholder xs) (r .«scoring_strategy») (r .score) corrected (l .«scoring_strategy») (l .score)
+-- The thresholder of a state with a reading's scores entered: `last` is the last descriptor's.
+abbrev pub entering : PredictorCorrector → ScoringStrategy → (score corrected : Float) → ScoringStrategy → (last : Float) → BasicThresholder
+entering s strategy score corrected lastStrategy last = updateScore (s .«basic_thresholder») strategy score corrected lastStrategy last
 
 -- The same by its parts: the score that the primary statistic counts, the last score, and the secondary statistic.
 unfoldable pub primaryScore : ScoringStrategy → Float → Float

@@ -16,7 +16,7 @@ use Rattle.types.specs.declared.MethodCode.the-variants.{Known, Refused}
 use Rattle.descriptor.specs.declared.Reading.{Reading}
 use Rattle.descriptor.specs.declared.LastAnomaly.{LastAnomaly}
 use Rattle.descriptor.specs.declared.LastDescriptor.{LastDescriptor}
-use Rattle.layout.specs.Places.{readingLength, strategyAt, methodAt, timeAugmentedAt, lastLength, lastStrategyAt, hasAnomalyAt, hasAttributionAt}
+use Rattle.layout.specs.Places.{readingLength, shingleSizeAt, readingBaseAt, strategyAt, methodAt, timeAugmentedAt, valuesSeenAt, scoreAt, correctedScoreAt, lastLength, lastStrategyAt, lastDescriptorScoreAt, lastThresholdAt, hasAnomalyAt, anomalyIndexAt, anomalySeenAt, hasAttributionAt, anomalyScoreAt}
 use Rattle.layout.specs.Numbers.{le4, f32At, i32At, flagAt, f32Bytes, i32Bytes}
 use Rattle.layout.specs.States.{joined}
 
@@ -30,29 +30,29 @@ methodFrom (Refused why) = Method.NONE
 
 unfoldable pub decodeReading : List ℕ → Reading
 decodeReading xs = record {
-  «shingle_size» = le4 xs 0;
-  «base_dimension» = le4 xs 4;
+  «shingle_size» = le4 xs shingleSizeAt;
+  «base_dimension» = le4 xs readingBaseAt;
   «scoring_strategy» = strategyFrom (getD xs strategyAt 0);
   «transform_method» = methodFrom (methodOf (getD xs methodAt 0));
   «time_augmented» = flagAt xs timeAugmentedAt;
-  «values_seen» = le4 xs 11;
-  score = f32At xs 15;
-  «corrected_score» = f32At xs 19;
+  «values_seen» = le4 xs valuesSeenAt;
+  score = f32At xs scoreAt;
+  «corrected_score» = f32At xs correctedScoreAt;
 }
 
 unfoldable pub decodeAnomaly : List ℕ → LastAnomaly
 decodeAnomaly xs = record {
-  «relative_index» = i32At xs 10;
-  «values_seen» = le4 xs 14;
+  «relative_index» = i32At xs anomalyIndexAt;
+  «values_seen» = le4 xs anomalySeenAt;
   «has_attribution» = flagAt xs hasAttributionAt;
-  score = f32At xs 19;
+  score = f32At xs anomalyScoreAt;
 }
 
 unfoldable pub decodeLast : List ℕ → LastDescriptor
 decodeLast xs = record {
   «scoring_strategy» = strategyFrom (getD xs lastStrategyAt 0);
-  score = f32At xs 1;
-  threshold = f32At xs 5;
+  score = f32At xs lastDescriptorScoreAt;
+  threshold = f32At xs lastThresholdAt;
   «has_anomaly» = flagAt xs hasAnomalyAt;
   anomaly = decodeAnomaly xs;
 }

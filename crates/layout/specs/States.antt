@@ -8,7 +8,7 @@ use Rattle.types.specs.declared.Refusal.the-variants.{Range, Length}
 use Rattle.deviation.specs.declared.Deviation.{Deviation}
 use Rattle.basicthresholder.specs.declared.BasicThresholder.{BasicThresholder}
 use Rattle.basicthresholder.specs.declared.Graded.{Graded}
-use Rattle.layout.specs.Places.{deviationLength, thresholderLength, autoThresholdAt}
+use Rattle.layout.specs.Places.{deviationLength, weightAt, sumSquaredAt, sumAt, deviationCountAt, thresholderLength, elasticityAt, countAt, scoreDifferencingAt, lastScoreAt, primaryAt, secondaryAt, thirdAt, autoThresholdAt, absoluteThresholdAt, absoluteScoreFractionAt, lowerThresholdAt, factorAdjustmentThresholdAt, initialThresholdAt, zFactorAt}
 use Rattle.layout.specs.declared.DeviationRead.{DeviationRead}
 use Rattle.layout.specs.declared.DeviationRead.the-variants as Statistics
 use Rattle.layout.specs.declared.ThresholderRead.{ThresholderRead}
@@ -19,10 +19,10 @@ use Rattle.layout.specs.Numbers.{f32At, f64At, i32At, flagAt, f32Bytes, 
 unfoldable pub deviationAt : List ℕ → ℕ → Deviation
 deviationAt xs i = record {
   discount = f64At xs i;
-  weight = f64At xs (i + 8);
-  «sum_squared» = f64At xs (i + 16);
-  sum = f64At xs (i + 24);
-  count = i32At xs (i + 32);
+  weight = f64At xs (i + weightAt);
+  «sum_squared» = f64At xs (i + sumSquaredAt);
+  sum = f64At xs (i + sumAt);
+  count = i32At xs (i + deviationCountAt);
 }
 
 -- Lists of bytes one after the other.
@@ -38,20 +38,20 @@ decodeDeviation xs = deviationAt xs 0
 
 unfoldable pub decodeThresholder : List ℕ → BasicThresholder
 decodeThresholder xs = record {
-  elasticity = f32At xs 0;
-  count = i32At xs 4;
-  «score_differencing» = f32At xs 8;
-  «last_score» = f32At xs 12;
-  «primary_deviation» = deviationAt xs 16;
-  «secondary_deviation» = deviationAt xs 52;
-  «threshold_deviation» = deviationAt xs 88;
+  elasticity = f32At xs elasticityAt;
+  count = i32At xs countAt;
+  «score_differencing» = f32At xs scoreDifferencingAt;
+  «last_score» = f32At xs lastScoreAt;
+  «primary_deviation» = deviationAt xs primaryAt;
+  «secondary_deviation» = deviationAt xs secondaryAt;
+  «threshold_deviation» = deviationAt xs thirdAt;
   «auto_threshold» = flagAt xs autoThresholdAt;
-  «absolute_threshold» = f32At xs 125;
-  «absolute_score_fraction» = f32At xs 129;
-  «lower_threshold» = f32At xs 133;
-  «factor_adjustment_threshold» = f32At xs 137;
-  «initial_threshold» = f32At xs 141;
-  «z_factor» = f32At xs 145;
+  «absolute_threshold» = f32At xs absoluteThresholdAt;
+  «absolute_score_fraction» = f32At xs absoluteScoreFractionAt;
+  «lower_threshold» = f32At xs lowerThresholdAt;
+  «factor_adjustment_threshold» = f32At xs factorAdjustmentThresholdAt;
+  «initial_threshold» = f32At xs initialThresholdAt;
+  «z_factor» = f32At xs zFactorAt;
 }
 
 unfoldable pub encodeThresholder : BasicThresholder → List ℕ

@@ -15,7 +15,6 @@ use types::TransformMethod;
 use util::minf32;
 ghost use mathlib.Core.Path.{_≡_};
 ghost use mathlib.Core.Bool.{true};
-ghost use mathlib.Core.List.{[], _∷_};
 ghost use lib.Dec.{leb};
 ghost use Prim.Native.Nat.{_+_, _*_, _≤_, _<_};
 ghost use lib.ListN.{length, replicate};
@@ -47,8 +46,23 @@ pub const LAST_LENGTH: usize = 23;
 
 pub const VERDICT_LENGTH: usize = 14;
 
-// Where parts of the state stand. It begins with its thresholder.
+// Where in a statistic, behind its discount, its numbers stand.
+const WEIGHT_AT: usize = 8;
+
+const SUM_SQUARED_AT: usize = 16;
+
+const SUM_AT: usize = 24;
+
+const DEVIATION_COUNT_AT: usize = 32;
+
+// Where in a thresholder. A state begins with one.
+const ELASTICITY_AT: usize = 0;
+
 const COUNT_AT: usize = 4;
+
+const SCORE_DIFFERENCING_AT: usize = 8;
+
+const LAST_SCORE_AT: usize = 12;
 
 const PRIMARY_AT: usize = 16;
 
@@ -58,6 +72,19 @@ const THIRD_AT: usize = 88;
 
 const AUTO_THRESHOLD_AT: usize = 124;
 
+const ABSOLUTE_THRESHOLD_AT: usize = 125;
+
+const ABSOLUTE_SCORE_FRACTION_AT: usize = 129;
+
+const LOWER_THRESHOLD_AT: usize = 133;
+
+const FACTOR_ADJUSTMENT_THRESHOLD_AT: usize = 137;
+
+const INITIAL_THRESHOLD_AT: usize = 141;
+
+const Z_FACTOR_AT: usize = 145;
+
+// Where in a state.
 const AUTO_ADJUST_AT: usize = 149;
 
 const RUN_LENGTH_AT: usize = 150;
@@ -71,18 +98,48 @@ const EXPECTED_AT: usize = 734;
 // The longest run that refusal 6 lets pass.
 const RUN_LIMIT: u32 = 16777215;
 
-// The codes and yes/no bytes of a reading and of the last descriptor.
+// Where in a reading.
+const SHINGLE_SIZE_AT: usize = 0;
+
+const READING_BASE_AT: usize = 4;
+
 const STRATEGY_AT: usize = 8;
 
 const METHOD_AT: usize = 9;
 
 const TIME_AUGMENTED_AT: usize = 10;
 
+const VALUES_SEEN_AT: usize = 11;
+
+const SCORE_AT: usize = 15;
+
+const CORRECTED_SCORE_AT: usize = 19;
+
+// Where in the last descriptor.
 const LAST_STRATEGY_AT: usize = 0;
+
+const LAST_DESCRIPTOR_SCORE_AT: usize = 1;
+
+const LAST_THRESHOLD_AT: usize = 5;
 
 const HAS_ANOMALY_AT: usize = 9;
 
+const ANOMALY_INDEX_AT: usize = 10;
+
+const ANOMALY_SEEN_AT: usize = 14;
+
 const HAS_ATTRIBUTION_AT: usize = 18;
+
+const ANOMALY_SCORE_AT: usize = 19;
+
+// Where in a verdict.
+const KIND_AT: usize = 0;
+
+const MODE_AT: usize = 1;
+
+const THRESHOLD_AT: usize = 2;
+
+const RELATIVE_INDEX_AT: usize = 10;
 
 // A statistic of 36 bytes.
 pub enum DeviationRead {
@@ -208,10 +265,10 @@ fn deviation_at(bytes: &[u8], at: usize) -> Deviation
 {
     Deviation {
         discount: f64_at(bytes, at),
-        weight: f64_at(bytes, at + 8),
-        sum_squared: f64_at(bytes, at + 16),
-        sum: f64_at(bytes, at + 24),
-        count: i32_at(bytes, at + 32),
+        weight: f64_at(bytes, at + WEIGHT_AT),
+        sum_squared: f64_at(bytes, at + SUM_SQUARED_AT),
+        sum: f64_at(bytes, at + SUM_AT),
+        count: i32_at(bytes, at + DEVIATION_COUNT_AT),
     }
 }
 
@@ -223,20 +280,20 @@ fn thresholder_of(bytes: &[u8]) -> BasicThresholder
     let secondary = deviation_at(bytes, SECONDARY_AT);
     let third = deviation_at(bytes, THIRD_AT);
     BasicThresholder {
-        elasticity: f32_at(bytes, 0),
+        elasticity: f32_at(bytes, ELASTICITY_AT),
         count: i32_at(bytes, COUNT_AT),
-        score_differencing: f32_at(bytes, 8),
-        last_score: f32_at(bytes, 12),
+        score_differencing: f32_at(bytes, SCORE_DIFFERENCING_AT),
+        last_score: f32_at(bytes, LAST_SCORE_AT),
         primary_deviation: primary,
         secondary_deviation: secondary,
         threshold_deviation: third,
         auto_threshold: flag_at(bytes, AUTO_THRESHOLD_AT),
-        absolute_threshold: f32_at(bytes, 125),
-        absolute_score_fraction: f32_at(bytes, 129),
-        lower_threshold: f32_at(bytes, 133),
-        factor_adjustment_threshold: f32_at(bytes, 137),
-        initial_threshold: f32_at(bytes, 141),
-        z_factor: f32_at(bytes, 145),
+        absolute_threshold: f32_at(bytes, ABSOLUTE_THRESHOLD_AT),
+        absolute_score_fraction: f32_at(bytes, ABSOLUTE_SCORE_FRACTION_AT),
+        lower_threshold: f32_at(bytes, LOWER_THRESHOLD_AT),
+        factor_adjustment_threshold: f32_at(bytes, FACTOR_ADJUSTMENT_THRESHOLD_AT),
+        initial_threshold: f32_at(bytes, INITIAL_THRESHOLD_AT),
+        z_factor: f32_at(bytes, Z_FACTOR_AT),
     }
 }
 
@@ -309,8 +366,8 @@ fn put_deviation(out: &mut [u8], at: usize, d: Deviation)
     ensures { λ _. ⌜ now (out .exit) ≡ Numbers.pasted (now (out .entry)) at (States.encodeDeviation d) ⌝ }
 {
     put_doubles(out, at, d.discount, d.weight);
-    put_doubles(out, at + 16, d.sum_squared, d.sum);
-    put4(out, at + 32, unsigned(d.count));
+    put_doubles(out, at + SUM_SQUARED_AT, d.sum_squared, d.sum);
+    put4(out, at + DEVIATION_COUNT_AT, unsigned(d.count));
 }
 
 // A thresholder stands first, alone or in the chain's state.
@@ -318,16 +375,31 @@ fn put_thresholder(out: &mut [u8], s: BasicThresholder)
     requires { ⌜ thresholderLength ≤ length (now out) ⌝ }
     ensures { λ _. ⌜ now (out .exit) ≡ Numbers.pasted (now (out .entry)) 0 (States.encodeThresholder s) ⌝ }
 {
-    put4(out, 0, ieee::f32_to_bits(s.elasticity));
+    put4(out, ELASTICITY_AT, ieee::f32_to_bits(s.elasticity));
     put4(out, COUNT_AT, unsigned(s.count));
-    put_singles(out, 8, s.score_differencing, s.last_score);
+    put_singles(
+        out,
+        SCORE_DIFFERENCING_AT,
+        s.score_differencing,
+        s.last_score,
+    );
     put_deviation(out, PRIMARY_AT, s.primary_deviation);
     put_deviation(out, SECONDARY_AT, s.secondary_deviation);
     put_deviation(out, THIRD_AT, s.threshold_deviation);
     out[AUTO_THRESHOLD_AT] = flag_byte(s.auto_threshold);
-    put_singles(out, 125, s.absolute_threshold, s.absolute_score_fraction);
-    put_singles(out, 133, s.lower_threshold, s.factor_adjustment_threshold);
-    put_singles(out, 141, s.initial_threshold, s.z_factor);
+    put_singles(
+        out,
+        ABSOLUTE_THRESHOLD_AT,
+        s.absolute_threshold,
+        s.absolute_score_fraction,
+    );
+    put_singles(
+        out,
+        LOWER_THRESHOLD_AT,
+        s.lower_threshold,
+        s.factor_adjustment_threshold,
+    );
+    put_singles(out, INITIAL_THRESHOLD_AT, s.initial_threshold, s.z_factor);
 }
 
 // Each of these writes a slice of its length, and leaves any other as it is.
@@ -464,7 +536,7 @@ fn counts_at(bytes: &[u8], at: usize, n: usize) -> bool
 {
     let mut i = 0usize;
     while i < n {
-        if deviation::countable(i32_at(bytes, at + DEVIATION_LENGTH * i + 32)) {
+        if deviation::countable(i32_at(bytes, at + DEVIATION_LENGTH * i + DEVIATION_COUNT_AT)) {
             i += 1;
         } else {
             return false;
@@ -479,9 +551,9 @@ fn thresholder_counts_ok(bytes: &[u8]) -> bool
     ensures { λ r. ⌜ r ≡ countsOk (States.decodeThresholder (now (bytes .entry))) ⌝ }
 {
     deviation::countable(i32_at(bytes, COUNT_AT))
-        & (deviation::countable(i32_at(bytes, PRIMARY_AT + 32))
-            & (deviation::countable(i32_at(bytes, SECONDARY_AT + 32))
-                & deviation::countable(i32_at(bytes, THIRD_AT + 32))))
+        & (deviation::countable(i32_at(bytes, PRIMARY_AT + DEVIATION_COUNT_AT))
+            & (deviation::countable(i32_at(bytes, SECONDARY_AT + DEVIATION_COUNT_AT))
+                & deviation::countable(i32_at(bytes, THIRD_AT + DEVIATION_COUNT_AT))))
 }
 
 // Refusal 6's test.
@@ -623,7 +695,7 @@ fn count_list(out: &mut [u8], at: usize, n: usize, row: &[f32])
     }
 }
 
-// The same for a base dimension: at most 16 entries.
+// `settle_list` for a base dimension: at most 16 entries.
 fn settle_row(out: &mut [u8], at: usize, base: usize)
     requires { ⌜ at ≤ expectedAt ⌝ ∗ ⌜ at + listLength ≤ length (now out) ⌝ }
     ensures { λ _. ⌜ now (out .exit) ≡ Parts.rowKeptOver (now (out .entry)) at base ⌝ }
@@ -707,33 +779,39 @@ fn put_scored(out: &mut [u8], primary_score: f64, last_score: f32, secondary: De
     let primary = deviation_at(out, PRIMARY_AT).counted(primary_score);
     let third = basicthresholder::counted_over(deviation_at(out, THIRD_AT), primary, last_score);
     let scored = BasicThresholder {
-        elasticity: f32_at(out, 0),
+        elasticity: f32_at(out, ELASTICITY_AT),
         count: deviation::one_more(i32_at(out, COUNT_AT)),
-        score_differencing: f32_at(out, 8),
+        score_differencing: f32_at(out, SCORE_DIFFERENCING_AT),
         last_score,
         primary_deviation: primary,
         secondary_deviation: secondary,
         threshold_deviation: third,
         auto_threshold: flag_at(out, AUTO_THRESHOLD_AT),
-        absolute_threshold: f32_at(out, 125),
-        absolute_score_fraction: f32_at(out, 129),
-        lower_threshold: f32_at(out, 133),
-        factor_adjustment_threshold: f32_at(out, 137),
-        initial_threshold: f32_at(out, 141),
-        z_factor: f32_at(out, 145),
+        absolute_threshold: f32_at(out, ABSOLUTE_THRESHOLD_AT),
+        absolute_score_fraction: f32_at(out, ABSOLUTE_SCORE_FRACTION_AT),
+        lower_threshold: f32_at(out, LOWER_THRESHOLD_AT),
+        factor_adjustment_threshold: f32_at(out, FACTOR_ADJUSTMENT_THRESHOLD_AT),
+        initial_threshold: f32_at(out, INITIAL_THRESHOLD_AT),
+        z_factor: f32_at(out, Z_FACTOR_AT),
     };
     put_thresholder(out, scored);
 }
 
-// `update_score` in the stored thresholder.
-fn put_scores(out: &mut [u8], r: Reading, l: LastDescriptor, corrected: f32)
+// `update_score` in the stored thresholder, `last` being the last descriptor's score. A reading's numbers are handed on, not its record: a record by value is copied each time.
+fn put_scores(
+    out: &mut [u8],
+    strategy: ScoringStrategy,
+    score: f32,
+    corrected: f32,
+    last_strategy: ScoringStrategy,
+    last: f32,
+)
     requires { ⌜ thresholderLength ≤ length (now out) ⌝ ∗ ⌜ countsOk (States.decodeThresholder (now out)) ≡ true ⌝ }
-    ensures { λ _. ⌜ now (out .exit) ≡ Numbers.pasted (now (out .entry)) 0 (States.encodeThresholder (Parts.entering (now (out .entry)) r l corrected)) ⌝ }
+    ensures { λ _. ⌜ now (out .exit) ≡ Numbers.pasted (now (out .entry)) 0 (States.encodeThresholder (Parts.entering (Chain.decodeState (now (out .entry)))
+        strategy score corrected «last_strategy» last)) ⌝ }
 {
-    let strategy = r.scoring_strategy;
-    let last_strategy = l.scoring_strategy;
-    let primary = primary_score(strategy, r.score);
-    let gap = corrected - predictorcorrector::height_score(last_strategy, l.score);
+    let primary = primary_score(strategy, score);
+    let gap = corrected - predictorcorrector::height_score(last_strategy, last);
     let secondary = second_after(strategy, deviation_at(out, SECONDARY_AT), gap);
     put_scored(
         out,
@@ -746,17 +824,20 @@ fn put_scores(out: &mut [u8], r: Reading, l: LastDescriptor, corrected: f32)
 // What stands before the lists, the scores having entered.
 fn put_entered(
     out: &mut [u8],
-    r: Reading,
-    l: LastDescriptor,
+    strategy: ScoringStrategy,
+    score: f32,
     corrected: f32,
+    last_strategy: ScoringStrategy,
+    last: f32,
     auto_adjust: bool,
     run_length: u32,
     base_dimension: u32,
 )
     requires { ⌜ Parts.Taking (now out) ⌝ }
-    ensures { λ _. ⌜ now (out .exit) ≡ Numbers.pasted (now (out .entry)) 0 (Parts.head (Parts.entering (now (out .entry)) r l corrected) «auto_adjust» «run_length» «base_dimension») ⌝ }
+    ensures { λ _. ⌜ now (out .exit) ≡ Numbers.pasted (now (out .entry)) 0 (Parts.head (Parts.entering (Chain.decodeState (now (out .entry)))
+        strategy score corrected «last_strategy» last) «auto_adjust» «run_length» «base_dimension») ⌝ }
 {
-    put_scores(out, r, l, corrected);
+    put_scores(out, strategy, score, corrected, last_strategy, last);
     out[AUTO_ADJUST_AT] = flag_byte(auto_adjust);
     put4(out, RUN_LENGTH_AT, run_length);
     put4(out, BASE_DIMENSION_AT, base_dimension);
@@ -772,14 +853,33 @@ fn run_after(grows: bool, run_length: u32) -> u32
 }
 
 // The scores enter, and the lists stay.
-fn enter(out: &mut [u8], r: Reading, l: LastDescriptor, corrected: f32, grows: bool)
+fn enter(
+    out: &mut [u8],
+    strategy: ScoringStrategy,
+    score: f32,
+    corrected: f32,
+    last_strategy: ScoringStrategy,
+    last: f32,
+    grows: bool,
+)
     requires { ⌜ Parts.Taking (now out) ⌝ }
-    ensures { λ _. ⌜ now (out .exit) ≡ Chain.encodeStateOver (now (out .entry)) (InPlace.entered (Chain.decodeState (now (out .entry))) r l corrected grows) ⌝ }
+    ensures { λ _. ⌜ now (out .exit) ≡ Chain.encodeStateOver (now (out .entry)) (InPlace.entered (Chain.decodeState (now (out .entry)))
+        (Parts.entering (Chain.decodeState (now (out .entry))) strategy score corrected «last_strategy» last) grows) ⌝ }
 {
     let auto_adjust = flag_at(out, AUTO_ADJUST_AT);
     let base = read4(out, BASE_DIMENSION_AT);
     let run = run_after(grows, read4(out, RUN_LENGTH_AT));
-    put_entered(out, r, l, corrected, auto_adjust, run, base);
+    put_entered(
+        out,
+        strategy,
+        score,
+        corrected,
+        last_strategy,
+        last,
+        auto_adjust,
+        run,
+        base,
+    );
     if auto_adjust {
         settle_list(out, ACTUAL_AT, base as usize);
         settle_list(out, EXPECTED_AT, base as usize);
@@ -787,57 +887,107 @@ fn enter(out: &mut [u8], r: Reading, l: LastDescriptor, corrected: f32, grows: b
 }
 
 // With auto adjust the run ends too, and both lists are reset.
-fn end(out: &mut [u8], r: Reading, l: LastDescriptor, corrected: f32)
+fn end(
+    out: &mut [u8],
+    strategy: ScoringStrategy,
+    score: f32,
+    corrected: f32,
+    last_strategy: ScoringStrategy,
+    last: f32,
+)
     requires { ⌜ Parts.Taking (now out) ⌝ }
-    ensures { λ _. ⌜ now (out .exit) ≡ Chain.encodeStateOver (now (out .entry)) (InPlace.ended (Chain.decodeState (now (out .entry))) r l corrected) ⌝ }
+    ensures { λ _. ⌜ now (out .exit) ≡ Chain.encodeStateOver (now (out .entry)) (InPlace.ended (Chain.decodeState (now (out .entry)))
+        (Parts.entering (Chain.decodeState (now (out .entry))) strategy score corrected «last_strategy» last)) ⌝ }
 {
     let auto_adjust = flag_at(out, AUTO_ADJUST_AT);
     if auto_adjust {
         let base = read4(out, BASE_DIMENSION_AT);
-        put_entered(out, r, l, corrected, auto_adjust, 0, base);
+        put_entered(
+            out,
+            strategy,
+            score,
+            corrected,
+            last_strategy,
+            last,
+            auto_adjust,
+            0,
+            base,
+        );
         reset_list(out, ACTUAL_AT, base as usize);
         reset_list(out, EXPECTED_AT, base as usize);
         return;
     }
-    enter(out, r, l, corrected, false);
+    enter(out, strategy, score, corrected, last_strategy, last, false);
 }
 
 // Within a run with auto adjust the first list counts the oldest row, the first of the point, and the run is one longer.
-fn adjust(out: &mut [u8], r: Reading, l: LastDescriptor, corrected: f32, point: &[f32])
+fn adjust(
+    out: &mut [u8],
+    strategy: ScoringStrategy,
+    score: f32,
+    corrected: f32,
+    last_strategy: ScoringStrategy,
+    last: f32,
+    point: &[f32],
+)
     requires { ⌜ Parts.Taking (now out) ⌝ ∗ ⌜ Numbers.le4 (now out) baseDimensionAt ≤ length (now point) ⌝ }
-    ensures { λ _. ⌜ now (out .exit) ≡ Chain.encodeStateOver (now (out .entry)) (InPlace.adjusted (Chain.decodeState (now (out .entry))) r l corrected (now (point .entry))) ⌝ }
+    ensures { λ _. ⌜ now (out .exit) ≡ Chain.encodeStateOver (now (out .entry)) (InPlace.adjusted (Chain.decodeState (now (out .entry)))
+        (Parts.entering (Chain.decodeState (now (out .entry))) strategy score corrected «last_strategy» last) (now (point .entry))) ⌝ }
 {
     let auto_adjust = flag_at(out, AUTO_ADJUST_AT);
     let run = read4(out, RUN_LENGTH_AT);
     if auto_adjust & (0 < run) {
         let base = read4(out, BASE_DIMENSION_AT);
         let longer = predictorcorrector::longer_run(run);
-        put_entered(out, r, l, corrected, auto_adjust, longer, base);
+        put_entered(
+            out,
+            strategy,
+            score,
+            corrected,
+            last_strategy,
+            last,
+            auto_adjust,
+            longer,
+            base,
+        );
         count_list(out, ACTUAL_AT, base as usize, point);
         settle_list(out, EXPECTED_AT, base as usize);
         return;
     }
-    enter(out, r, l, corrected, false);
+    enter(out, strategy, score, corrected, last_strategy, last, false);
 }
 
 // With auto adjust the lists count the newest rows of the point and of the expected point.
 fn count(
     out: &mut [u8],
-    r: Reading,
-    l: LastDescriptor,
+    strategy: ScoringStrategy,
+    score: f32,
     corrected: f32,
+    last_strategy: ScoringStrategy,
+    last: f32,
     grows: bool,
     newest: &[f32],
     newest_expected: &[f32],
 )
     requires { ⌜ Parts.Taking (now out) ⌝ ∗ ⌜ Numbers.le4 (now out) baseDimensionAt ≤ length (now newest) ⌝ ∗ ⌜ Numbers.le4 (now out) baseDimensionAt ≤ length (now «newest_expected») ⌝ }
-    ensures { λ _. ⌜ now (out .exit) ≡ Chain.encodeStateOver (now (out .entry)) (InPlace.counted (Chain.decodeState (now (out .entry))) r l corrected grows
+    ensures { λ _. ⌜ now (out .exit) ≡ Chain.encodeStateOver (now (out .entry)) (InPlace.counted (Chain.decodeState (now (out .entry)))
+        (Parts.entering (Chain.decodeState (now (out .entry))) strategy score corrected «last_strategy» last) grows
         (now (newest .entry)) (now («newest_expected» .entry))) ⌝ }
 {
     let auto_adjust = flag_at(out, AUTO_ADJUST_AT);
     let base = read4(out, BASE_DIMENSION_AT);
     let run = run_after(grows, read4(out, RUN_LENGTH_AT));
-    put_entered(out, r, l, corrected, auto_adjust, run, base);
+    put_entered(
+        out,
+        strategy,
+        score,
+        corrected,
+        last_strategy,
+        last,
+        auto_adjust,
+        run,
+        base,
+    );
     if auto_adjust {
         count_list(out, ACTUAL_AT, base as usize, newest);
         count_list(out, EXPECTED_AT, base as usize, newest_expected);
@@ -848,24 +998,24 @@ fn count(
 pub fn reading_answer(bytes: &[u8], r: Reading, lengths: bool) -> Answer
     ensures { λ a. ⌜ a ≡ InPlace.readingAnswer (now (bytes .entry)) r lengths ⌝ }
 {
-    if bytes.len() == STATE_LENGTH {
-        if descriptor::range_ok(
-            r.shingle_size,
-            r.base_dimension,
-            size_at(bytes, BASE_DIMENSION_AT),
-        ) {
-            if lengths {
-                if counts_ok_of(bytes) {
-                    return Answer::Done;
+    if state_codes_ok(bytes) {
+        if bytes.len() == STATE_LENGTH {
+            let base = size_at(bytes, BASE_DIMENSION_AT);
+            if descriptor::range_ok(r.shingle_size, r.base_dimension, base) {
+                if lengths {
+                    if counts_ok_of(bytes) {
+                        return Answer::Done;
+                    }
+                    return Answer::Refused(Refusal::Count);
                 }
-                return Answer::Refused(Refusal::Count);
+                return Answer::Refused(Refusal::Length);
             }
+            return Answer::Refused(Refusal::Range);
+        }
+        if descriptor::sizes_ok(r.shingle_size, r.base_dimension) {
             return Answer::Refused(Refusal::Length);
         }
         return Answer::Refused(Refusal::Range);
-    }
-    if descriptor::sizes_ok(r.shingle_size, r.base_dimension) {
-        return Answer::Refused(Refusal::Length);
     }
     Answer::Refused(Refusal::Range)
 }
@@ -890,12 +1040,22 @@ pub fn write_entered(
     grows: bool,
 ) -> Answer
     ensures { λ a. ⌜ a ≡ InPlace.readingAnswer (now (out .entry)) r true ⌝ ∗ ⌜ now (out .exit) ≡ InPlace.storedBy (InPlace.readingAnswer (now (out .entry)) r true)
-        (now (out .entry)) (InPlace.entered (Chain.decodeState (now (out .entry))) r l corrected grows) ⌝ }
+        (now (out .entry)) (InPlace.entered (Chain.decodeState (now (out .entry))) (InPlace.scored (Chain.decodeState (now (out .entry))) r l corrected) grows) ⌝ }
 {
+    let strategy = r.scoring_strategy;
+    let last_strategy = l.scoring_strategy;
     let answer = reading_answer(out, r, true);
     match answer {
         Answer::Done => {
-            enter(out, r, l, corrected, grows);
+            enter(
+                out,
+                strategy,
+                r.score,
+                corrected,
+                last_strategy,
+                l.score,
+                grows,
+            );
             answer
         }
         Answer::Refused(_) => answer,
@@ -904,12 +1064,14 @@ pub fn write_entered(
 
 pub fn write_ended(out: &mut [u8], r: Reading, l: LastDescriptor, corrected: f32) -> Answer
     ensures { λ a. ⌜ a ≡ InPlace.readingAnswer (now (out .entry)) r true ⌝ ∗ ⌜ now (out .exit) ≡ InPlace.storedBy (InPlace.readingAnswer (now (out .entry)) r true)
-        (now (out .entry)) (InPlace.ended (Chain.decodeState (now (out .entry))) r l corrected) ⌝ }
+        (now (out .entry)) (InPlace.ended (Chain.decodeState (now (out .entry))) (InPlace.scored (Chain.decodeState (now (out .entry))) r l corrected)) ⌝ }
 {
+    let strategy = r.scoring_strategy;
+    let last_strategy = l.scoring_strategy;
     let answer = reading_answer(out, r, true);
     match answer {
         Answer::Done => {
-            end(out, r, l, corrected);
+            end(out, strategy, r.score, corrected, last_strategy, l.score);
             answer
         }
         Answer::Refused(_) => answer,
@@ -926,12 +1088,22 @@ pub fn write_adjusted(
 ) -> Answer
     ensures { λ a. ⌜ a ≡ InPlace.readingAnswer (now (out .entry)) r (leb (r .«base_dimension») (length (now (point .entry)))) ⌝
         ∗ ⌜ now (out .exit) ≡ InPlace.storedBy (InPlace.readingAnswer (now (out .entry)) r (leb (r .«base_dimension») (length (now (point .entry)))))
-        (now (out .entry)) (InPlace.adjusted (Chain.decodeState (now (out .entry))) r l corrected (now (point .entry))) ⌝ }
+        (now (out .entry)) (InPlace.adjusted (Chain.decodeState (now (out .entry))) (InPlace.scored (Chain.decodeState (now (out .entry))) r l corrected) (now (point .entry))) ⌝ }
 {
+    let strategy = r.scoring_strategy;
+    let last_strategy = l.scoring_strategy;
     let answer = reading_answer(out, r, r.base_dimension <= point.len());
     match answer {
         Answer::Done => {
-            adjust(out, r, l, corrected, point);
+            adjust(
+                out,
+                strategy,
+                r.score,
+                corrected,
+                last_strategy,
+                l.score,
+                point,
+            );
             answer
         }
         Answer::Refused(_) => answer,
@@ -950,8 +1122,10 @@ pub fn write_counted(
 ) -> Answer
     ensures { λ a. ⌜ a ≡ InPlace.readingAnswer (now (out .entry)) r (InPlace.rowsFit r (length (now (newest .entry))) (length (now («newest_expected» .entry)))) ⌝
         ∗ ⌜ now (out .exit) ≡ InPlace.storedBy (InPlace.readingAnswer (now (out .entry)) r (InPlace.rowsFit r (length (now (newest .entry))) (length (now («newest_expected» .entry)))))
-        (now (out .entry)) (InPlace.counted (Chain.decodeState (now (out .entry))) r l corrected grows (now (newest .entry)) (now («newest_expected» .entry))) ⌝ }
+        (now (out .entry)) (InPlace.counted (Chain.decodeState (now (out .entry))) (InPlace.scored (Chain.decodeState (now (out .entry))) r l corrected) grows (now (newest .entry)) (now («newest_expected» .entry))) ⌝ }
 {
+    let strategy = r.scoring_strategy;
+    let last_strategy = l.scoring_strategy;
     let answer = reading_answer(
         out,
         r,
@@ -959,7 +1133,17 @@ pub fn write_counted(
     );
     match answer {
         Answer::Done => {
-            count(out, r, l, corrected, grows, newest, newest_expected);
+            count(
+                out,
+                strategy,
+                r.score,
+                corrected,
+                last_strategy,
+                l.score,
+                grows,
+                newest,
+                newest_expected,
+            );
             answer
         }
         Answer::Refused(_) => answer,
@@ -1018,14 +1202,14 @@ fn reading_of(bytes: &[u8]) -> Reading
     let strategy = strategy_of(bytes[STRATEGY_AT]);
     let method = method_of(bytes[METHOD_AT]);
     Reading {
-        shingle_size: size_at(bytes, 0),
-        base_dimension: size_at(bytes, 4),
+        shingle_size: size_at(bytes, SHINGLE_SIZE_AT),
+        base_dimension: size_at(bytes, READING_BASE_AT),
         scoring_strategy: strategy,
         transform_method: method,
         time_augmented: flag_at(bytes, TIME_AUGMENTED_AT),
-        values_seen: size_at(bytes, 11),
-        score: f32_at(bytes, 15),
-        corrected_score: f32_at(bytes, 19),
+        values_seen: size_at(bytes, VALUES_SEEN_AT),
+        score: f32_at(bytes, SCORE_AT),
+        corrected_score: f32_at(bytes, CORRECTED_SCORE_AT),
     }
 }
 
@@ -1045,10 +1229,10 @@ fn anomaly_of(bytes: &[u8]) -> LastAnomaly
     ensures { λ r. ⌜ r ≡ Readings.decodeAnomaly (now (bytes .entry)) ⌝ }
 {
     LastAnomaly {
-        relative_index: i32_at(bytes, 10),
-        values_seen: size_at(bytes, 14),
+        relative_index: i32_at(bytes, ANOMALY_INDEX_AT),
+        values_seen: size_at(bytes, ANOMALY_SEEN_AT),
         has_attribution: flag_at(bytes, HAS_ATTRIBUTION_AT),
-        score: f32_at(bytes, 19),
+        score: f32_at(bytes, ANOMALY_SCORE_AT),
     }
 }
 
@@ -1060,8 +1244,8 @@ fn last_of(bytes: &[u8]) -> LastDescriptor
     let anomaly = anomaly_of(bytes);
     LastDescriptor {
         scoring_strategy: strategy,
-        score: f32_at(bytes, 1),
-        threshold: f32_at(bytes, 5),
+        score: f32_at(bytes, LAST_DESCRIPTOR_SCORE_AT),
+        threshold: f32_at(bytes, LAST_THRESHOLD_AT),
         has_anomaly: flag_at(bytes, HAS_ANOMALY_AT),
         anomaly,
     }
@@ -1091,8 +1275,8 @@ fn sizes_fit(state: &[u8], reading: &[u8]) -> bool
     ensures { λ r. ⌜ r ≡ Call.sizesFit (now (state .entry)) (now (reading .entry)) ⌝ }
 {
     if reading.len() == READING_LENGTH {
-        let shingle_size = size_at(reading, 0);
-        let base = size_at(reading, 4);
+        let shingle_size = size_at(reading, SHINGLE_SIZE_AT);
+        let base = size_at(reading, READING_BASE_AT);
         if state.len() == STATE_LENGTH {
             return descriptor::range_ok(shingle_size, base, size_at(state, BASE_DIMENSION_AT));
         }
@@ -1135,9 +1319,9 @@ pub fn write_verdict(
     ensures { λ _. ⌜ now (out .exit) ≡ Numbers.writtenOf verdictLength (now (out .entry)) (Readings.verdictBytes kind mode threshold grade «relative_index») ⌝ }
 {
     if out.len() == VERDICT_LENGTH {
-        out[0] = kind;
-        out[1] = mode;
-        put_singles(out, 2, threshold, grade);
-        put4(out, 10, unsigned(relative_index));
+        out[KIND_AT] = kind;
+        out[MODE_AT] = mode;
+        put_singles(out, THRESHOLD_AT, threshold, grade);
+        put4(out, RELATIVE_INDEX_AT, unsigned(relative_index));
     }
 }

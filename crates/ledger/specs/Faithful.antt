@@ -11,7 +11,7 @@ use Rattle.basicthresholder.specs.Const.{zero32}
 use Rattle.basicthresholder.specs.declared.BasicThresholder.{BasicThresholder}
 use Rattle.basicthresholder.specs.Grades.{threshold, primaryGrade, primaryThresholdAndGrade}
 use Rattle.basicthresholder.specs.Updates.{freshThresholder, primaryCounted}
-use Rattle.ledger.specs.Fractions.{Fraction, over, times, dividedBy, Le, fractionOf, plusZero}
+use Rattle.ledger.specs.Fractions.{Fraction, times, dividedBy, Le, fractionOf, plusZero}
 use Rattle.ledger.specs.Ledger.{Ledger, blank, enter, mean, Under, At, Over, AtOrUnder, AtOrOver}
 use Rattle.ledger.specs.Statement.{mostReadings, Told, Shown, Demand3, accepted, Sizes, Judge, showed}
 use Rattle.ledger.specs.Theorem.{Laws}

@@ -27,7 +27,7 @@ firstCountable zero ds = true
 firstCountable (suc n) [] = true
 firstCountable (suc n) (d ∷ ds) = countable (d .count) && firstCountable n ds
 
--- The first n statistics can count a row: there are as many of both, and each takes an update.
+-- The first n statistics can count a row: there are at least as many numbers, and each statistic takes an update.
 unfoldable pub rowFits : ℕ → List Deviation → List Float → Bool
 rowFits n ds row = leb n 16 && (leb n (length row) && firstCountable n ds)
 

@@ -1,9 +1,9 @@
 -- predictorcorrector.rs: the state, its construction and setters, and what a reading does to it. One definition for each, in the Rust's shape.
-use Prim.Native.Nat.{ℕ, _+_, _-_}
-use mathlib.Core.Bool.{Bool, true, false, cond, _&&_}
-use mathlib.Core.List.{List, [], _∷_}
+use Prim.Native.Nat.{ℕ, _+_}
+use mathlib.Core.Bool.{Bool, false, cond, _&&_}
+use mathlib.Core.List.{List}
 use lib.Dec.{leb, ltb}
-use lib.ListN.{drop, length, replicate}
+use lib.ListN.{replicate}
 use lib.Ieee.{Float}
 use Rattle.types.specs.declared.Refusal.the-variants.{Discount, Range}
 use Rattle.types.specs.declared.Answer.{Answer}

@@ -23,7 +23,7 @@ use Rattle.predictorcorrector.specs.declared.PredictorCorrector.{PredictorCorre
 unfoldable pub gapOf : ℕ → Bool → ℕ → ℕ
 gapOf seen hasAnomaly lastSeen = seen - cond hasAnomaly lastSeen 0
 
--- The last anomaly is still in the shingle.
+-- The last anomaly is still in the shingle. The Rust asks for a gap above 0 besides, which every accepted reading has.
 unfoldable pub isRecent : Bool → ℕ → ℕ → Bool
 isRecent hasAnomaly gap shingle = hasAnomaly && leb gap shingle
 

@@ -1,4 +1,4 @@
--- The chain's state comes back from its bytes, put over any 1310. Assumes nothing.
+-- The chain's state comes back from its bytes, put over any 1,310. Assumes nothing.
 use mathlib.Core.Path.{_≡_, refl, sym, ap, ap₂, _∙_}
 use mathlib.Core.Bool.{Bool, true, false, cond}
 use mathlib.Core.List.{List, [], _∷_, _++_}
@@ -15,6 +15,7 @@ use Rattle.deviation.specs.declared.Deviation.{Deviation}
 use Rattle.basicthresholder.specs.declared.BasicThresholder.{BasicThresholder}
 use Rattle.predictorcorrector.specs.State.{state}
 use Rattle.predictorcorrector.specs.declared.PredictorCorrector.{PredictorCorrector}
+use Rattle.layout.specs.Places.{deviationLength, thresholderLength, stateLength, autoAdjustAt, runLengthAt, baseDimensionAt, actualAt, expectedAt}
 use Rattle.layout.specs.Numbers.{le4, le8, bytes4, bytes8, f32At, f64At, i32At, flagAt, f32Bytes, f64Bytes, i32Bytes, flagBytes, pasted}
 use Rattle.layout.specs.States.{joined, deviationAt, encodeDeviation, decodeThresholder, encodeThresholder}
 use Rattle.layout.specs.Chain.{entries, filled, emptyList, listAt, decodeState, listOver, encodeHead, encodeStateOver}
@@ -35,53 +36,53 @@ entries-most true base = go (leb base 16) (leb→le base 16)
 
 -- ---- a list put down
 module _ (xs : List ℕ) (at : ℕ) (ds : List Deviation) where
-  pub over-length : (n : ℕ) → at + 36 * n ≤ length xs → length (listOver xs at ds n) ≡ length xs
+  pub over-length : (n : ℕ) → at + deviationLength * n ≤ length xs → length (listOver xs at ds n) ≡ length xs
   unfolding listOver
   over-length zero h = refl
   over-length (suc n) h =
       let l = over-length n (omega arith) in
       let d = deviation-length (getD ds n (fresh zero64)) in
-      pasted-length (listOver xs at ds n) (at + 36 * n) (encodeDeviation (getD ds n (fresh zero64))) (omega arith) ∙ l
+      pasted-length (listOver xs at ds n) (at + deviationLength * n) (encodeDeviation (getD ds n (fresh zero64))) (omega arith) ∙ l
 
-  pub over-before : (n : ℕ) → at + 36 * n ≤ length xs → (i m : ℕ) → i + m ≤ at → Alike (listOver xs at ds n) i xs i m
+  pub over-before : (n : ℕ) → at + deviationLength * n ≤ length xs → (i m : ℕ) → i + m ≤ at → Alike (listOver xs at ds n) i xs i m
   unfolding listOver
   over-before zero h i m b = record { at = λ (k : ℕ) (l : k < m). refl }
   over-before (suc n) h i m b =
       let l = over-length n (omega arith) in
-      then (before (listOver xs at ds n) (at + 36 * n) (encodeDeviation (getD ds n (fresh zero64))) (omega arith) i m (omega arith)) (over-before n (omega arith) i m b)
+      then (before (listOver xs at ds n) (at + deviationLength * n) (encodeDeviation (getD ds n (fresh zero64))) (omega arith) i m (omega arith)) (over-before n (omega arith) i m b)
 
-  pub over-behind : (n : ℕ) → at + 36 * n ≤ length xs → (i m : ℕ) → at + 36 * n ≤ i → Alike (listOver xs at ds n) i xs i m
+  pub over-behind : (n : ℕ) → at + deviationLength * n ≤ length xs → (i m : ℕ) → at + deviationLength * n ≤ i → Alike (listOver xs at ds n) i xs i m
   unfolding listOver
   over-behind zero h i m b = record { at = λ (k : ℕ) (l : k < m). refl }
   over-behind (suc n) h i m b =
       let l = over-length n (omega arith) in
       let d = deviation-length (getD ds n (fresh zero64)) in
-      then (behind (listOver xs at ds n) (at + 36 * n) (encodeDeviation (getD ds n (fresh zero64))) (omega arith) i m (omega arith)) (over-behind n (omega arith) i m (omega arith))
+      then (behind (listOver xs at ds n) (at + deviationLength * n) (encodeDeviation (getD ds n (fresh zero64))) (omega arith) i m (omega arith)) (over-behind n (omega arith) i m (omega arith))
 
-  over-entry : (n : ℕ) → at + 36 * n ≤ length xs → (k : ℕ) → k < n → Alike (listOver xs at ds n) (at + 36 * k) (encodeDeviation (getD ds k (fresh zero64))) 0 36
+  over-entry : (n : ℕ) → at + deviationLength * n ≤ length xs → (k : ℕ) → k < n → Alike (listOver xs at ds n) (at + deviationLength * k) (encodeDeviation (getD ds k (fresh zero64))) 0 36
   unfolding listOver
   over-entry zero h k b = absurd (not-suc-le-zero b)
   over-entry (suc n) h k b = go (λ (l : k < n). over-entry n (omega arith) k l) (decLt k n)
     where
       whole : List ℕ
-      whole = pasted (listOver xs at ds n) (at + 36 * n) (encodeDeviation (getD ds n (fresh zero64)))
+      whole = pasted (listOver xs at ds n) (at + deviationLength * n) (encodeDeviation (getD ds n (fresh zero64)))
 
       size : length (listOver xs at ds n) ≡ length xs
       size = over-length n (omega arith)
 
-      newest : Alike whole (at + 36 * n) (encodeDeviation (getD ds n (fresh zero64))) 0 36
+      newest : Alike whole (at + deviationLength * n) (encodeDeviation (getD ds n (fresh zero64))) 0 36
       newest =
           let d = deviation-length (getD ds n (fresh zero64)) in
-          front (put (listOver xs at ds n) (at + 36 * n) (encodeDeviation (getD ds n (fresh zero64))) (omega (arith, size))) 36 (omega arith)
+          front (put (listOver xs at ds n) (at + deviationLength * n) (encodeDeviation (getD ds n (fresh zero64))) (omega (arith, size))) 36 (omega arith)
 
-      go : (k < n → Alike (listOver xs at ds n) (at + 36 * k) (encodeDeviation (getD ds k (fresh zero64))) 0 36) → Dec (k < n) → Alike whole (at + 36 * k) (encodeDeviation (getD ds k (fresh zero64))) 0 36
+      go : (k < n → Alike (listOver xs at ds n) (at + deviationLength * k) (encodeDeviation (getD ds k (fresh zero64))) 0 36) → Dec (k < n) → Alike whole (at + deviationLength * k) (encodeDeviation (getD ds k (fresh zero64))) 0 36
       go f (yes l) =
-          then (before (listOver xs at ds n) (at + 36 * n) (encodeDeviation (getD ds n (fresh zero64))) (omega (arith, size)) (at + 36 * k) 36 (omega arith)) (f l)
+          then (before (listOver xs at ds n) (at + deviationLength * n) (encodeDeviation (getD ds n (fresh zero64))) (omega (arith, size)) (at + deviationLength * k) 36 (omega arith)) (f l)
       go f (no l) =
           let e : k ≡ n = omega arith in
           rw e newest
 
-  pub over-back : (n : ℕ) → at + 36 * n ≤ length xs → (k : ℕ) → k < n → DeviationFits (getD ds k (fresh zero64)) → deviationAt (listOver xs at ds n) (at + 36 * k) ≡ getD ds k (fresh zero64)
+  pub over-back : (n : ℕ) → at + deviationLength * n ≤ length xs → (k : ℕ) → k < n → DeviationFits (getD ds k (fresh zero64)) → deviationAt (listOver xs at ds n) (at + deviationLength * k) ≡ getD ds k (fresh zero64)
   over-back n h k b f = deviation-alike (over-entry n h k b) ∙ deviation-back (getD ds k (fresh zero64)) f
 
 -- ---- a list read
@@ -125,23 +126,23 @@ list-is f n ds m l held rest =
         filled-other f n none k (fresh zero64) (omega arith) ∙ getD-replicate {A = Deviation} 16 k (fresh zero64) (fresh zero64) b ∙ sym (rest k (omega arith))
 
 -- ---- a state put down
-pub head-length : (s : PredictorCorrector) → length (encodeHead s) ≡ 158
+pub head-length : (s : PredictorCorrector) → length (encodeHead s) ≡ actualAt
 unfolding encodeHead encodeThresholder encodeDeviation joined f32Bytes f64Bytes i32Bytes flagBytes bytes8 bytes4
 head-length s = refl
 
-head-auto : (s : PredictorCorrector) → flagAt (encodeHead s) 149 ≡ s .«auto_adjust»
+head-auto : (s : PredictorCorrector) → flagAt (encodeHead s) autoAdjustAt ≡ s .«auto_adjust»
 unfolding encodeHead encodeThresholder encodeDeviation joined f32Bytes f64Bytes i32Bytes flagBytes bytes8 bytes4 flagAt
 head-auto s = flag-back (s .«auto_adjust»)
 
-head-run : (s : PredictorCorrector) → s .«run_length» < 0x1_0000_0000 → le4 (encodeHead s) 150 ≡ s .«run_length»
+head-run : (s : PredictorCorrector) → s .«run_length» < 0x1_0000_0000 → le4 (encodeHead s) runLengthAt ≡ s .«run_length»
 unfolding encodeHead encodeThresholder encodeDeviation joined f32Bytes f64Bytes i32Bytes flagBytes bytes8 bytes4 le4
 head-run s h = le4-back (s .«run_length») h
 
-head-base : (s : PredictorCorrector) → s .«base_dimension» < 0x1_0000_0000 → le4 (encodeHead s) 154 ≡ s .«base_dimension»
+head-base : (s : PredictorCorrector) → s .«base_dimension» < 0x1_0000_0000 → le4 (encodeHead s) baseDimensionAt ≡ s .«base_dimension»
 unfolding encodeHead encodeThresholder encodeDeviation joined f32Bytes f64Bytes i32Bytes flagBytes bytes8 bytes4 le4
 head-base s h = le4-back (s .«base_dimension») h
 
-module _ (xs : List ℕ) (s : PredictorCorrector) (size : length xs ≡ 1310) where
+module _ (xs : List ℕ) (s : PredictorCorrector) (size : length xs ≡ stateLength) where
   abbrev pub n : ℕ
   n = entries (s .«auto_adjust») (s .«base_dimension»)
 
@@ -151,36 +152,36 @@ module _ (xs : List ℕ) (s : PredictorCorrector) (size : length xs ≡ 1310) wh
   abbrev head : List ℕ
   head = pasted xs 0 (encodeHead s)
 
-  head-size : length head ≡ 1310
+  head-size : length head ≡ stateLength
   head-size = pasted-length xs 0 (encodeHead s) (omega (arith, head-length s)) ∙ size
 
   abbrev one : List ℕ
-  one = listOver head 158 (s .«deviations_actual») n
+  one = listOver head actualAt (s .«deviations_actual») n
 
-  one-size : length one ≡ 1310
-  one-size = over-length head 158 (s .«deviations_actual») n (omega (arith, head-size, few)) ∙ head-size
+  one-size : length one ≡ stateLength
+  one-size = over-length head actualAt (s .«deviations_actual») n (omega (arith, head-size, few)) ∙ head-size
 
-  pub state-length : length (encodeStateOver xs s) ≡ 1310
+  pub state-length : length (encodeStateOver xs s) ≡ stateLength
   unfolding encodeStateOver
-  state-length = over-length one 734 (s .«deviations_expected») n (omega (arith, one-size, few)) ∙ one-size
+  state-length = over-length one expectedAt (s .«deviations_expected») n (omega (arith, one-size, few)) ∙ one-size
 
   -- Its parts: what stands before the lists, the two lists, and what stays.
-  pub head-put : Alike (encodeStateOver xs s) 0 (encodeHead s) 0 158
+  pub head-put : Alike (encodeStateOver xs s) 0 (encodeHead s) 0 actualAt
   unfolding encodeStateOver
   head-put =
-      then (over-before one 734 (s .«deviations_expected») n (omega (arith, one-size, few)) 0 158 (omega arith))
-      (then (over-before head 158 (s .«deviations_actual») n (omega (arith, head-size, few)) 0 158 (omega arith))
-      (front (put xs 0 (encodeHead s) (omega arith)) 158 (omega (arith, head-length s))))
+      then (over-before one expectedAt (s .«deviations_expected») n (omega (arith, one-size, few)) 0 actualAt (omega arith))
+      (then (over-before head actualAt (s .«deviations_actual») n (omega (arith, head-size, few)) 0 actualAt (omega arith))
+      (front (put xs 0 (encodeHead s) (omega arith)) actualAt (omega (arith, head-length s))))
 
-  pub actual-put : (k : ℕ) → k < n → Alike (encodeStateOver xs s) (158 + 36 * k) (encodeDeviation (getD (s .«deviations_actual») k (fresh zero64))) 0 36
+  pub actual-put : (k : ℕ) → k < n → Alike (encodeStateOver xs s) (actualAt + deviationLength * k) (encodeDeviation (getD (s .«deviations_actual») k (fresh zero64))) 0 36
   unfolding encodeStateOver
   actual-put k h =
-      then (over-before one 734 (s .«deviations_expected») n (omega (arith, one-size, few)) (158 + 36 * k) 36 (omega (arith, few)))
-      (over-entry head 158 (s .«deviations_actual») n (omega (arith, head-size, few)) k h)
+      then (over-before one expectedAt (s .«deviations_expected») n (omega (arith, one-size, few)) (actualAt + deviationLength * k) 36 (omega (arith, few)))
+      (over-entry head actualAt (s .«deviations_actual») n (omega (arith, head-size, few)) k h)
 
-  pub expected-put : (k : ℕ) → k < n → Alike (encodeStateOver xs s) (734 + 36 * k) (encodeDeviation (getD (s .«deviations_expected») k (fresh zero64))) 0 36
+  pub expected-put : (k : ℕ) → k < n → Alike (encodeStateOver xs s) (expectedAt + deviationLength * k) (encodeDeviation (getD (s .«deviations_expected») k (fresh zero64))) 0 36
   unfolding encodeStateOver
-  expected-put k h = over-entry one 734 (s .«deviations_expected») n (omega (arith, one-size, few)) k h
+  expected-put k h = over-entry one expectedAt (s .«deviations_expected») n (omega (arith, one-size, few)) k h
 
   -- ---- what is read from it
   pub thresholder-read : ThresholderFits (s .«basic_thresholder») → decodeThresholder (encodeStateOver xs s) ≡ s .«basic_thresholder»
@@ -188,26 +189,26 @@ module _ (xs : List ℕ) (s : PredictorCorrector) (size : length xs ≡ 1310) wh
   thresholder-read f =
       let t = encodeThresholder (s .«basic_thresholder») in
       thresholder-alike (encodeStateOver xs s) t
-      (then (front head-put 149 (omega arith)) (front (joined-front t _) 149 (omega (arith, thresholder-length (s .«basic_thresholder»)))))
+      (then (front head-put thresholderLength (omega arith)) (front (joined-front t _) thresholderLength (omega (arith, thresholder-length (s .«basic_thresholder»)))))
       ∙ thresholder-back (s .«basic_thresholder») f
 
-  pub auto-read : flagAt (encodeStateOver xs s) 149 ≡ s .«auto_adjust»
-  auto-read = flag-alike (part head-put 149 1 (omega arith)) ∙ head-auto s
+  pub auto-read : flagAt (encodeStateOver xs s) autoAdjustAt ≡ s .«auto_adjust»
+  auto-read = flag-alike (part head-put autoAdjustAt 1 (omega arith)) ∙ head-auto s
 
-  pub run-read : s .«run_length» < 0x1_0000_0000 → le4 (encodeStateOver xs s) 150 ≡ s .«run_length»
-  run-read h = le4-alike (part head-put 150 4 (omega arith)) ∙ head-run s h
+  pub run-read : s .«run_length» < 0x1_0000_0000 → le4 (encodeStateOver xs s) runLengthAt ≡ s .«run_length»
+  run-read h = le4-alike (part head-put runLengthAt 4 (omega arith)) ∙ head-run s h
 
-  pub base-read : s .«base_dimension» < 0x1_0000_0000 → le4 (encodeStateOver xs s) 154 ≡ s .«base_dimension»
-  base-read h = le4-alike (part head-put 154 4 (omega arith)) ∙ head-base s h
+  pub base-read : s .«base_dimension» < 0x1_0000_0000 → le4 (encodeStateOver xs s) baseDimensionAt ≡ s .«base_dimension»
+  base-read h = le4-alike (part head-put baseDimensionAt 4 (omega arith)) ∙ head-base s h
 
-  actual-read : ListFits n (s .«deviations_actual») → listAt (encodeStateOver xs s) 158 n ≡ s .«deviations_actual»
+  actual-read : ListFits n (s .«deviations_actual») → listAt (encodeStateOver xs s) actualAt n ≡ s .«deviations_actual»
   unfolding listAt
   actual-read f =
       list-is _ n (s .«deviations_actual») few (f .room)
       (λ (k : ℕ) (h : k < n). deviation-alike (actual-put k h) ∙ deviation-back (getD (s .«deviations_actual») k (fresh zero64)) (f .held k h))
       (f .rest)
 
-  expected-read : ListFits n (s .«deviations_expected») → listAt (encodeStateOver xs s) 734 n ≡ s .«deviations_expected»
+  expected-read : ListFits n (s .«deviations_expected») → listAt (encodeStateOver xs s) expectedAt n ≡ s .«deviations_expected»
   unfolding listAt
   expected-read f =
       list-is _ n (s .«deviations_expected») few (f .room)
@@ -220,8 +221,8 @@ module _ (xs : List ℕ) (s : PredictorCorrector) (size : length xs ≡ 1310) wh
   state-back f =
       let run = run-read (f .run) in
       let base = base-read (f .base) in
-      let many : entries (flagAt (encodeStateOver xs s) 149) (le4 (encodeStateOver xs s) 154) ≡ n = ap₂ entries auto-read base in
-      let actual = ap (listAt (encodeStateOver xs s) 158) many ∙ actual-read (f .actual) in
-      let expected = ap (listAt (encodeStateOver xs s) 734) many ∙ expected-read (f .expected) in
+      let many : entries (flagAt (encodeStateOver xs s) autoAdjustAt) (le4 (encodeStateOver xs s) baseDimensionAt) ≡ n = ap₂ entries auto-read base in
+      let actual = ap (listAt (encodeStateOver xs s) actualAt) many ∙ actual-read (f .actual) in
+      let expected = ap (listAt (encodeStateOver xs s) expectedAt) many ∙ expected-read (f .expected) in
       let thresholder = thresholder-read (f .thresholder) in
       λ i. state (thresholder i) (auto-read i) (run i) (base i) (actual i) (expected i)

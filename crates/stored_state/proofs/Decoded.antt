@@ -20,6 +20,7 @@ use Rattle.basicthresholder.specs.Updates.{countsOk}
 use Rattle.predictorcorrector.specs.Lists.{firstCountable, listCountable}
 use Rattle.predictorcorrector.specs.State.{existing, stateCountsOk}
 use Rattle.predictorcorrector.specs.declared.PredictorCorrector.{PredictorCorrector}
+use Rattle.layout.specs.Places.{deviationLength, weightAt, sumSquaredAt, sumAt, lastScoreAt, primaryAt, secondaryAt, thirdAt, absoluteThresholdAt, absoluteScoreFractionAt, lowerThresholdAt, factorAdjustmentThresholdAt, initialThresholdAt, zFactorAt, stateLength, autoAdjustAt, baseDimensionAt, actualAt, expectedAt}
 use Rattle.layout.specs.Numbers.{le4, le8, signed, f32At, f64At, i32At, flagAt}
 use Rattle.layout.specs.States.{deviationAt, decodeThresholder}
 use Rattle.layout.specs.Chain.{entries, emptyList, listAt, decodeState, encodeStateOver}
@@ -35,16 +36,16 @@ deviation-decoded : (xs : List ℕ) (p : ℕ) → mag (deviationAt xs p .count) 
 unfolding deviationAt f64At
 deviation-decoded xs p h = record {
   discount = ofBits-fits binary64 (le8 xs p);
-  weight = ofBits-fits binary64 (le8 xs (p + 8));
-  squared = ofBits-fits binary64 (le8 xs (p + 16));
-  sum = ofBits-fits binary64 (le8 xs (p + 24));
+  weight = ofBits-fits binary64 (le8 xs (p + weightAt));
+  squared = ofBits-fits binary64 (le8 xs (p + sumSquaredAt));
+  sum = ofBits-fits binary64 (le8 xs (p + sumAt));
   count = h;
 }
 
 module _ (xs : List ℕ) (at n : ℕ) (few : n ≤ 16) where
   room-of : length (listAt xs at n) ≡ 16
   unfolding listAt emptyList
-  room-of = filled-length (λ (k : ℕ). deviationAt xs (at + 36 * k)) n (replicate 16 (fresh zero64))
+  room-of = filled-length (λ (k : ℕ). deviationAt xs (at + deviationLength * k)) n (replicate 16 (fresh zero64))
 
   empty : (k : ℕ) → Dec (k < 16) → getD (replicate 16 (fresh zero64)) k (fresh zero64) ≡ fresh zero64
   empty k (yes h) = getD-replicate {A = Deviation} 16 k (fresh zero64) (fresh zero64) h
@@ -52,41 +53,41 @@ module _ (xs : List ℕ) (at n : ℕ) (few : n ≤ 16) where
 
   rest-of : (k : ℕ) → n ≤ k → getD (listAt xs at n) k (fresh zero64) ≡ fresh zero64
   unfolding listAt emptyList
-  rest-of k h = filled-other (λ (k : ℕ). deviationAt xs (at + 36 * k)) n (replicate 16 (fresh zero64)) k (fresh zero64) h ∙ empty k (decLt k 16)
+  rest-of k h = filled-other (λ (k : ℕ). deviationAt xs (at + deviationLength * k)) n (replicate 16 (fresh zero64)) k (fresh zero64) h ∙ empty k (decLt k 16)
 
   list-decoded : ((k : ℕ) → k < n → mag (getD (listAt xs at n) k (fresh zero64) .count) < 0x8000_0000) → ListFits n (listAt xs at n)
   list-decoded c = record {
     room = room-of;
     held = λ (k : ℕ) (h : k < n).
         let e = held xs at n few k h in
-        subst DeviationFits (sym e) (deviation-decoded xs (at + 36 * k) (subst (λ (d : Deviation). mag (d .count) < 0x8000_0000) e (c k h)));
+        subst DeviationFits (sym e) (deviation-decoded xs (at + deviationLength * k) (subst (λ (d : Deviation). mag (d .count) < 0x8000_0000) e (c k h)));
     rest = rest-of;
   }
 
 pub decoded-fits : (xs : List ℕ) → NumbersFit (decodeState xs) → StateFits (decodeState xs)
 unfolding decodeState decodeThresholder f32At
 decoded-fits xs c =
-    let few = entries-most (flagAt xs 149) (le4 xs 154) in
+    let few = entries-most (flagAt xs autoAdjustAt) (le4 xs baseDimensionAt) in
     record {
       thresholder = record {
         elasticity = ofBits-fits binary32 (le4 xs 0);
         count = c .count;
         differencing = ofBits-fits binary32 (le4 xs 8);
-        last = ofBits-fits binary32 (le4 xs 12);
-        primary = deviation-decoded xs 16 (c .primary);
-        secondary = deviation-decoded xs 52 (c .secondary);
-        third = deviation-decoded xs 88 (c .third);
-        absolute = ofBits-fits binary32 (le4 xs 125);
-        fraction = ofBits-fits binary32 (le4 xs 129);
-        lower = ofBits-fits binary32 (le4 xs 133);
-        adjustment = ofBits-fits binary32 (le4 xs 137);
-        initial = ofBits-fits binary32 (le4 xs 141);
-        factor = ofBits-fits binary32 (le4 xs 145);
+        last = ofBits-fits binary32 (le4 xs lastScoreAt);
+        primary = deviation-decoded xs primaryAt (c .primary);
+        secondary = deviation-decoded xs secondaryAt (c .secondary);
+        third = deviation-decoded xs thirdAt (c .third);
+        absolute = ofBits-fits binary32 (le4 xs absoluteThresholdAt);
+        fraction = ofBits-fits binary32 (le4 xs absoluteScoreFractionAt);
+        lower = ofBits-fits binary32 (le4 xs lowerThresholdAt);
+        adjustment = ofBits-fits binary32 (le4 xs factorAdjustmentThresholdAt);
+        initial = ofBits-fits binary32 (le4 xs initialThresholdAt);
+        factor = ofBits-fits binary32 (le4 xs zFactorAt);
       };
       run = c .run;
       base = c .base;
-      actual = list-decoded xs 158 (entries (flagAt xs 149) (le4 xs 154)) few (c .actual);
-      expected = list-decoded xs 734 (entries (flagAt xs 149) (le4 xs 154)) few (c .expected);
+      actual = list-decoded xs actualAt (entries (flagAt xs autoAdjustAt) (le4 xs baseDimensionAt)) few (c .actual);
+      expected = list-decoded xs expectedAt (entries (flagAt xs autoAdjustAt) (le4 xs baseDimensionAt)) few (c .expected);
     }
 
 -- ---- of bytes
@@ -105,25 +106,25 @@ module _ (xs : List ℕ) (b : (i : ℕ) → getD xs i 0 < 256) where
 
   entry-small : (at n : ℕ) → n ≤ 16 → (k : ℕ) → k < n → mag (getD (listAt xs at n) k (fresh zero64) .count) < 0x8000_0000
   unfolding deviationAt
-  entry-small at n few k h = subst (λ (d : Deviation). mag (d .count) < 0x8000_0000) (sym (held xs at n few k h)) (count-small (at + 36 * k + 32))
+  entry-small at n few k h = subst (λ (d : Deviation). mag (d .count) < 0x8000_0000) (sym (held xs at n few k h)) (count-small (at + deviationLength * k + 32))
 
   pub bytes-numbers : NumbersFit (decodeState xs)
   unfolding decodeState decodeThresholder deviationAt
   bytes-numbers =
-      let few = entries-most (flagAt xs 149) (le4 xs 154) in
+      let few = entries-most (flagAt xs autoAdjustAt) (le4 xs baseDimensionAt) in
       record {
         count = count-small 4;
         primary = count-small 48;
         secondary = count-small 84;
         third = count-small 120;
         run = le4-small xs b 150;
-        base = le4-small xs b 154;
-        actual = entry-small 158 (entries (flagAt xs 149) (le4 xs 154)) few;
-        expected = entry-small 734 (entries (flagAt xs 149) (le4 xs 154)) few;
+        base = le4-small xs b baseDimensionAt;
+        actual = entry-small actualAt (entries (flagAt xs autoAdjustAt) (le4 xs baseDimensionAt)) few;
+        expected = entry-small expectedAt (entries (flagAt xs autoAdjustAt) (le4 xs baseDimensionAt)) few;
       }
 
-  -- A state of 1310 bytes is the state of those in canonical form.
-  pub canonical-same : length xs ≡ 1310 → decodeState (canonical xs) ≡ decodeState xs
+  -- A state of 1,310 bytes is the state of those in canonical form.
+  pub canonical-same : length xs ≡ stateLength → decodeState (canonical xs) ≡ decodeState xs
   canonical-same size = ap decodeState (sym (state-again xs size b)) ∙ state-back xs (decodeState xs) size (decoded-fits xs bytes-numbers)
 
 -- ---- of a state whose counts take an update
@@ -180,8 +181,8 @@ counted-numbers s e h =
 -- ---- the round trip
 pub round-trip : RoundTrip
 round-trip = record {
-  back = λ (xs : List ℕ) (s : PredictorCorrector) (size : length xs ≡ 1310). state-back xs s size;
-  size = λ (xs : List ℕ) (s : PredictorCorrector) (size : length xs ≡ 1310). state-length xs s size;
+  back = λ (xs : List ℕ) (s : PredictorCorrector) (size : length xs ≡ stateLength). state-back xs s size;
+  size = λ (xs : List ℕ) (s : PredictorCorrector) (size : length xs ≡ stateLength). state-length xs s size;
   fits = λ (xs : List ℕ) (h : Stored xs). decoded-fits xs (bytes-numbers xs (h .bytes));
   again = λ (xs : List ℕ) (h : Stored xs). state-again xs (h .size) (h .bytes);
   same = λ (xs : List ℕ) (h : Stored xs). canonical-same xs (h .bytes) (h .size);

@@ -9,6 +9,7 @@ use lib.ListN.{length, getD, length-replicate, replicate, length-append}
 use Rattle.deviation.specs.Const.{zero64}
 use Rattle.deviation.specs.Statistics.{fresh}
 use Rattle.deviation.specs.declared.Deviation.{Deviation}
+use Rattle.layout.specs.Places.{deviationLength, stateLength, autoAdjustAt, baseDimensionAt, actualAt, expectedAt}
 use Rattle.layout.specs.Numbers.{le4, le8, bytes4, bytes8, f32At, f64At, i32At, flagAt, f32Bytes, f64Bytes, i32Bytes, flagBytes, pasted}
 use Rattle.layout.specs.States.{joined, deviationAt, encodeDeviation, decodeThresholder, encodeThresholder}
 use Rattle.layout.specs.Chain.{entries, filled, emptyList, listAt, decodeState, listOver, encodeHead, encodeStateOver}
@@ -68,17 +69,17 @@ module _ (xs : List ℕ) (b : (i : ℕ) → getD xs i 0 < 256) where
       ∙ ap (λ (o : List ℕ). canonicalFields o (p + width f) fs) (field-put cur p f (omega arith) (front w (width f) (omega arith)))
 
   list-put : (cur : List ℕ) (at : ℕ) (ds : List Deviation) (n : ℕ) → ((k : ℕ) → k < n → getD ds k (fresh zero64) ≡ deviationAt xs (at + 36 * k))
-      → at + 36 * n ≤ length cur → Alike cur at xs at (36 * n) → listOver cur at ds n ≡ canonicalList cur at n
+      → at + deviationLength * n ≤ length cur → Alike cur at xs at (deviationLength * n) → listOver cur at ds n ≡ canonicalList cur at n
   unfolding listOver
   list-put cur at ds zero e h w = refl
   list-put cur at ds (suc n) e h w =
       let l = listOver cur at ds n in
       let size : length l ≡ length cur = over-length cur at ds n (omega arith) in
-      let ahead : Alike l (at + 36 * n) xs (at + 36 * n) 36 =
-      then (over-behind cur at ds n (omega arith) (at + 36 * n) 36 (omega arith)) (part w (36 * n) 36 (omega arith)) in
-      ap (λ (d : Deviation). pasted l (at + 36 * n) (encodeDeviation d)) (e n (omega arith))
-      ∙ statistic-put xs b l (at + 36 * n) (omega arith) ahead
-      ∙ ap (λ (o : List ℕ). canonicalStatistic o (at + 36 * n)) (list-put cur at ds n (λ (k : ℕ) (m : k < n). e k (omega arith)) (omega arith) (front w (36 * n) (omega arith)))
+      let ahead : Alike l (at + deviationLength * n) xs (at + deviationLength * n) 36 =
+      then (over-behind cur at ds n (omega arith) (at + deviationLength * n) 36 (omega arith)) (part w (deviationLength * n) 36 (omega arith)) in
+      ap (λ (d : Deviation). pasted l (at + deviationLength * n) (encodeDeviation d)) (e n (omega arith))
+      ∙ statistic-put xs b l (at + deviationLength * n) (omega arith) ahead
+      ∙ ap (λ (o : List ℕ). canonicalStatistic o (at + deviationLength * n)) (list-put cur at ds n (λ (k : ℕ) (m : k < n). e k (omega arith)) (omega arith) (front w (deviationLength * n) (omega arith)))
 
 head-is : (xs : List ℕ) → encodeHead (decodeState xs) ≡ joined (allOf xs 0 headFields)
 unfolding encodeHead decodeState decodeThresholder encodeThresholder encodeDeviation joined f32Bytes f64Bytes i32Bytes flagBytes bytes8 bytes4
@@ -89,24 +90,24 @@ unfolding listAt emptyList
 held xs at n m k h = filled-held (λ (k : ℕ). deviationAt xs (at + 36 * k)) n (replicate 16 (fresh zero64)) k (fresh zero64) m h
 
 -- Encoding over bytes the state decoded from them.
-pub state-again : (xs : List ℕ) → length xs ≡ 1310 → ((i : ℕ) → getD xs i 0 < 256) → encodeStateOver xs (decodeState xs) ≡ canonical xs
+pub state-again : (xs : List ℕ) → length xs ≡ stateLength → ((i : ℕ) → getD xs i 0 < 256) → encodeStateOver xs (decodeState xs) ≡ canonical xs
 unfolding encodeStateOver decodeState canonical
 state-again xs size b =
-    let n = entries (flagAt xs 149) (le4 xs 154) in
-    let few : n ≤ 16 = entries-most (flagAt xs 149) (le4 xs 154) in
+    let n = entries (flagAt xs autoAdjustAt) (le4 xs baseDimensionAt) in
+    let few : n ≤ 16 = entries-most (flagAt xs autoAdjustAt) (le4 xs baseDimensionAt) in
     let head = pasted xs 0 (encodeHead (decodeState xs)) in
-    let long : length (encodeHead (decodeState xs)) ≡ 158 = head-length (decodeState xs) in
-    let head-size : length head ≡ 1310 = pasted-length xs 0 (encodeHead (decodeState xs)) (omega arith) ∙ size in
+    let long : length (encodeHead (decodeState xs)) ≡ actualAt = head-length (decodeState xs) in
+    let head-size : length head ≡ stateLength = pasted-length xs 0 (encodeHead (decodeState xs)) (omega arith) ∙ size in
     let head-canonical : head ≡ canonicalFields xs 0 headFields =
     ap (pasted xs 0) (head-is xs) ∙ sym (pasted-all xs 0 (allOf xs 0 headFields) (omega (arith, all-long xs headFields 0)))
-    ∙ fields-put xs b headFields xs 0 (omega arith) (record { at = λ (k : ℕ) (l : k < 158). refl }) in
-    let rest : (i m : ℕ) → 158 ≤ i → Alike head i xs i m = λ (i m : ℕ) (h : 158 ≤ i). behind xs 0 (encodeHead (decodeState xs)) (omega arith) i m (omega arith) in
-    let one = listOver head 158 (listAt xs 158 n) n in
-    let one-size : length one ≡ 1310 = over-length head 158 (listAt xs 158 n) n (omega arith) ∙ head-size in
-    let one-canonical : one ≡ canonicalList head 158 n = list-put xs b head 158 (listAt xs 158 n) n (held xs 158 n few) (omega arith) (rest 158 (36 * n) (omega arith)) in
-    let further : Alike one 734 xs 734 (36 * n) = then (over-behind head 158 (listAt xs 158 n) n (omega arith) 734 (36 * n) (omega arith)) (rest 734 (36 * n) (omega arith)) in
-    list-put xs b one 734 (listAt xs 734 n) n (held xs 734 n few) (omega arith) further
-    ∙ ap (λ (o : List ℕ). canonicalList o 734 n) (one-canonical ∙ ap (λ (o : List ℕ). canonicalList o 158 n) head-canonical)
+    ∙ fields-put xs b headFields xs 0 (omega arith) (record { at = λ (k : ℕ) (l : k < actualAt). refl }) in
+    let rest : (i m : ℕ) → actualAt ≤ i → Alike head i xs i m = λ (i m : ℕ) (h : actualAt ≤ i). behind xs 0 (encodeHead (decodeState xs)) (omega arith) i m (omega arith) in
+    let one = listOver head actualAt (listAt xs actualAt n) n in
+    let one-size : length one ≡ stateLength = over-length head actualAt (listAt xs actualAt n) n (omega arith) ∙ head-size in
+    let one-canonical : one ≡ canonicalList head actualAt n = list-put xs b head actualAt (listAt xs actualAt n) n (held xs actualAt n few) (omega arith) (rest actualAt (deviationLength * n) (omega arith)) in
+    let further : Alike one expectedAt xs expectedAt (deviationLength * n) = then (over-behind head actualAt (listAt xs actualAt n) n (omega arith) expectedAt (deviationLength * n) (omega arith)) (rest expectedAt (deviationLength * n) (omega arith)) in
+    list-put xs b one expectedAt (listAt xs expectedAt n) n (held xs expectedAt n few) (omega arith) further
+    ∙ ap (λ (o : List ℕ). canonicalList o expectedAt n) (one-canonical ∙ ap (λ (o : List ℕ). canonicalList o actualAt n) head-canonical)
 
 -- ---- nothing to change
 plain-statistic : (xs : List ℕ) (p : ℕ) → PlainStatistic xs p → canonicalStatistic xs p ≡ xs
@@ -126,15 +127,15 @@ plain-all (f ∷ fs) xs p h = ap (λ (o : List ℕ). canonicalFields o (p + widt
 plain-list : (n : ℕ) (xs : List ℕ) (at : ℕ) → ((k : ℕ) → k < n → PlainStatistic xs (at + 36 * k)) → canonicalList xs at n ≡ xs
 plain-list zero xs at h = refl
 plain-list (suc n) xs at h =
-    ap (λ (o : List ℕ). canonicalStatistic o (at + 36 * n)) (plain-list n xs at (λ (k : ℕ) (l : k < n). h k (omega arith))) ∙ plain-statistic xs (at + 36 * n) (h n (omega arith))
+    ap (λ (o : List ℕ). canonicalStatistic o (at + deviationLength * n)) (plain-list n xs at (λ (k : ℕ) (l : k < n). h k (omega arith))) ∙ plain-statistic xs (at + deviationLength * n) (h n (omega arith))
 
 pub plain-kept : (xs : List ℕ) → Plain xs → canonical xs ≡ xs
 unfolding canonical
 plain-kept xs h =
-    let n = entries (flagAt xs 149) (le4 xs 154) in
-    ap (λ (o : List ℕ). canonicalList (canonicalList o 158 n) 734 n) (plain-all headFields xs 0 (h .head))
-    ∙ ap (λ (o : List ℕ). canonicalList o 734 n) (plain-list n xs 158 (h .actual)) ∙ plain-list n xs 734 (h .expected)
+    let n = entries (flagAt xs autoAdjustAt) (le4 xs baseDimensionAt) in
+    ap (λ (o : List ℕ). canonicalList (canonicalList o actualAt n) expectedAt n) (plain-all headFields xs 0 (h .head))
+    ∙ ap (λ (o : List ℕ). canonicalList o expectedAt n) (plain-list n xs actualAt (h .actual)) ∙ plain-list n xs expectedAt (h .expected)
 
 -- Without a NaN no byte changes.
-pub state-kept : (xs : List ℕ) → length xs ≡ 1310 → ((i : ℕ) → getD xs i 0 < 256) → Plain xs → encodeStateOver xs (decodeState xs) ≡ xs
+pub state-kept : (xs : List ℕ) → length xs ≡ stateLength → ((i : ℕ) → getD xs i 0 < 256) → Plain xs → encodeStateOver xs (decodeState xs) ≡ xs
 state-kept xs size b h = state-again xs size b ∙ plain-kept xs h

@@ -37,14 +37,15 @@ use Rattle.detection.specs.declared.Verdict.{Verdict}
 use Rattle.detection.specs.declared.Verdict.the-variants.{Quiet, Corrected, Raised, Skipped}
 use Rattle.layout.specs.Places.{stateLength, verdictLength}
 use Rattle.layout.specs.Numbers.{writtenOf}
-use Rattle.layout.specs.Chain.{decodeState, encodeStateOver}
+use Rattle.layout.specs.Chain.{stateCodesOk, decodeState, encodeStateOver}
 use Rattle.layout.specs.InPlace as InPlace
 use Rattle.layout.specs.InPlace.{readingAnswer, storedBy, storedRun, runAfter, rowsFit}
 use Rattle.layout.specs.Readings.{verdictBytes}
 use Rattle.layout.proofs.InPlace.{fitting}
 use Rattle.verdict_bytes.specs.Bytes.{told, changesState, stored, stateLeft, verdictLeft}
 use Rattle.verdict_bytes.specs.Put.{Put, putOutcome}
-use Rattle.verdict_bytes.specs.Steps.{rowsAfter, putOver}
+use Rattle.verdict_bytes.specs.Steps.{rowsAfter, putOver, changeOf}
+use Rattle.verdict_bytes.specs.declared.Change.the-variants.{Ends, Adjusts, Counts, Stays}
 
 -- ---- the verdict's bytes.
 module _ (v : Verdict) (xs zs : List ℕ) where
@@ -67,24 +68,24 @@ module _ (v : Verdict) (xs zs : List ℕ) where
 
 -- ---- run and lists do not look at the thresholder: the scores may enter first.
 module _ (s : PredictorCorrector) (r : Reading) (l : LastDescriptor) (x : Float) where
-  quiet-enters : InPlace.ended s r l x ≡ entered (runEnded s) r l x
+  quiet-enters : InPlace.ended s (InPlace.scored s r l x) ≡ entered (runEnded s) r l x
   unfolding runEnded entered updateScore
   quiet-enters = go (s .«auto_adjust» && leb (s .«base_dimension») 16) refl
     where
-      go : (b : Bool) → (s .«auto_adjust» && leb (s .«base_dimension») 16) ≡ b → InPlace.ended s r l x ≡ entered (runEnded s) r l x
+      go : (b : Bool) → (s .«auto_adjust» && leb (s .«base_dimension») 16) ≡ b → InPlace.ended s (InPlace.scored s r l x) ≡ entered (runEnded s) r l x
       go true h = rw h
       go false h = rw h
 
-  adjusted-enters : (point : List Float) → InPlace.adjusted s r l x point ≡ entered (autoAdjusted s point) r l x
+  adjusted-enters : (point : List Float) → InPlace.adjusted s (InPlace.scored s r l x) point ≡ entered (autoAdjusted s point) r l x
   unfolding autoAdjusted entered updateScore
   adjusted-enters point = go (s .«auto_adjust» && (ltb 0 (s .«run_length») && (leb (s .«run_length») countLimit && rowFits (s .«base_dimension») (s .«deviations_actual») point))) refl
     where
       go : (b : Bool) → (s .«auto_adjust» && (ltb 0 (s .«run_length») && (leb (s .«run_length») countLimit && rowFits (s .«base_dimension») (s .«deviations_actual») point))) ≡ b
-          → InPlace.adjusted s r l x point ≡ entered (autoAdjusted s point) r l x
+          → InPlace.adjusted s (InPlace.scored s r l x) point ≡ entered (autoAdjusted s point) r l x
       go true h = rw h
       go false h = rw h
 
-  entered-enters : (grows : Bool) → InPlace.entered s r l x grows ≡ entered (cond grows (runGrown s) s) r l x
+  entered-enters : (grows : Bool) → InPlace.entered s (InPlace.scored s r l x) grows ≡ entered (cond grows (runGrown s) s) r l x
   unfolding entered updateScore runGrown runAfter
   entered-enters true = refl
   entered-enters false = refl
@@ -93,16 +94,16 @@ module _ (s : PredictorCorrector) (r : Reading) (l : LastDescriptor) (x : Float)
     abbrev fit : Bool
     fit = s .«auto_adjust» && (rowFits (s .«base_dimension») (s .«deviations_actual») newest && rowFits (s .«base_dimension») (s .«deviations_expected») rowExpected)
 
-    counted-enters : (grows : Bool) → InPlace.counted s r l x grows newest rowExpected ≡ entered (cond grows (runGrown (candidateCounted s newest rowExpected)) (candidateCounted s newest rowExpected)) r l x
+    counted-enters : (grows : Bool) → InPlace.counted s (InPlace.scored s r l x) grows newest rowExpected ≡ entered (cond grows (runGrown (candidateCounted s newest rowExpected)) (candidateCounted s newest rowExpected)) r l x
     unfolding candidateCounted entered updateScore runGrown runAfter
     counted-enters true = go fit refl
       where
-        go : (b : Bool) → fit ≡ b → InPlace.counted s r l x true newest rowExpected ≡ entered (runGrown (candidateCounted s newest rowExpected)) r l x
+        go : (b : Bool) → fit ≡ b → InPlace.counted s (InPlace.scored s r l x) true newest rowExpected ≡ entered (runGrown (candidateCounted s newest rowExpected)) r l x
         go true h = rw h
         go false h = rw h
     counted-enters false = go fit refl
       where
-        go : (b : Bool) → fit ≡ b → InPlace.counted s r l x false newest rowExpected ≡ entered (candidateCounted s newest rowExpected) r l x
+        go : (b : Bool) → fit ≡ b → InPlace.counted s (InPlace.scored s r l x) false newest rowExpected ≡ entered (candidateCounted s newest rowExpected) r l x
         go true h = rw h
         go false h = rw h
 
@@ -124,12 +125,12 @@ module _ (xs : List ℕ) (r : Reading) (l : LastDescriptor) (threshold : Float) 
   expected = take (r .«base_dimension») row
 
   after-counted : (s : PredictorCorrector) → isCandidate r l (s .«run_length») (r .«shingle_size») threshold ≡ true
-      → InPlace.counted s r l (correctedScore r l) grows newest expected ≡ rowsAfter s r l threshold point row grows
+      → InPlace.counted s (InPlace.scored s r l (correctedScore r l)) grows newest expected ≡ rowsAfter s r l threshold point row grows
   unfolding rowsAfter rowsCounted candidateWith
   after-counted s h = rw h (counted-enters s r l (correctedScore r l) newest expected grows)
 
   after-entered : (s : PredictorCorrector) → isCandidate r l (s .«run_length») (r .«shingle_size») threshold ≡ false
-      → InPlace.entered s r l (correctedScore r l) grows ≡ rowsAfter s r l threshold point row grows
+      → InPlace.entered s (InPlace.scored s r l (correctedScore r l)) grows ≡ rowsAfter s r l threshold point row grows
   unfolding rowsAfter rowsCounted candidateWith
   after-entered s h = rw h (entered-enters s r l (correctedScore r l) grows)
 
@@ -154,18 +155,18 @@ module _ (xs : List ℕ) (r : Reading) (l : LastDescriptor) (threshold : Float) 
       Rows = (a ≡ readingAnswer xs r true) × (zs ≡ storedBy (readingAnswer xs r true) xs (rowsAfter (decodeState xs) r l threshold point row grows))
 
       pub rows-counted : Counting r (length point) → length row ≡ 16 → c ≡ true → (n m : List Float) → n ≡ newest → m ≡ expected → a ≡ readingAnswer xs r (rowsFit r (length n) (length m))
-          → zs ≡ storedBy (readingAnswer xs r (rowsFit r (length n) (length m))) xs (InPlace.counted (decodeState xs) r l x grows n m) → Rows
+          → zs ≡ storedBy (readingAnswer xs r (rowsFit r (length n) (length m))) xs (InPlace.counted (decodeState xs) (InPlace.scored (decodeState xs) r l x) grows n m) → Rows
       rows-counted f long h n m p q o b =
           let t = (λ i. rowsFit r (length (p i)) (length (q i))) ∙ rows-fit f long in (
             o ∙ ap (readingAnswer xs r) t,
-            b ∙ (λ i. storedBy (readingAnswer xs r (t i)) xs (InPlace.counted (decodeState xs) r l (used i) grows (p i) (q i)))
+            b ∙ (λ i. storedBy (readingAnswer xs r (t i)) xs (InPlace.counted (decodeState xs) (InPlace.scored (decodeState xs) r l (used i)) grows (p i) (q i)))
                 ∙ stored-same (readingAnswer xs r true) xs _ _ (λ (d : readingAnswer xs r true ≡ Answers.Done). after-counted (decodeState xs) (candidate-is d ∙ h)),
           )
 
-      pub rows-entered : c ≡ false → a ≡ readingAnswer xs r true → zs ≡ storedBy (readingAnswer xs r true) xs (InPlace.entered (decodeState xs) r l x grows) → Rows
+      pub rows-entered : c ≡ false → a ≡ readingAnswer xs r true → zs ≡ storedBy (readingAnswer xs r true) xs (InPlace.entered (decodeState xs) (InPlace.scored (decodeState xs) r l x) grows) → Rows
       rows-entered h o b = (
         o,
-        b ∙ (λ i. storedBy (readingAnswer xs r true) xs (InPlace.entered (decodeState xs) r l (used i) grows))
+        b ∙ (λ i. storedBy (readingAnswer xs r true) xs (InPlace.entered (decodeState xs) (InPlace.scored (decodeState xs) r l (used i)) grows))
             ∙ stored-same (readingAnswer xs r true) xs _ _ (λ (d : readingAnswer xs r true ≡ Answers.Done). after-entered (decodeState xs) (candidate-is d ∙ h)),
       )
 
@@ -186,31 +187,86 @@ module _ (xs zs : List ℕ) (r : Reading) (l : LastDescriptor) (point row : List
   abbrev PutState : Type 0
   PutState = (a ≡ readingAnswer xs r true) × (zs ≡ putOver (readingAnswer xs r true) v xs (afterRows s r l point row v))
 
-  pub state-quiet : (t : Float) → v ≡ Quiet t → a ≡ readingAnswer xs r true → zs ≡ storedBy (readingAnswer xs r true) xs (InPlace.ended s r l (r .score)) → PutState
+  state-quiet : (t : Float) → v ≡ Quiet t → a ≡ readingAnswer xs r true → zs ≡ storedBy (readingAnswer xs r true) xs (InPlace.ended s (InPlace.scored s r l (r .score))) → PutState
   unfolding changesState afterRows
   state-quiet t e p o = (p, o ∙ put-same (readingAnswer xs r true) v xs _ _ (rw e) (rw e (quiet-enters s r l (r .score))))
 
   module _ (t : Float) (m : CorrectionMode) (e : v ≡ Corrected t m) (d : Bool) (q : d ≡ isDriftMode m) where
-    pub state-drift : d ≡ true → a ≡ readingAnswer xs r true → zs ≡ storedBy (readingAnswer xs r true) xs (rowsAfter s r l t point row false) → PutState
+    state-drift : d ≡ true → a ≡ readingAnswer xs r true → zs ≡ storedBy (readingAnswer xs r true) xs (rowsAfter s r l t point row false) → PutState
     unfolding changesState afterRows rowsAfter
     state-drift h p o = (p, o ∙ put-same (readingAnswer xs r true) v xs _ _ (rw e) (rw (e, sym q ∙ h)))
 
-    pub state-adjusted : Counting r (length point) → (x : Float) → x ≡ correctedScore r l → d ≡ false → a ≡ readingAnswer xs r (leb (r .«base_dimension») (length point))
-        → zs ≡ storedBy (readingAnswer xs r (leb (r .«base_dimension») (length point))) xs (InPlace.adjusted s r l x point) → PutState
+    state-adjusted : Counting r (length point) → (x : Float) → x ≡ correctedScore r l → d ≡ false → a ≡ readingAnswer xs r (leb (r .«base_dimension») (length point))
+        → zs ≡ storedBy (readingAnswer xs r (leb (r .«base_dimension») (length point))) xs (InPlace.adjusted s (InPlace.scored s r l x) point) → PutState
     unfolding changesState afterRows
     state-adjusted f x used h p o =
         let w = le-leb (r .«base_dimension») (length point) (f .inside) in (
           p ∙ ap (readingAnswer xs r) w,
-          o ∙ (λ i. storedBy (readingAnswer xs r (w i)) xs (InPlace.adjusted s r l (used i) point))
+          o ∙ (λ i. storedBy (readingAnswer xs r (w i)) xs (InPlace.adjusted s (InPlace.scored s r l (used i)) point))
               ∙ put-same (readingAnswer xs r true) v xs _ _ (rw e) (rw (e, sym q ∙ h) (adjusted-enters s r l (correctedScore r l) point)),
         )
 
-  pub state-raised : (t g : Float) → v ≡ Raised t g → a ≡ readingAnswer xs r true → zs ≡ storedBy (readingAnswer xs r true) xs (rowsAfter s r l t point row true) → PutState
+  state-raised : (t g : Float) → v ≡ Raised t g → a ≡ readingAnswer xs r true → zs ≡ storedBy (readingAnswer xs r true) xs (rowsAfter s r l t point row true) → PutState
   unfolding changesState afterRows rowsAfter
   state-raised t g e p o = (p, o ∙ put-same (readingAnswer xs r true) v xs _ _ (rw e) (rw e))
 
-  pub state-skipped : v ≡ Skipped → a ≡ readingAnswer xs r true → zs ≡ xs → PutState
+  state-skipped : v ≡ Skipped → a ≡ readingAnswer xs r true → zs ≡ xs → PutState
   state-skipped e p o = (p, o ∙ rw e (skip-over (readingAnswer xs r true) xs _))
+
+-- ---- by what it does to the run and the lists.
+module _ (xs zs : List ℕ) (r : Reading) (l : LastDescriptor) (point row : List Float) (a : Answer) where
+  pub at-ends : (v : Verdict) → changeOf v ≡ Ends → a ≡ readingAnswer xs r true → zs ≡ storedBy (readingAnswer xs r true) xs (InPlace.ended (decodeState xs) (InPlace.scored (decodeState xs) r l (r .score)))
+      → PutState xs zs r l point row v a
+  unfolding changeOf
+  at-ends (Quiet t) c p o = state-quiet xs zs r l point row (Quiet t) a t refl p o
+  at-ends (Corrected t m) c p o = go (isDriftMode m) c
+    where
+      go : (d : Bool) → cond d (Counts t false) Adjusts ≡ Ends → PutState xs zs r l point row (Corrected t m) a
+      go true h = absurd (let z : _≡_ {A = ℕ} 0 1 = cc in omega arith)
+      go false h = absurd (let z : _≡_ {A = ℕ} 0 1 = cc in omega arith)
+  at-ends (Raised t g) c p o = absurd (let z : _≡_ {A = ℕ} 0 1 = cc in omega arith)
+  at-ends Skipped c p o = absurd (let z : _≡_ {A = ℕ} 0 1 = cc in omega arith)
+
+  pub at-adjusts : (v : Verdict) → changeOf v ≡ Adjusts → Counting r (length point) → (x : Float) → x ≡ correctedScore r l → a ≡ readingAnswer xs r (leb (r .«base_dimension») (length point))
+      → zs ≡ storedBy (readingAnswer xs r (leb (r .«base_dimension») (length point))) xs (InPlace.adjusted (decodeState xs) (InPlace.scored (decodeState xs) r l x) point) → PutState xs zs r l point row v a
+  unfolding changeOf
+  at-adjusts (Quiet t) c f x used p o = absurd (let z : _≡_ {A = ℕ} 0 1 = cc in omega arith)
+  at-adjusts (Corrected t m) c f x used p o = go (isDriftMode m) refl c
+    where
+      go : (d : Bool) → d ≡ isDriftMode m → cond d (Counts t false) Adjusts ≡ Adjusts → PutState xs zs r l point row (Corrected t m) a
+      go true q h = absurd (let z : _≡_ {A = ℕ} 0 1 = cc in omega arith)
+      go false q h = state-adjusted xs zs r l point row (Corrected t m) a t m refl false q f x used refl p o
+  at-adjusts (Raised t g) c f x used p o = absurd (let z : _≡_ {A = ℕ} 0 1 = cc in omega arith)
+  at-adjusts Skipped c f x used p o = absurd (let z : _≡_ {A = ℕ} 0 1 = cc in omega arith)
+
+  module _ (threshold : Float) (grows : Bool) (p : a ≡ readingAnswer xs r true) (o : zs ≡ storedBy (readingAnswer xs r true) xs (rowsAfter (decodeState xs) r l threshold point row grows)) where
+    pub at-counts : (v : Verdict) → changeOf v ≡ Counts threshold grows → PutState xs zs r l point row v a
+    unfolding changeOf
+    at-counts (Quiet t) c = absurd (let z : _≡_ {A = ℕ} 0 1 = cc in omega arith)
+    at-counts (Corrected t m) c = go (isDriftMode m) refl c
+      where
+        go : (d : Bool) → d ≡ isDriftMode m → cond d (Counts t false) Adjusts ≡ Counts threshold grows → PutState xs zs r l point row (Corrected t m) a
+        go true q h =
+            let e : threshold ≡ t = cc in
+            let f : grows ≡ false = cc in
+            state-drift xs zs r l point row (Corrected t m) a t m refl true q refl p (o ∙ (λ i. storedBy (readingAnswer xs r true) xs (rowsAfter (decodeState xs) r l (e i) point row (f i))))
+        go false q h = absurd (let z : _≡_ {A = ℕ} 0 1 = cc in omega arith)
+    at-counts (Raised t g) c =
+        let e : threshold ≡ t = cc in
+        let f : grows ≡ true = cc in
+        state-raised xs zs r l point row (Raised t g) a t g refl p (o ∙ (λ i. storedBy (readingAnswer xs r true) xs (rowsAfter (decodeState xs) r l (e i) point row (f i))))
+    at-counts Skipped c = absurd (let z : _≡_ {A = ℕ} 0 1 = cc in omega arith)
+
+  pub at-stays : (v : Verdict) → changeOf v ≡ Stays → a ≡ readingAnswer xs r true → zs ≡ xs → PutState xs zs r l point row v a
+  unfolding changeOf
+  at-stays (Quiet t) c p o = absurd (let z : _≡_ {A = ℕ} 0 1 = cc in omega arith)
+  at-stays (Corrected t m) c p o = go (isDriftMode m) c
+    where
+      go : (d : Bool) → cond d (Counts t false) Adjusts ≡ Stays → PutState xs zs r l point row (Corrected t m) a
+      go true h = absurd (let z : _≡_ {A = ℕ} 0 1 = cc in omega arith)
+      go false h = absurd (let z : _≡_ {A = ℕ} 0 1 = cc in omega arith)
+  at-stays (Raised t g) c p o = absurd (let z : _≡_ {A = ℕ} 0 1 = cc in omega arith)
+  at-stays Skipped c p o = state-skipped xs zs r l point row Skipped a refl p o
 
 -- ---- the whole call.
 answer-number : (v : Verdict) (a : Answer) → answered a ≡ outcomeNumber (outcomeOf v a)
@@ -221,23 +277,25 @@ answer-number v (Answers.Refused why) = refl
 module _ (xs : List ℕ) (r : Reading) where
   short-state : (v : Verdict) (s : PredictorCorrector) → xs ≡ stateLeft (outcomeOf v (readingAnswer xs r false)) xs s
   unfolding readingAnswer outcomeOf stateLeft
-  short-state v s = go (eqb (length xs) stateLength) (rangeOk (r .«shingle_size») (r .«base_dimension») (decodeState xs .«base_dimension»)) (sizesOk (r .«shingle_size») (r .«base_dimension»))
+  short-state v s = go (stateCodesOk xs) (eqb (length xs) stateLength) (rangeOk (r .«shingle_size») (r .«base_dimension») (decodeState xs .«base_dimension»)) (sizesOk (r .«shingle_size») (r .«base_dimension»))
     where
-      go : (a c d : Bool) → xs ≡ stateLeft (outcomeOf v (cond a (cond c (cond false (cond (stateCountsOk (decodeState xs)) Answers.Done (Answers.Refused Why.Count)) (Answers.Refused Why.Length)) (Answers.Refused Why.Range)) (cond d (Answers.Refused Why.Length) (Answers.Refused Why.Range)))) xs s
-      go true true d = refl
-      go true false d = refl
-      go false c true = refl
-      go false c false = refl
+      go : (b a c d : Bool) → xs ≡ stateLeft (outcomeOf v (cond b (cond a (cond c (cond false (cond (stateCountsOk (decodeState xs)) Answers.Done (Answers.Refused Why.Count)) (Answers.Refused Why.Length)) (Answers.Refused Why.Range)) (cond d (Answers.Refused Why.Length) (Answers.Refused Why.Range))) (Answers.Refused Why.Range))) xs s
+      go true true true d = refl
+      go true true false d = refl
+      go true false c true = refl
+      go true false c false = refl
+      go false a c d = refl
 
   short-verdict : (v : Verdict) (ys : List ℕ) (i : ℤ) → ys ≡ verdictLeft (outcomeOf v (readingAnswer xs r false)) ys i
   unfolding readingAnswer outcomeOf verdictLeft
-  short-verdict v ys i = go (eqb (length xs) stateLength) (rangeOk (r .«shingle_size») (r .«base_dimension») (decodeState xs .«base_dimension»)) (sizesOk (r .«shingle_size») (r .«base_dimension»))
+  short-verdict v ys i = go (stateCodesOk xs) (eqb (length xs) stateLength) (rangeOk (r .«shingle_size») (r .«base_dimension») (decodeState xs .«base_dimension»)) (sizesOk (r .«shingle_size») (r .«base_dimension»))
     where
-      go : (a c d : Bool) → ys ≡ verdictLeft (outcomeOf v (cond a (cond c (cond false (cond (stateCountsOk (decodeState xs)) Answers.Done (Answers.Refused Why.Count)) (Answers.Refused Why.Length)) (Answers.Refused Why.Range)) (cond d (Answers.Refused Why.Length) (Answers.Refused Why.Range)))) ys i
-      go true true d = refl
-      go true false d = refl
-      go false c true = refl
-      go false c false = refl
+      go : (b a c d : Bool) → ys ≡ verdictLeft (outcomeOf v (cond b (cond a (cond c (cond false (cond (stateCountsOk (decodeState xs)) Answers.Done (Answers.Refused Why.Count)) (Answers.Refused Why.Length)) (Answers.Refused Why.Range)) (cond d (Answers.Refused Why.Length) (Answers.Refused Why.Range))) (Answers.Refused Why.Range))) ys i
+      go true true true d = refl
+      go true true false d = refl
+      go true false c true = refl
+      go true false c false = refl
+      go false a c d = refl
 
   -- Sizes out of their range are refused whatever else fits.
   no-size : (leb (r .«shingle_size») 64 && leb (r .«base_dimension») 16) ≡ false → sizesOk (r .«shingle_size») (r .«base_dimension») ≡ false

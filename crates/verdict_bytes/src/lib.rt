@@ -16,6 +16,30 @@ ghost use Rattle.verdict_bytes.specs.Bytes as Bytes;
 ghost use Rattle.verdict_bytes.specs.Put as Put;
 ghost use Rattle.verdict_bytes.specs.Steps as Steps;
 
+// What a verdict does to the run and the lists: the run ends; it is adjusted; the newest rows are counted, by the threshold, and the run may grow; nothing.
+enum Change {
+    Ends,
+    Adjusts,
+    Counts(f32, bool),
+    Stays,
+}
+
+fn change_of(verdict: Verdict) -> Change
+    ensures { λ c. ⌜ c ≡ Steps.changeOf verdict ⌝ }
+{
+    match verdict {
+        Verdict::Quiet(_) => Change::Ends,
+        Verdict::Corrected(threshold, mode) => {
+            if detection::is_drift_mode(mode) {
+                return Change::Counts(threshold, false);
+            }
+            Change::Adjusts
+        }
+        Verdict::Raised(threshold, _) => Change::Counts(threshold, true),
+        Verdict::Skipped => Change::Stays,
+    }
+}
+
 fn put_told(out: &mut [u8], verdict: Verdict, relative_index: i32)
     ensures { λ _. ⌜ now (out .exit) ≡ writtenOf verdictLength (now (out .entry)) (Bytes.told verdict «relative_index») ⌝ }
 {
@@ -78,18 +102,15 @@ fn put_state(
     ensures { λ a. ⌜ a ≡ readingAnswer (now (state .entry)) r true ⌝ ∗ ⌜ now (state .exit) ≡ Steps.putOver (readingAnswer (now (state .entry)) r true) verdict
         (now (state .entry)) (afterRows (decodeState (now (state .entry))) r l (now (point .entry)) «newest_expected» verdict) ⌝ }
 {
-    match verdict {
-        Verdict::Quiet(_) => layout::write_ended(state, r, l, r.score),
-        Verdict::Corrected(threshold, mode) => {
-            if detection::is_drift_mode(mode) {
-                return put_rows(state, false, r, l, threshold, point, newest_expected);
-            }
+    match change_of(verdict) {
+        Change::Ends => layout::write_ended(state, r, l, r.score),
+        Change::Adjusts => {
             layout::write_adjusted(state, r, l, scoring::corrected_score(r, l), point)
         }
-        Verdict::Raised(threshold, _) => {
-            put_rows(state, true, r, l, threshold, point, newest_expected)
+        Change::Counts(threshold, grows) => {
+            put_rows(state, grows, r, l, threshold, point, newest_expected)
         }
-        Verdict::Skipped => layout::reading_answer(state, r, true),
+        Change::Stays => layout::reading_answer(state, r, true),
     }
 }
 

@@ -5,6 +5,8 @@ use denote.Ref.{now}
 use lib.Dec.{ltb}
 use Rattle.descriptor.proofs.Bounds.{both}
 use Rattle.layout.proofs.InPlace.{adjusted-lists, adjusted-entered}
+use Rattle.layout.specs.Parts.{entering}
+use Rattle.layout.specs.Chain.{decodeState}
 use borrow.Author.Needs.{needs}
 use Rattle.layout.proofs.adjust.Statement.{statement}
 use Rattle.layout.proofs.adjust.Tie as tie
@@ -51,7 +53,7 @@ same-length c = search needs
 returns : tie.Need-returns
 returns c =
     let d = both (c .before .before .before .before .before .before .before .before .before .before .before .before .before .before .before .before .before .before .flag-at .result) (ltb 0 (c .before .before .before .before .before .before .before .before .before .before .before .before .before .before .before .before .read4 .result)) (c .before .before .before .before .before .before .before .before .before .before .before .before .before .before .before .if1 .taken) in
-    adjusted-lists (now (c .before .before .before .before .before .before .before .before .before .before .before .before .before .before .before .before .before .before .before .before .before .before .args .out)) (c .before .before .before .before .before .before .before .before .before .before .before .before .before .before .before .before .before .before .before .before .before .before .pre .0) (c .before .before .before .before .before .before .before .before .before .before .before .before .before .before .before .before .before .before .before .before .before .before .args .r) (c .before .before .before .before .before .before .before .before .before .before .before .before .before .before .before .before .before .before .before .before .before .before .args .l) (c .before .before .before .before .before .before .before .before .before .before .before .before .before .before .before .before .before .before .before .before .before .before .args .corrected) (c .before .before .before .before .before .before .before .before .before .before .before .before .before .before .before .before .before .before .flag-at .result) (c .before .before .before .before .before .before .before .before .before .before .before .before .before .before .before .before .before .before .flag-at .ensures) (c .before .before .before .before .before .before .before .before .before .before .before .before .before .read42 .result) (c .before .before .before .before .before .before .before .before .before .before .before .before .before .read42 .ensures) _ _ _ (d .0) (c .before .before .before .before .before .before .before .before .before .before .before .before .before .before .before .before .read4 .result) (c .before .before .before .before .before .before .before .before .before .before .before .before .longer-run .result) (now (c .before .before .before .before .before .before .before .before .before .before .before .before .before .before .before .before .before .before .before .before .before .before .args .point)) (c .before .before .before .before .before .before .before .before .before .before .before .before .before .before .before .before .read4 .ensures) (c .before .before .before .before .before .before .before .before .before .before .before .before .longer-run .ensures) (c .before .before .before .before .before .before .before .before .before .before .before .before .before .before .before .before .before .before .before .before .before .before .pre .1) (d .1) (c .before .before .before .before .before .before .before .before .before .before .put-entered .ensures) (c .before .before .before .before .before .before .count-list .ensures) (c .before .before .settle-list .ensures)
+    adjusted-lists (now (c .before .before .before .before .before .before .before .before .before .before .before .before .before .before .before .before .before .before .before .before .before .before .args .out)) (c .before .before .before .before .before .before .before .before .before .before .before .before .before .before .before .before .before .before .before .before .before .before .pre .0) (entering (decodeState (now (c .before .before .before .before .before .before .before .before .before .before .before .before .before .before .before .before .before .before .before .before .before .before .args .out))) (c .before .before .before .before .before .before .before .before .before .before .before .before .before .before .before .before .before .before .before .before .before .before .args .strategy) (c .before .before .before .before .before .before .before .before .before .before .before .before .before .before .before .before .before .before .before .before .before .before .args .score) (c .before .before .before .before .before .before .before .before .before .before .before .before .before .before .before .before .before .before .before .before .before .before .args .corrected) (c .before .before .before .before .before .before .before .before .before .before .before .before .before .before .before .before .before .before .before .before .before .before .args .last-strategy) (c .before .before .before .before .before .before .before .before .before .before .before .before .before .before .before .before .before .before .before .before .before .before .args .last)) (c .before .before .before .before .before .before .before .before .before .before .before .before .before .before .before .before .before .before .flag-at .result) (c .before .before .before .before .before .before .before .before .before .before .before .before .before .before .before .before .before .before .flag-at .ensures) (c .before .before .before .before .before .before .before .before .before .before .before .before .before .read42 .result) (c .before .before .before .before .before .before .before .before .before .before .before .before .before .read42 .ensures) _ _ _ (d .0) (c .before .before .before .before .before .before .before .before .before .before .before .before .before .before .before .before .read4 .result) (c .before .before .before .before .before .before .before .before .before .before .before .before .longer-run .result) (now (c .before .before .before .before .before .before .before .before .before .before .before .before .before .before .before .before .before .before .before .before .before .before .args .point)) (c .before .before .before .before .before .before .before .before .before .before .before .before .before .before .before .before .read4 .ensures) (c .before .before .before .before .before .before .before .before .before .before .before .before .longer-run .ensures) (c .before .before .before .before .before .before .before .before .before .before .before .before .before .before .before .before .before .before .before .before .before .before .pre .1) (d .1) (c .before .before .before .before .before .before .before .before .before .before .put-entered .ensures) (c .before .before .before .before .before .before .count-list .ensures) (c .before .before .settle-list .ensures)
 
 enter-requires : tie.Need-enter-requires
 enter-requires c κs = search needs
@@ -60,7 +62,7 @@ same-length-2 : tie.Need-same-length-2
 same-length-2 c = search needs
 
 returns-2 : tie.Need-returns-2
-returns-2 c = adjusted-entered (now (c .before .before .before .before .before .before .before .before .before .before .before .args .out)) (c .before .before .before .before .before .before .before .before .before .before .before .pre .0) (c .before .before .before .before .before .before .before .before .before .before .before .args .r) (c .before .before .before .before .before .before .before .before .before .before .before .args .l) (c .before .before .before .before .before .before .before .before .before .before .before .args .corrected) (c .before .before .before .before .before .before .before .flag-at .result) (c .before .before .before .before .before .before .before .flag-at .ensures) (c .before .before .before .before .before .read4 .result) (now (c .before .before .before .before .before .before .before .before .before .before .before .args .point)) _ (c .before .before .before .before .before .read4 .ensures) (c .before .before .before .before .if1 .left) (c .before .before .enter .ensures)
+returns-2 c = adjusted-entered (now (c .before .before .before .before .before .before .before .before .before .before .before .args .out)) (c .before .before .before .before .before .before .before .before .before .before .before .pre .0) (entering (decodeState (now (c .before .before .before .before .before .before .before .before .before .before .before .args .out))) (c .before .before .before .before .before .before .before .before .before .before .before .args .strategy) (c .before .before .before .before .before .before .before .before .before .before .before .args .score) (c .before .before .before .before .before .before .before .before .before .before .before .args .corrected) (c .before .before .before .before .before .before .before .before .before .before .before .args .last-strategy) (c .before .before .before .before .before .before .before .before .before .before .before .args .last)) (c .before .before .before .before .before .before .before .flag-at .result) (c .before .before .before .before .before .before .before .flag-at .ensures) (c .before .before .before .before .before .read4 .result) (now (c .before .before .before .before .before .before .before .before .before .before .before .args .point)) _ (c .before .before .before .before .before .read4 .ensures) (c .before .before .before .before .if1 .left) (c .before .before .enter .ensures)
 
 pub adjust-spec : {M : Type 1} → statement M
 adjust-spec =

@@ -3,6 +3,8 @@ use mathlib.Core.Bool.{Bool}
 use Prim.Native.Nat.{ℕ}
 use denote.Ref.{now}
 use Rattle.layout.proofs.InPlace.{ended-lists, ended-entered}
+use Rattle.layout.specs.Parts.{entering}
+use Rattle.layout.specs.Chain.{decodeState}
 use borrow.Author.Needs.{needs}
 use Rattle.layout.proofs.end.Statement.{statement}
 use Rattle.layout.proofs.end.Tie as tie
@@ -39,7 +41,7 @@ same-length : tie.Need-same-length
 same-length c = search needs
 
 returns : tie.Need-returns
-returns c = ended-lists (now (c .before .before .before .before .before .before .before .before .before .before .before .before .before .before .before .before .before .before .args .out)) (c .before .before .before .before .before .before .before .before .before .before .before .before .before .before .before .before .before .before .pre) (c .before .before .before .before .before .before .before .before .before .before .before .before .before .before .before .before .before .before .args .r) (c .before .before .before .before .before .before .before .before .before .before .before .before .before .before .before .before .before .before .args .l) (c .before .before .before .before .before .before .before .before .before .before .before .before .before .before .before .before .before .before .args .corrected) (c .before .before .before .before .before .before .before .before .before .before .before .before .before .before .before .flag-at .result) (c .before .before .before .before .before .before .before .before .before .before .before .before .before .before .before .flag-at .ensures) (c .before .before .before .before .before .before .before .before .before .before .before .before .read4 .result) (c .before .before .before .before .before .before .before .before .before .before .before .before .read4 .ensures) _ _ _ (c .before .before .before .before .before .before .before .before .before .before .before .before .before .before .if1 .taken) (c .before .before .before .before .before .before .before .before .before .before .put-entered .ensures) (c .before .before .before .before .before .before .reset-list .ensures) (c .before .before .reset-list2 .ensures)
+returns c = ended-lists (now (c .before .before .before .before .before .before .before .before .before .before .before .before .before .before .before .before .before .before .args .out)) (c .before .before .before .before .before .before .before .before .before .before .before .before .before .before .before .before .before .before .pre) (entering (decodeState (now (c .before .before .before .before .before .before .before .before .before .before .before .before .before .before .before .before .before .before .args .out))) (c .before .before .before .before .before .before .before .before .before .before .before .before .before .before .before .before .before .before .args .strategy) (c .before .before .before .before .before .before .before .before .before .before .before .before .before .before .before .before .before .before .args .score) (c .before .before .before .before .before .before .before .before .before .before .before .before .before .before .before .before .before .before .args .corrected) (c .before .before .before .before .before .before .before .before .before .before .before .before .before .before .before .before .before .before .args .last-strategy) (c .before .before .before .before .before .before .before .before .before .before .before .before .before .before .before .before .before .before .args .last)) (c .before .before .before .before .before .before .before .before .before .before .before .before .before .before .before .flag-at .result) (c .before .before .before .before .before .before .before .before .before .before .before .before .before .before .before .flag-at .ensures) (c .before .before .before .before .before .before .before .before .before .before .before .before .read4 .result) (c .before .before .before .before .before .before .before .before .before .before .before .before .read4 .ensures) _ _ _ (c .before .before .before .before .before .before .before .before .before .before .before .before .before .before .if1 .taken) (c .before .before .before .before .before .before .before .before .before .before .put-entered .ensures) (c .before .before .before .before .before .before .reset-list .ensures) (c .before .before .reset-list2 .ensures)
 
 enter-requires : tie.Need-enter-requires
 enter-requires c κs = search needs
@@ -48,7 +50,7 @@ same-length-2 : tie.Need-same-length-2
 same-length-2 c = search needs
 
 returns-2 : tie.Need-returns-2
-returns-2 c = ended-entered (now (c .before .before .before .before .before .before .before .before .args .out)) (c .before .before .before .before .before .before .before .before .pre) (c .before .before .before .before .before .before .before .before .args .r) (c .before .before .before .before .before .before .before .before .args .l) (c .before .before .before .before .before .before .before .before .args .corrected) (c .before .before .before .before .before .flag-at .result) (c .before .before .before .before .before .flag-at .ensures) _ (c .before .before .before .before .if1 .left) (c .before .before .enter .ensures)
+returns-2 c = ended-entered (now (c .before .before .before .before .before .before .before .before .args .out)) (c .before .before .before .before .before .before .before .before .pre) (entering (decodeState (now (c .before .before .before .before .before .before .before .before .args .out))) (c .before .before .before .before .before .before .before .before .args .strategy) (c .before .before .before .before .before .before .before .before .args .score) (c .before .before .before .before .before .before .before .before .args .corrected) (c .before .before .before .before .before .before .before .before .args .last-strategy) (c .before .before .before .before .before .before .before .before .args .last)) (c .before .before .before .before .before .flag-at .result) (c .before .before .before .before .before .flag-at .ensures) _ (c .before .before .before .before .if1 .left) (c .before .before .enter .ensures)
 
 pub end-spec : {M : Type 1} → statement M
 end-spec =

@@ -37,7 +37,7 @@ returns : tie.Need-returns
 returns c =
     let a = c .before .before .before .before .before .before .before .before .before .before .before .before .before .before .args in
     rw (c .before .before .put42 .ensures, c .before .before .before .before .before .before .put4 .ensures, c .before .before .before .before .before .before .before .before .before .before .before .put-scores .ensures, c .before .before .before .before .before .before .before .before .flag-byte .ensures)
-    (head-pasted (now (a .out)) (entering (now (a .out)) (a .r) (a .l) (a .corrected)) (a .auto-adjust) (a .run-length) (a .base-dimension) (c .before .before .before .before .before .before .before .before .before .before .before .before .before .before .pre .long))
+    (head-pasted (now (a .out)) (entering (decodeState (now (a .out))) (a .strategy) (a .score) (a .corrected) (a .last-strategy) (a .last)) (a .auto-adjust) (a .run-length) (a .base-dimension) (c .before .before .before .before .before .before .before .before .before .before .before .before .before .before .pre .long))
 
 pub put-entered-spec : {M : Type 1} → statement M
 put-entered-spec =

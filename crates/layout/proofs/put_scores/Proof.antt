@@ -4,6 +4,7 @@ use lib.Ieee.{binary32}
 use lib.Ieee as Ieee
 use Rattle.basicthresholder.specs.declared.BasicThresholder.{BasicThresholder}
 use Rattle.layout.specs.Numbers.{pasted}
+use Rattle.layout.specs.Chain.{decodeState}
 use Rattle.layout.specs.States.{decodeThresholder, encodeThresholder}
 use Rattle.layout.specs.Parts.{scored, lastScore, secondAfter}
 use Rattle.layout.proofs.InPlace.{by-parts}
@@ -45,19 +46,18 @@ same-length : tie.Need-same-length
 same-length c = search needs
 
 returns : tie.Need-returns
-unfolding decodeThresholder
+unfolding decodeState decodeThresholder
 returns c =
     let a = c .before .before .before .before .before .before .before .before .before .before .before .before .args in
     let xs = now (a .out) in
-    let strategy = a .r .«scoring_strategy» in
     let p = c .before .before .before .before .before .before .before .before .before .before .primary-score .ensures in
     let w = c .before .before .before .before .f32-to-f64-with-nan .ensures ∙ p in
-    let l = c .before .before .before .last-score .ensures ∙ ap (lastScore strategy) p in
+    let l = c .before .before .before .last-score .ensures ∙ ap (lastScore (a .strategy)) p in
     let g = ap (Ieee.sub binary32 (a .corrected)) (c .before .before .before .before .before .before .before .before .before .height-score .ensures) in
-    let s = c .before .before .before .before .before .before .second-after .ensures ∙ ap₂ (secondAfter strategy) (c .before .before .before .before .before .before .before .deviation-at .ensures) g in
+    let s = c .before .before .before .before .before .before .second-after .ensures ∙ ap₂ (secondAfter (a .strategy)) (c .before .before .before .before .before .before .before .deviation-at .ensures) g in
     c .before .before .put-scored .ensures
     ∙ ap (λ (t : BasicThresholder). pasted xs 0 (encodeThresholder t))
-    ((λ i. scored (decodeThresholder xs) (w i) (l i) (s i)) ∙ by-parts (decodeThresholder xs) (c .before .before .before .before .before .before .before .before .before .before .before .before .pre .1) strategy (a .r .score) (a .corrected) (a .l .«scoring_strategy») (a .l .score))
+    ((λ i. scored (decodeThresholder xs) (w i) (l i) (s i)) ∙ by-parts (decodeThresholder xs) (c .before .before .before .before .before .before .before .before .before .before .before .before .pre .1) (a .strategy) (a .score) (a .corrected) (a .last-strategy) (a .last))
 
 pub put-scores-spec : {M : Type 1} → statement M
 put-scores-spec =

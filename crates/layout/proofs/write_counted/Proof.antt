@@ -8,7 +8,7 @@ use borrow.Author.Tests.{leb-true}
 use Rattle.types.specs.declared.Answer.{Answer}
 use Rattle.descriptor.proofs.Bounds.{both}
 use Rattle.layout.specs.Chain.{decodeState}
-use Rattle.layout.specs.InPlace.{storedBy, rowsFit, entered, ended, adjusted, counted}
+use Rattle.layout.specs.InPlace.{storedBy, rowsFit, scored, counted}
 use Rattle.layout.proofs.InPlace.{fitting}
 use borrow.Author.Needs.{needs}
 use Rattle.layout.proofs.write_counted.Statement.{statement}
@@ -41,7 +41,7 @@ returns : tie.Need-returns
 unfolding storedBy rowsFit
 returns c =
     let a = c .before .before .before .before .before .before .before .before .before .before .before .before .before .args in
-    (c .before .before .before .before .before .before .reading-answer .ensures, c .before .before .count .ensures ∙ ap (λ (x : Answer). storedBy x (now (a .out)) (counted (decodeState (now (a .out))) (a .r) (a .l) (a .corrected) (a .grows) (now (a .newest)) (now (a .newest-expected)))) (sym (sym (c .before .before .before .before .before .before .reading-answer .ensures) ∙ c .before .before .before .before .enum-told .given .1)))
+    (c .before .before .before .before .before .before .reading-answer .ensures, c .before .before .count .ensures ∙ ap (λ (x : Answer). storedBy x (now (a .out)) (counted (decodeState (now (a .out))) (scored (decodeState (now (a .out))) (a .r) (a .l) (a .corrected)) (a .grows) (now (a .newest)) (now (a .newest-expected)))) (sym (sym (c .before .before .before .before .before .before .reading-answer .ensures) ∙ c .before .before .before .before .enum-told .given .1)))
 
 same-length-2 : tie.Need-same-length-2
 same-length-2 c = search needs
@@ -50,7 +50,7 @@ returns-2 : tie.Need-returns-2
 unfolding storedBy rowsFit
 returns-2 c =
     let a = c .before .before .before .before .before .before .before .before .before .args in
-    (c .before .before .reading-answer .ensures, ap (λ (x : Answer). storedBy x (now (a .out)) (counted (decodeState (now (a .out))) (a .r) (a .l) (a .corrected) (a .grows) (now (a .newest)) (now (a .newest-expected)))) (sym (sym (c .before .before .reading-answer .ensures) ∙ c .enum-told2 .given .1)))
+    (c .before .before .reading-answer .ensures, ap (λ (x : Answer). storedBy x (now (a .out)) (counted (decodeState (now (a .out))) (scored (decodeState (now (a .out))) (a .r) (a .l) (a .corrected)) (a .grows) (now (a .newest)) (now (a .newest-expected)))) (sym (sym (c .before .before .reading-answer .ensures) ∙ c .enum-told2 .given .1)))
 
 pub write-counted-spec : {M : Type 1} → statement M
 write-counted-spec =
