@@ -9,6 +9,9 @@
 // descriptor, 23 bytes each.
 ghost use Prim.Native.Nat.{_<_};
 
+// The bytes of a stored state.
+const STATE_LENGTH: usize = 1310;
+
 fn wide(b: u8) -> u32
     ensures { λ r. ⌜ r < 0x100 ⌝ }
 {
@@ -117,10 +120,10 @@ fn mix_floats(x: [f32; 16]) -> u64 {
     sum
 }
 
-fn mix_bytes(x: [u8; 1310]) -> u64 {
+fn mix_bytes(x: [u8; STATE_LENGTH]) -> u64 {
     let mut sum = 0u64;
     let mut i = 0usize;
-    while i < 1310 {
+    while i < STATE_LENGTH {
         sum = mix(sum, wide(x[i]) as u64);
         i += 1;
     }
@@ -184,14 +187,14 @@ fn apply_basic_corrector(h: Head, x: &[f32]) -> Said {
     }
 }
 
-fn blank_state() -> [u8; 1310] {
-    [0u8; 1310]
+fn blank_state() -> [u8; STATE_LENGTH] {
+    [0u8; STATE_LENGTH]
 }
 
 fn update_auto_adjust(h: Head, x: &[f32]) -> Said {
     let mut state = blank_state();
     io::read_full(0, &mut state);
-    let n = 1310 - h.out % 2;
+    let n = STATE_LENGTH - h.out % 2;
     let number = c_calls::krcf_update_auto_adjust(
         &mut state[..n],
         h.shingle_size,
@@ -232,7 +235,7 @@ fn asked_of_forest(h: Head) -> Said {
     let mut last = blank_numbers();
     io::read_full(0, &mut last);
     let mut out = [9usize; 8];
-    let s = 1310 - h.shingle_size % 2;
+    let s = STATE_LENGTH - h.shingle_size % 2;
     let r = 23 - h.base_dimension % 2;
     let l = 23 - h.at % 2;
     let n = h.out % 9;
