@@ -6,10 +6,10 @@ use Prim.Native.Nat.{ℕ, zero, suc, _+_, _*_, _-_, _<_, _≤_}
 use native.Mathlib.Nat.{not-suc-le-zero, le-of-suc-le-suc, add-assoc, add-zero}
 use native.Mathlib.Numerals.{add-one}
 use native.Mathlib.Omega.{arith}
-use lib.Dec.{eqb, leb, ltb}
+use lib.Dec.{T, eqb, leb, ltb}
 use lib.ListN.{length, getD, set, take, drop, length-set, length-replicate, replicate, List·getD-eq-default}
 use lib.Seq.{getD-drop, getD-set-same, getD-set-other, drop-drop, drop-at}
-use lib.Ieee.{Float, binary32}
+use lib.Ieee.{Float, binary32, fits}
 use lib.Ieee as Ieee
 use borrow.Author.Tests.{eqb-true, eqb-false, eq-eqb, ne-eqb, leb-true, leb-false, le-leb}
 use Rattle.deviation.specs.Const.{zero64}
@@ -38,8 +38,9 @@ use Rattle.layout.specs.States.{joined, deviationAt, encodeDeviation, en
 use Rattle.layout.specs.Chain.{stateCodesOk, entries, filled, emptyList, listAt, listOver, encodeHead, encodeStateOver, decodeState, coreOf}
 use Rattle.layout.specs.declared.Core.{Core}
 use Rattle.layout.specs.InPlace.{readingAnswer, runAfter, entered, ended, adjusted, counted, kept}
-use Rattle.layout.specs.Parts.{most, head, lastOf, rowKeptOver, Taking, scored, primaryScore, lastScore, secondAfter}
+use Rattle.layout.specs.Parts.{most, head, lastOf, rowKeptOver, Taking, scored, primaryScore, secondAfter}
 use Rattle.layout.proofs.Laws.{deviation-length}
+use Rattle.layout.proofs.Widened.{narrow-same}
 use Rattle.layout.proofs.Pasting.{pasted-length, pasted-split, pasted-onwards, set-next, front}
 
 -- ---- what is read behind a paste
@@ -411,20 +412,20 @@ all-three a b c d h =
     let q = both (eqb b readingLength) _ (p .1) in
     (eqb-true a stateLength (p .0), eqb-true b readingLength (q .0), eqb-true c lastLength (both (eqb c lastLength) d (q .1) .0))
 
--- ---- update_score by its parts
-module _ (t : BasicThresholder) (ok : countsOk t ≡ true) (strategy : ScoringStrategy) (score corrected : Float) (last : ScoringStrategy) (before : Float) where
+-- ---- update_score by its parts. Its score is an `f32`, so narrowing it changes nothing
+module _ (t : BasicThresholder) (ok : countsOk t ≡ true) (strategy : ScoringStrategy) (score corrected : Float) (last : ScoringStrategy) (before : Float) (single : T (fits binary32 score)) where
   abbrev ByParts : Type 0
   ByParts =
-      scored t (primaryScore strategy score) (lastScore strategy (primaryScore strategy score)) (secondAfter strategy (t .«secondary_deviation») (Ieee.sub binary32 corrected (heightScore last before)))
+      scored t (primaryScore strategy score) (primaryScore strategy score) (secondAfter strategy (t .«secondary_deviation») (Ieee.sub binary32 corrected (heightScore last before)))
       ≡ updateScore t strategy score corrected last before
 
   by-height : isHeight strategy ≡ true → ByParts
-  unfolding scored primaryScore lastScore secondAfter updateScore update updateBoth updated bothCounted
+  unfolding scored primaryScore secondAfter updateScore update updateBoth updated bothCounted
   by-height h = rw (h, ok)
 
   by-distance : isHeight strategy ≡ false → ByParts
-  unfolding scored primaryScore lastScore secondAfter updateScore updatePrimary updated primaryCounted
-  by-distance h = rw (h, ok)
+  unfolding scored primaryScore secondAfter updateScore updatePrimary updated primaryCounted
+  by-distance h = rw (h, ok, narrow-same score single)
 
   pub by-parts : ByParts
   by-parts = go (isHeight strategy) refl

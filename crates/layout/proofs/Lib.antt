@@ -4,3 +4,4 @@ pub mod Laws
 pub mod Rows
 pub mod InPlace
 pub mod Taken
+pub mod Widened

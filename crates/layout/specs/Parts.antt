@@ -9,7 +9,6 @@ use lib.Ieee.{Float}
 use Rattle.types.specs.Codes.{isHeight}
 use Rattle.types.specs.declared.ScoringStrategy.{ScoringStrategy}
 use Rattle.util.specs.Util.{minf32}
-use Rattle.ieee.specs.Round.{narrow}
 use Rattle.deviation.specs.Const.{zero64}
 use Rattle.deviation.specs.Statistics.{fresh, counted, oneMore}
 use Rattle.deviation.specs.declared.Deviation.{Deviation}
@@ -55,12 +54,9 @@ pub record Taking (xs : List ℕ) : Type 0 where
 abbrev pub entering : PredictorCorrector → ScoringStrategy → (score corrected : Float) → ScoringStrategy → (last : Float) → BasicThresholder
 entering s strategy score corrected lastStrategy last = updateScore (s .«basic_thresholder») strategy score corrected lastStrategy last
 
--- The same by its parts: the score that the primary statistic counts, the last score, and the secondary statistic.
+-- The same by its parts: the score that the primary statistic counts, which is the last score too, and the secondary statistic.
 unfoldable pub primaryScore : ScoringStrategy → Float → Float
 primaryScore strategy score = cond (isHeight strategy) (minf32 two32 score) score
-
-unfoldable pub lastScore : ScoringStrategy → Float → Float
-lastScore strategy primary = cond (isHeight strategy) primary (narrow primary)
 
 unfoldable pub secondAfter : ScoringStrategy → Deviation → Float → Deviation
 secondAfter strategy d x = cond (isHeight strategy) (counted d x) d

@@ -751,15 +751,6 @@ fn primary_score(strategy: ScoringStrategy, score: f32) -> f32
     score
 }
 
-fn last_score(strategy: ScoringStrategy, primary: f32) -> f32
-    ensures { λ r. ⌜ r ≡ Parts.lastScore strategy primary ⌝ }
-{
-    if strategy.is_height() {
-        return primary;
-    }
-    ieee::narrow(std::num::f32_to_f64_with_nan(primary))
-}
-
 // The secondary statistic counts heights alone.
 fn second_after(strategy: ScoringStrategy, d: Deviation, x: f32) -> Deviation
     ensures { λ r. ⌜ r ≡ Parts.secondAfter strategy d x ⌝ }
@@ -798,6 +789,7 @@ fn put_scored(out: &mut [u8], primary_score: f64, last_score: f32, secondary: De
 }
 
 // `update_score` in the stored thresholder, `last` being the last descriptor's score. A reading's numbers are handed on, not its record: a record by value is copied each time.
+// The last score is the primary one as it is: `update_primary` widens it and narrows it again, which gives it back.
 fn put_scores(
     out: &mut [u8],
     strategy: ScoringStrategy,
@@ -816,7 +808,7 @@ fn put_scores(
     put_scored(
         out,
         std::num::f32_to_f64_with_nan(primary),
-        last_score(strategy, primary),
+        primary,
         secondary,
     );
 }

@@ -1,4 +1,5 @@
 use mathlib.Core.Path.{_≡_, _∙_, ap, ap₂}
+use denote.Floats.{passes}
 use denote.Ref.{now}
 use lib.Ieee.{binary32}
 use lib.Ieee as Ieee
@@ -6,7 +7,7 @@ use Rattle.basicthresholder.specs.declared.BasicThresholder.{BasicThresholder}
 use Rattle.layout.specs.Numbers.{pasted}
 use Rattle.layout.specs.Chain.{decodeState}
 use Rattle.layout.specs.States.{decodeThresholder, encodeThresholder}
-use Rattle.layout.specs.Parts.{scored, lastScore, secondAfter}
+use Rattle.layout.specs.Parts.{scored, secondAfter}
 use Rattle.layout.proofs.InPlace.{by-parts}
 use borrow.Author.Needs.{needs}
 use Rattle.layout.proofs.put_scores.Statement.{statement}
@@ -14,7 +15,6 @@ use Rattle.layout.proofs.put_scores.Tie as tie
 use Rattle.layout.proofs.put_scores.Reads as reads
 use Rattle.layout.proofs.put_scores.Lts as lts
 use Rattle.layout.proofs.deviation_at.Reads as deviation-at-reads
-use Rattle.layout.proofs.last_score.Reads as last-score-reads
 use Rattle.layout.proofs.primary_score.Reads as primary-score-reads
 use Rattle.layout.proofs.put_scored.Reads as put-scored-reads
 use Rattle.layout.proofs.second_after.Reads as second-after-reads
@@ -36,9 +36,6 @@ second-after-requires c κs = search needs
 f32-to-f64-with-nan-requires : tie.Need-f32-to-f64-with-nan-requires
 f32-to-f64-with-nan-requires c κs = search needs
 
-last-score-requires : tie.Need-last-score-requires
-last-score-requires c κs = search needs
-
 put-scored-requires : tie.Need-put-scored-requires
 put-scored-requires c κs = search needs
 
@@ -48,16 +45,16 @@ same-length c = search needs
 returns : tie.Need-returns
 unfolding decodeState decodeThresholder
 returns c =
-    let a = c .before .before .before .before .before .before .before .before .before .before .before .before .args in
+    let start = c .before .before .before .before .before .before .before .before .before .before .before in
+    let a = start .args in
     let xs = now (a .out) in
-    let p = c .before .before .before .before .before .before .before .before .before .before .primary-score .ensures in
-    let w = c .before .before .before .before .f32-to-f64-with-nan .ensures ∙ p in
-    let l = c .before .before .before .last-score .ensures ∙ ap (lastScore (a .strategy)) p in
-    let g = ap (Ieee.sub binary32 (a .corrected)) (c .before .before .before .before .before .before .before .before .before .height-score .ensures) in
-    let s = c .before .before .before .before .before .before .second-after .ensures ∙ ap₂ (secondAfter (a .strategy)) (c .before .before .before .before .before .before .before .deviation-at .ensures) g in
+    let p = c .before .before .before .before .before .before .before .before .before .primary-score .ensures in
+    let w = c .before .before .before .f32-to-f64-with-nan .ensures ∙ p in
+    let g = ap (Ieee.sub binary32 (a .corrected)) (c .before .before .before .before .before .before .before .before .height-score .ensures) in
+    let s = c .before .before .before .before .before .second-after .ensures ∙ ap₂ (secondAfter (a .strategy)) (c .before .before .before .before .before .before .deviation-at .ensures) g in
     c .before .before .put-scored .ensures
     ∙ ap (λ (t : BasicThresholder). pasted xs 0 (encodeThresholder t))
-    ((λ i. scored (decodeThresholder xs) (w i) (l i) (s i)) ∙ by-parts (decodeThresholder xs) (c .before .before .before .before .before .before .before .before .before .before .before .before .pre .1) (a .strategy) (a .score) (a .corrected) (a .last-strategy) (a .last))
+    ((λ i. scored (decodeThresholder xs) (w i) (p i) (s i)) ∙ by-parts (decodeThresholder xs) (start .pre .1) (a .strategy) (a .score) (a .corrected) (a .last-strategy) (a .last) (passes _ (start .good .1 .1 .0 .1)))
 
 pub put-scores-spec : {M : Type 1} → statement M
 put-scores-spec =
@@ -68,7 +65,6 @@ put-scores-spec =
     deviation-at-requires
     second-after-requires
     f32-to-f64-with-nan-requires
-    last-score-requires
     put-scored-requires
     same-length
     returns)
