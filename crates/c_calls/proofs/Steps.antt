@@ -23,7 +23,8 @@ use Rattle.layout.specs.Left.{left}
 use Rattle.corrector.specs.Corrector as Corrector
 use Rattle.calls.specs.declared.Missing.{Missing}
 use Rattle.calls.specs.Calls as Calls
-use Rattle.c_calls.specs.Buffers.{filled, filledBy, placed, placedBy, likelyMissingIndices, applyBasicCorrector, correctorAnswer, stored, storedBy, updateAutoAdjust}
+use Rattle.c_calls.specs.Buffers.{filled, filledBy, placed, placedBy, likelyMissingIndices, applyBasicCorrector, correctorAnswer, updatedBy, updateAutoAdjust}
+use Rattle.layout.specs.InPlace.{storedBy}
 
 -- A call that was passed on, answered by n.
 pub passed-on : (a b : Answer) (n : ℕ) (new out out′ : List Float) → b ≡ a → n ≡ answered b → out′ ≡ Calls.written a new out → filled n out′ ≡ filledBy a new out
@@ -94,21 +95,21 @@ module _ (state : List ℕ) (shingle : ℕ) (point : List Float) where
       unfolding readState
       decoded = ap (λ (u : StateRead). u .state) r ∙ rw (l, c)
 
-      through : storedBy made state ≡ updateAutoAdjust state shingle point
+      through : updatedBy made state ≡ updateAutoAdjust state shingle point
       unfolding updateAutoAdjust
       through =
           let from : made ≡ Calls.updateAutoAdjust (decodeState state) shingle point = m ∙ ap (λ (t : PredictorCorrector). Calls.updateAutoAdjust t shingle point) decoded in
-          ap (λ (u : Updated). storedBy u state) from ∙ rw (c, l)
+          ap (λ (u : Updated). updatedBy u state) from ∙ rw (c, l)
 
       pub adjusted : (state′ : List ℕ) → made .answer ≡ Done → state′ ≡ writtenOf stateLength state (encodeStateOver state (made .state)) → left 0 state′ ≡ updateAutoAdjust state shingle point
-      unfolding stored writtenOf
+      unfolding storedBy writtenOf
       adjusted state′ d w =
           let whole : state′ ≡ encodeStateOver state (made .state) = w ∙ rw l in
-          let done : left 0 state′ ≡ storedBy made state = ap (left 0) whole ∙ rw d in
+          let done : left 0 state′ ≡ updatedBy made state = ap (left 0) whole ∙ rw d in
           done ∙ through
 
       pub unadjusted : (why : Refusal) (n : ℕ) → made .answer ≡ Refused why → n ≡ number why → left n state ≡ updateAutoAdjust state shingle point
-      unfolding stored
+      unfolding storedBy
       unadjusted why n d e =
-          let kept : left n state ≡ storedBy made state = rw (e, d) in
+          let kept : left n state ≡ updatedBy made state = rw (e, d) in
           kept ∙ through

@@ -13,10 +13,10 @@ use Rattle.types.specs.declared.Answer.{Answer}
 use Rattle.types.specs.declared.Answer.the-variants.{Done, Refused}
 use Rattle.descriptor.specs.Checks.{sizesOk}
 use Rattle.corrector.specs.Corrector as Corrector
-use Rattle.predictorcorrector.specs.declared.PredictorCorrector.{PredictorCorrector}
 use Rattle.predictorcorrector.specs.declared.Updated.{Updated}
 use Rattle.layout.specs.Places.{stateLength}
-use Rattle.layout.specs.Chain.{decodeState, encodeStateOver, stateCodesOk}
+use Rattle.layout.specs.Chain.{decodeState, stateCodesOk}
+use Rattle.layout.specs.InPlace.{storedBy}
 use Rattle.layout.specs.Left.{Left, left}
 use Rattle.calls.specs.declared.Missing.{Missing}
 use Rattle.calls.specs.Calls as Calls
@@ -63,18 +63,14 @@ applyBasicCorrector point gap shingle base has expected anomalous index differen
     (Corrector.applyBasicCorrector point gap shingle base (eqb has 1) expected anomalous index (eqb difference 1) (eqb time 1)) out
 
 -- What an update leaves of the state's bytes: those of entries that do not exist stay.
-unfoldable pub stored : Answer → List ℕ → PredictorCorrector → List ℕ
-stored Done xs s = encodeStateOver xs s
-stored (Refused why) xs s = xs
-
-abbrev pub storedBy : Updated → List ℕ → Left
-storedBy c xs = left (answered (c .answer)) (stored (c .answer) xs (c .state))
+abbrev pub updatedBy : Updated → List ℕ → Left
+updatedBy c xs = left (answered (c .answer)) (storedBy (c .answer) xs (c .state))
 
 -- Where the state cannot be read, its base is taken for 1.
 unfoldable pub updateAutoAdjust : (state : List ℕ) → (shingle : ℕ) → (point : List Float) → Left
 updateAutoAdjust state shingle point =
     cond (stateCodesOk state)
     (cond (eqb (length state) stateLength)
-    (storedBy (Calls.updateAutoAdjust (decodeState state) shingle point) state)
+    (updatedBy (Calls.updateAutoAdjust (decodeState state) shingle point) state)
     (cond (sizesOk shingle 1) (left (number Length) state) (left (number Range) state)))
     (left (number Range) state)

@@ -35,7 +35,6 @@ use Rattle.layout.specs.Places.{stateLength, readingLength, lastLength, verdict
 use Rattle.layout.specs.Numbers.{le4, flagAt}
 use Rattle.layout.specs.Chain.{stateCodesOk, entries, decodeState, coreOf}
 use Rattle.layout.specs.InPlace.{readingAnswer}
-use Rattle.layout.specs.Call as Call
 use Rattle.layout.specs.Call.{readCall}
 use Rattle.layout.specs.Readings.{decodeReading, decodeLast}
 use Rattle.layout.specs.declared.Core.{Core}
@@ -50,12 +49,12 @@ use Rattle.c_judging.specs.Steps.{standingOf}
 module _ (state reading last : List ℕ) (v : ℕ) where
   pub record Taken (core : Core) (r : Reading) (l : LastDescriptor) : Type 0 where
     pub codes : codesOk state reading last ≡ true
-    pub slices : slicesOk (length state) (length reading) (length last) v ≡ true
+    pub slices : slicesOk (length state) (length reading) (length last) (eqb v verdictLength) ≡ true
     pub core-is : core ≡ coreOf (decodeState state)
     pub reading-is : r ≡ decodeReading reading
     pub last-is : l ≡ decodeLast last
 
-  taken-by : (a c d : Bool) → codesOk state reading last ≡ a → slicesOk (length state) (length reading) (length last) v ≡ c → (core : Core) (r : Reading) (l : LastDescriptor)
+  taken-by : (a c d : Bool) → codesOk state reading last ≡ a → slicesOk (length state) (length reading) (length last) (eqb v verdictLength) ≡ c → (core : Core) (r : Reading) (l : LastDescriptor)
       → Calls.Read core r l ≡ cond a (cond c (Calls.Read (coreOf (decodeState state)) (decodeReading reading) (decodeLast last)) (cond d (Calls.Refused Length) (Calls.Refused Range))) (Calls.Refused Range) → Taken core r l
   taken-by true true d p q core r l e = record { codes = p; slices = q; core-is = cc; reading-is = cc; last-is = cc }
   taken-by true false true p q core r l e = absurd (let z : _≡_ {A = ℕ} 0 1 = cc in omega arith)
@@ -63,9 +62,9 @@ module _ (state reading last : List ℕ) (v : ℕ) where
   taken-by false c d p q core r l e = absurd (let z : _≡_ {A = ℕ} 0 1 = cc in omega arith)
 
   pub was-taken : (k : CallRead) → k ≡ readCall state reading last (eqb v verdictLength) → (core : Core) (r : Reading) (l : LastDescriptor) → k ≡ Calls.Read core r l → Taken core r l
-  unfolding readCall slicesOk Call.slicesOk
+  unfolding readCall
   was-taken k e core r l h =
-      taken-by (codesOk state reading last) (slicesOk (length state) (length reading) (length last) v) (sizesFit state reading) refl refl core r l (sym h ∙ e)
+      taken-by (codesOk state reading last) (slicesOk (length state) (length reading) (length last) (eqb v verdictLength)) (sizesFit state reading) refl refl core r l (sym h ∙ e)
 
 -- ---- the whole call.
 module _ (state reading last : List ℕ) (b : Lent) (e h w : List Float) (v : List ℕ) where
@@ -86,15 +85,15 @@ module _ (state reading last : List ℕ) (b : Lent) (e h w : List Float) (v : Li
   refused-by false c d o why q = cc
 
   pub call-refused : (k : CallRead) → k ≡ readCall state reading last (eqb (length v) verdictLength) → (why : Refusal) (n : ℕ) → k ≡ Calls.Refused why → n ≡ number why → Answered state reading last b n e h w v state e h w v
-  unfolding outcomeOver readCall slicesOk Call.slicesOk
+  unfolding outcomeOver readCall
   call-refused k q why n p m =
       let t = turned-back why
-      (refused-by (codesOk state reading last) (slicesOk (length state) (length reading) (length last) (length v)) (sizesFit state reading)
+      (refused-by (codesOk state reading last) (slicesOk (length state) (length reading) (length last) (eqb (length v) verdictLength)) (sizesFit state reading)
       (outcome (decodeState state) (decodeReading reading) (decodeLast last) b (length e) (length h) (length w)) why (sym p ∙ q)) in
       subst (λ (x : ℕ). Answered state reading last b x e h w v state e h w v) (sym m) t
 
   module _ (c : codesOk state reading last ≡ true) where
-    module _ (s : slicesOk (length state) (length reading) (length last) (length v) ≡ true) where
+    module _ (s : slicesOk (length state) (length reading) (length last) (eqb (length v) verdictLength) ≡ true) where
       through : over ≡ outcome (decodeState state) (decodeReading reading) (decodeLast last) b (length e) (length h) (length w)
       unfolding outcomeOver
       through = rw (c, s)

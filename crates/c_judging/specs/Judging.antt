@@ -2,7 +2,7 @@
 -- a slice of another length is looked at.
 use Prim.Native.Nat.{ℕ, _-_}
 use mathlib.Core.Path.{_≡_}
-use mathlib.Core.Bool.{Bool, cond, _&&_}
+use mathlib.Core.Bool.{cond}
 use mathlib.Core.List.{List}
 use lib.Dec.{eqb}
 use lib.IntN.{ℤ}
@@ -18,22 +18,19 @@ use Rattle.detection.specs.Judged.{outcome, outcomeNumber, stateAfter, indexAft
 use Rattle.detection.specs.declared.Outcome.{Outcome}
 use Rattle.detection.specs.declared.Outcome.the-variants.{Refused}
 use Rattle.corrector.specs.Corrector.{newestRowAnswer}
-use Rattle.layout.specs.Places.{stateLength, readingLength, lastLength, verdictLength}
+use Rattle.layout.specs.Places.{verdictLength}
 use Rattle.layout.specs.Numbers.{bytes8}
 use Rattle.layout.specs.Chain.{decodeState}
 use Rattle.layout.specs.Readings.{decodeReading, decodeLast}
-unfoldable pub use Rattle.layout.specs.Call.{codesOk, sizesFit}
+unfoldable pub use Rattle.layout.specs.Call.{codesOk, slicesOk, sizesFit}
 unfoldable pub use Rattle.verdict_bytes.specs.Bytes.{told, changesState, stored, stateLeft, verdictLeft}
-
-unfoldable pub slicesOk : (state reading last verdict : ℕ) → Bool
-slicesOk state reading last verdict = eqb state stateLength && (eqb reading readingLength && (eqb last lastLength && eqb verdict verdictLength))
 
 module _ (state reading last : List ℕ) (b : Lent) where
   -- The outcome. The four numbers are the lengths of the slices that may be written beside the state: expected point, attribution, verdict.
   unfoldable pub outcomeOver : (e h w v : ℕ) → Outcome
   outcomeOver e h w v =
       cond (codesOk state reading last)
-      (cond (slicesOk (length state) (length reading) (length last) v)
+      (cond (slicesOk (length state) (length reading) (length last) (eqb v verdictLength))
       (outcome (decodeState state) (decodeReading reading) (decodeLast last) b e h w)
       (cond (sizesFit state reading) (Refused Length) (Refused Range)))
       (Refused Range)

@@ -15,7 +15,7 @@ use Rattle.basicthresholder.specs.Const.{zero32, sixteen32}
 use Rattle.basicthresholder.specs.Grades.{primaryThresholdAndGrade, threshold, thresholdBy, primaryGrade, gradeOver, isDeviationReady, countsReady}
 use Rattle.basicthresholder.specs.Updates.{countsOk, updated, updatePrimary, primaryCounted, countedOver, countedGap}
 use Rattle.ledger.specs.Statement.{mostReadings, accepted, Sized, Sizes, InBounds}
-use Rattle.descriptor.specs.Checks.{every, sizesOk, dimension, rangeOk, pointsOk, rowsOk, neighboursOk, lastPointsOk, lengthsOk, numbersFinite, lastFinite, finiteOk, isLater, seenOk, answerOf}
+use Rattle.descriptor.specs.Checks.{every, sizesOk, dimension, rangeOk, lengthsOf, pointsOk, rowsOk, neighboursOk, lastPointsOk, lengthsOk, numbersFinite, lastFinite, finiteOk, isLater, seenOk, answerOf}
 use Rattle.predictorcorrector.specs.State as State
 use Rattle.predictorcorrector.specs.State.{freshState, freshList, stateCountsOk, runEnded}
 use Rattle.predictorcorrector.specs.Lists.{listCountable, firstCountable, changed}
@@ -44,7 +44,7 @@ sizes zero s = tt
 sizes (suc n) s = ((λ h. inr sized-one), sizes n (judging s .judgment .state))
 
 all-accepted : accepted (toldOf (made .state) eleven) ≡ 11
-unfolding answerOf rangeOk sizesOk lengthsOk dimension pointsOk rowsOk neighboursOk lastPointsOk finiteOk numbersFinite lastFinite every seenOk isLater
+unfolding answerOf rangeOk sizesOk lengthsOf lengthsOk dimension pointsOk rowsOk neighboursOk lastPointsOk finiteOk numbersFinite lastFinite every seenOk isLater
     stateCountsOk countsOk countable listCountable firstCountable State.new freshState freshList
     lt le eq ne ofBits round add sub mul div ofInt
     outcome outcomeOf stateAfter Exits.verdict Exits.decided Exits.opening Exits.after Exits.entered Exits.updateScore runEnded State.updateScore

@@ -21,7 +21,7 @@ use Rattle.basicthresholder.proofs.Laws.{primary-counted}
 use Rattle.ledger.specs.Statement.{Judge, Shown}
 use Rattle.ledger.specs.Theorem.{Laws, Counts}
 use Rattle.ledger.proofs.Laws.{primary-counts}
-use Rattle.descriptor.specs.Checks.{answerOf, rangeOk, lengthsOk, finiteOk, seenOk}
+use Rattle.descriptor.specs.Checks.{answerOf, lengthsOf, rangeOk, lengthsOk, finiteOk, seenOk}
 use Rattle.descriptor.specs.Lent.{Lent}
 use Rattle.descriptor.specs.declared.Reading.{Reading}
 use Rattle.descriptor.specs.declared.LastDescriptor.{LastDescriptor}
@@ -164,7 +164,7 @@ module _ (s : PredictorCorrector) (c : Judging) where
   counts-at a =
       thresholder-ok s
       (pick (rangeOk (c .reading .«shingle_size») (c .reading .«base_dimension») (s .«base_dimension»))
-      (lengthsOk (c .reading) (c .last) (c .lent) (length (c .expected)) (length (c .high)) (length (c .low)))
+      (lengthsOk (c .reading) (c .last) (lengthsOf (c .lent) (length (c .expected)) (length (c .high)) (length (c .low))))
       (finiteOk (c .reading) (c .last) (c .lent)) (seenOk (c .reading .«values_seen») (c .last .«has_anomaly») (c .last .anomaly .«values_seen»)) (stateCountsOk s) a)
     where
       pick : (range lengths finite seen counts : Bool)

@@ -18,7 +18,7 @@ use Rattle.types.specs.declared.Answer.{Answer}
 use Rattle.types.specs.declared.Answer.the-variants as Answers
 use Rattle.basicthresholder.specs.Const.{zero32}
 use Rattle.divector.specs.DiVector.{normalized}
-use Rattle.descriptor.specs.Checks.{answerOf, sizesOk, rangeOk, lengthsOk, finiteOk, seenOk}
+use Rattle.descriptor.specs.Checks.{answerOf, lengthsOf, sizesOk, rangeOk, lengthsOk, finiteOk, seenOk}
 use Rattle.descriptor.specs.Lent.{Lent}
 use Rattle.descriptor.specs.declared.Reading.{Reading}
 use Rattle.descriptor.specs.declared.LastDescriptor.{LastDescriptor}
@@ -32,7 +32,7 @@ use Rattle.detection.specs.declared.Verdict.the-variants.{Quiet, Corrected, Rai
 use Rattle.detection.specs.declared.Outcome.{Outcome}
 use Rattle.detection.specs.declared.Outcome.the-variants.{Accepted, Refused}
 use Rattle.detection.specs.declared.Judgment.{Judgment}
-use Rattle.layout.specs.Places.{stateLength, readingLength}
+use Rattle.layout.specs.Places.{stateLength, readingLength, verdictLength}
 use Rattle.layout.specs.Numbers.{le4, f32At}
 use Rattle.layout.specs.Chain.{decodeState, encodeStateOver}
 use Rattle.layout.specs.Readings.{decodeReading, decodeLast}
@@ -109,10 +109,10 @@ module _ (xs : List ℕ) (c : Judging) where
   byValue = outcome stateOf readingOf lastOf (c .lent) (length (c .expected)) (length (c .high)) (length (c .low))
 
   abbrev pub answerBy : Answer
-  answerBy = answerOf readingOf lastOf (c .lent) (stateOf .«base_dimension») (length (c .expected)) (length (c .high)) (length (c .low)) (stateCountsOk stateOf)
+  answerBy = answerOf readingOf lastOf (c .lent) (lengthsOf (c .lent) (length (c .expected)) (length (c .high)) (length (c .low))) (stateOf .«base_dimension») (stateCountsOk stateOf)
 
   abbrev pub slices : Bool
-  slices = slicesOk (length xs) (length (c .reading)) (length (c .last)) (length (c .verdict))
+  slices = slicesOk (length xs) (length (c .reading)) (length (c .last)) (eqb (length (c .verdict)) verdictLength)
 
   abbrev pub codes : Bool
   codes = codesOk xs (c .reading) (c .last)
@@ -136,7 +136,7 @@ module _ (xs : List ℕ) (c : Judging) where
   unfolding slicesOk
   long q =
       let a = both (eqb (length xs) stateLength) _ q in
-      let b = both (eqb (length (c .reading)) 23) _ (a .1) in
+      let b = both (eqb (length (c .reading)) readingLength) _ (a .1) in
       (eqb-true (length xs) stateLength (a .0), eqb-true (length (c .reading)) readingLength (b .0))
 
   done-at : outcomeNumber byValue ≡ 0 → answerBy ≡ Answers.Done
@@ -147,11 +147,11 @@ module _ (xs : List ℕ) (c : Judging) where
   unfolding outcome outcomeOf
   accepted-at e = rw e
 
-  entry : answerBy ≡ Answers.Done → (rangeOk (readingOf .«shingle_size») (readingOf .«base_dimension») (stateOf .«base_dimension») ≡ true) × ((lengthsOk readingOf lastOf (c .lent) (length (c .expected)) (length (c .high)) (length (c .low)) ≡ true) × (stateCountsOk stateOf ≡ true))
+  entry : answerBy ≡ Answers.Done → (rangeOk (readingOf .«shingle_size») (readingOf .«base_dimension») (stateOf .«base_dimension») ≡ true) × ((lengthsOk readingOf lastOf (lengthsOf (c .lent) (length (c .expected)) (length (c .high)) (length (c .low))) ≡ true) × (stateCountsOk stateOf ≡ true))
   unfolding answerOf
   entry e =
       passed (rangeOk (readingOf .«shingle_size») (readingOf .«base_dimension») (stateOf .«base_dimension»))
-      (lengthsOk readingOf lastOf (c .lent) (length (c .expected)) (length (c .high)) (length (c .low)))
+      (lengthsOk readingOf lastOf (lengthsOf (c .lent) (length (c .expected)) (length (c .high)) (length (c .low))))
       (finiteOk readingOf lastOf (c .lent))
       (seenOk (readingOf .«values_seen») (lastOf .«has_anomaly») (lastOf .anomaly .«values_seen»))
       (stateCountsOk stateOf) e

@@ -21,7 +21,7 @@ use Rattle.basicthresholder.specs.Updates.{countsOk, updated, updatePrimary, pr
 use Rattle.basicthresholder.specs.Grades.{primaryThresholdAndGrade, threshold, thresholdBy, primaryGrade, gradeOver, isDeviationReady, countsReady}
 use Rattle.ledger.specs.Statement.{mostReadings, accepted, Sized, Sizes, InBounds}
 use Rattle.descriptor.specs.Lent.{Lent}
-use Rattle.descriptor.specs.Checks.{every, sizesOk, dimension, rangeOk, pointsOk, rowsOk, neighboursOk, lastPointsOk, lengthsOk, numbersFinite, lastFinite, finiteOk, isLater, seenOk, answerOf}
+use Rattle.descriptor.specs.Checks.{every, sizesOk, dimension, rangeOk, lengthsOf, pointsOk, rowsOk, neighboursOk, lastPointsOk, lengthsOk, numbersFinite, lastFinite, finiteOk, isLater, seenOk, answerOf}
 use Rattle.descriptor.specs.declared.Reading.{Reading}
 use Rattle.descriptor.specs.declared.LastDescriptor.{LastDescriptor}
 use Rattle.predictorcorrector.specs.State as State
@@ -73,7 +73,7 @@ in-turn (suc n) xs = (
 
 -- ---- by value
 abbrev answerFrom : PredictorCorrector → Answer
-answerFrom s = answerOf (decodeReading reading) (decodeLast last) buffers (s .«base_dimension») 1 1 1 (stateCountsOk s)
+answerFrom s = answerOf (decodeReading reading) (decodeLast last) buffers (lengthsOf buffers 1 1 1) (s .«base_dimension») (stateCountsOk s)
 
 abbrev nextFrom : PredictorCorrector → PredictorCorrector
 nextFrom s = after (decodeReading reading) (decodeLast last) buffers s (verdict (decodeReading reading) (decodeLast last) buffers s)
@@ -126,7 +126,7 @@ accepted-in-turn (suc n) xs s k d =
     ∙ omega arith
 
 eleven-done : AllDone 11 (new nought false 1 .state)
-unfolding answerOf rangeOk sizesOk lengthsOk dimension pointsOk rowsOk neighboursOk lastPointsOk finiteOk numbersFinite lastFinite every seenOk isLater
+unfolding answerOf rangeOk sizesOk lengthsOf lengthsOk dimension pointsOk rowsOk neighboursOk lastPointsOk finiteOk numbersFinite lastFinite every seenOk isLater
     stateCountsOk countsOk countable listCountable firstCountable new freshState freshList
     lt le eq ne ofBits round add sub mul div ofInt
     decodeReading decodeLast decodeAnomaly f32At i32At signed le4 flagAt strategyFrom methodFrom

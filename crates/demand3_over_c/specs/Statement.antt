@@ -75,7 +75,7 @@ pub record Opens (o : Graded) (ys : List ℕ) : Type 0 where
 pub record Demand3OverC : Type 0 where
   -- Codes and lengths in order, a call is the judgment by value of the decoded state, whatever the strategy, accepted or refused.
   pub simulated : (xs : List ℕ) (c : Judging) → Contract xs c
-      → codesOk xs (c .reading) (c .last) ≡ true → slicesOk (length xs) (length (c .reading)) (length (c .last)) (length (c .verdict)) ≡ true
+      → codesOk xs (c .reading) (c .last) ≡ true → slicesOk (length xs) (length (c .reading)) (length (c .last)) (eqb (length (c .verdict)) verdictLength) ≡ true
       → (j : Judgment) (e h w : List Float) → Judged (decodeState xs) (decodeReading (c .reading)) (decodeLast (c .last)) (c .lent) j (c .expected) (c .high) (c .low) e h w
       → Simulated c j e h w
   pub opens : (xs : List ℕ) (c : Judging) → Contract xs c → c .answer ≡ 0 → T (not (eq (scoreOf c) zero32)) → Opens (opened (decodeState xs) (decodeReading (c .reading))) (c .verdict′)

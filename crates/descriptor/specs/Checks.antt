@@ -12,6 +12,7 @@ use Rattle.types.specs.declared.Answer.the-variants.{Done, Refused}
 use Rattle.descriptor.specs.Lent.{Lent}
 use Rattle.descriptor.specs.declared.Reading.{Reading}
 use Rattle.descriptor.specs.declared.LastDescriptor.{LastDescriptor}
+use Rattle.descriptor.specs.declared.Lengths.{Lengths}
 
 unfoldable pub every : {A : Type 0} → (A → Bool) → List A → Bool
 every f [] = true
@@ -33,18 +34,39 @@ dimension shingle base = cond (sizesOk shingle base) (shingle * base) 0
 unfoldable pub rangeOk : ℕ → ℕ → ℕ → Bool
 rangeOk shingle base stateBase = sizesOk shingle base && eqb base stateBase
 
--- The lengths of the buffers that are D long: the point, the two attributions, the median, and the three that are written.
-unfoldable pub pointsOk : ℕ → ℕ → ℕ → ℕ → ℕ → ℕ → ℕ → ℕ → ℕ → ℕ → Bool
-pointsOk d point high low median idealHigh idealLow expected outHigh outLow =
-    eqb point d
-    && (eqb high d
-    && (eqb low d
-    && (eqb median d
-    && (eqb idealHigh d && (eqb idealLow d && (eqb expected d && (eqb outHigh d && eqb outLow d)))))))
+-- The lengths of the lent buffers, and of the three that are written.
+unfoldable pub lengthsOf : Lent → ℕ → ℕ → ℕ → Lengths
+lengthsOf b expected outHigh outLow = record {
+  point = length (b .point);
+  scale = length (b .scale);
+  shift = length (b .shift);
+  «difference_deviations» = length (b .«difference_deviations»);
+  «last_expected» = length (b .«last_expected»);
+  «last_anomalous» = length (b .«last_anomalous»);
+  high = length (b .high);
+  low = length (b .low);
+  median = length (b .median);
+  «ideal_high» = length (b .«ideal_high»);
+  «ideal_low» = length (b .«ideal_low»);
+  neighbours = length (b .neighbours);
+  expected = expected;
+  «out_high» = outHigh;
+  «out_low» = outLow;
+}
 
--- The lengths of the buffers that are as long as the base: scale, shift and difference deviations.
-unfoldable pub rowsOk : ℕ → ℕ → ℕ → ℕ → Bool
-rowsOk base scale shift deviations = eqb scale base && (eqb shift base && eqb deviations base)
+-- D long: the point, the two attributions, the median, and the three that are written.
+unfoldable pub pointsOk : ℕ → Lengths → Bool
+pointsOk d n =
+    eqb (n .point) d
+    && (eqb (n .high) d
+    && (eqb (n .low) d
+    && (eqb (n .median) d
+    && (eqb (n .«ideal_high») d
+    && (eqb (n .«ideal_low») d && (eqb (n .expected) d && (eqb (n .«out_high») d && eqb (n .«out_low») d)))))))
+
+-- As long as the base: scale, shift and difference deviations.
+unfoldable pub rowsOk : ℕ → Lengths → Bool
+rowsOk base n = eqb (n .scale) base && (eqb (n .shift) base && eqb (n .«difference_deviations») base)
 
 -- 0 to 256 whole points.
 unfoldable pub neighboursOk : ℕ → ℕ → Bool
@@ -54,14 +76,13 @@ neighboursOk d n = cond (eqb d 0) false (eqb (n % d) 0 && leb (n / d) 256)
 unfoldable pub lastPointsOk : Bool → ℕ → ℕ → ℕ → Bool
 lastPointsOk hasAnomaly d expected anomalous = cond hasAnomaly (eqb expected d && eqb anomalous d) true
 
--- Refusal 3 otherwise. The last three numbers are the lengths of the buffers that are written.
-unfoldable pub lengthsOk : Reading → LastDescriptor → Lent → ℕ → ℕ → ℕ → Bool
-lengthsOk r l b expected outHigh outLow =
+-- Refusal 3 otherwise.
+unfoldable pub lengthsOk : Reading → LastDescriptor → Lengths → Bool
+lengthsOk r l n =
     let d = dimension (r .«shingle_size») (r .«base_dimension») in
-    pointsOk d (length (b .point)) (length (b .high)) (length (b .low)) (length (b .median)) (length (b .«ideal_high»)) (length (b .«ideal_low»)) expected outHigh outLow
-    && (rowsOk (r .«base_dimension») (length (b .scale)) (length (b .shift)) (length (b .«difference_deviations»))
-    && (neighboursOk d (length (b .neighbours))
-    && lastPointsOk (l .«has_anomaly») d (length (b .«last_expected»)) (length (b .«last_anomalous»))))
+    pointsOk d n
+    && (rowsOk (r .«base_dimension») n
+    && (neighboursOk d (n .neighbours) && lastPointsOk (l .«has_anomaly») d (n .«last_expected») (n .«last_anomalous»)))
 
 -- The numbers of the reading and of the last descriptor.
 unfoldable pub numbersFinite : Reading → LastDescriptor → Bool
@@ -94,11 +115,11 @@ isLater seen hasAnomaly lastSeen = cond hasAnomaly (ltb lastSeen seen) true
 unfoldable pub seenOk : ℕ → Bool → ℕ → Bool
 seenOk seen hasAnomaly lastSeen = leb 1 seen && (leb seen 16777216 && isLater seen hasAnomaly lastSeen)
 
--- The answer to a reading: the smallest number of the table that applies. countsOk is refusal 6's test, of the state.
-unfoldable pub answerOf : Reading → LastDescriptor → Lent → ℕ → ℕ → ℕ → ℕ → Bool → Answer
-answerOf r l b stateBase expected outHigh outLow countsOk =
+-- The answer to a reading: the smallest number of the table that applies. n has the lengths; countsOk is refusal 6's test, of the state.
+unfoldable pub answerOf : Reading → LastDescriptor → Lent → Lengths → ℕ → Bool → Answer
+answerOf r l b n stateBase countsOk =
     cond (rangeOk (r .«shingle_size») (r .«base_dimension») stateBase)
-    (cond (lengthsOk r l b expected outHigh outLow)
+    (cond (lengthsOk r l n)
     (cond (finiteOk r l b)
     (cond (seenOk (r .«values_seen») (l .«has_anomaly») (l .anomaly .«values_seen»))
     (cond countsOk Done (Refused Count))

@@ -38,6 +38,25 @@ pub struct LastDescriptor {
     pub anomaly: LastAnomaly,
 }
 
+// The lengths of a reading's buffers: of the twelve that are lent, then of the three that a raised reading writes.
+pub struct Lengths {
+    pub point: usize,
+    pub scale: usize,
+    pub shift: usize,
+    pub difference_deviations: usize,
+    pub last_expected: usize,
+    pub last_anomalous: usize,
+    pub high: usize,
+    pub low: usize,
+    pub median: usize,
+    pub ideal_high: usize,
+    pub ideal_low: usize,
+    pub neighbours: usize,
+    pub expected: usize,
+    pub out_high: usize,
+    pub out_low: usize,
+}
+
 // No early exit: a turn without a branch lets the compiler take several elements at once.
 pub fn all_finite_f32(xs: &[f32]) -> bool
     ensures { λ r. ⌜ r ≡ Checks.allFinite (now (xs .entry)) ⌝ }
@@ -191,33 +210,24 @@ pub fn range_ok(shingle_size: usize, base_dimension: usize, state_base: usize) -
     sizes_ok(shingle_size, base_dimension) & (base_dimension == state_base)
 }
 
-fn points_ok(
-    d: usize,
-    point: usize,
-    high: usize,
-    low: usize,
-    median: usize,
-    ideal_high: usize,
-    ideal_low: usize,
-    expected: usize,
-    out_high: usize,
-    out_low: usize,
-) -> bool
-    ensures { λ r. ⌜ r ≡ Checks.pointsOk d point high low median «ideal_high» «ideal_low» expected «out_high» «out_low» ⌝ }
+// D each: the point, the two attributions, the median, and what is written.
+fn points_ok(d: usize, n: Lengths) -> bool
+    ensures { λ r. ⌜ r ≡ Checks.pointsOk d n ⌝ }
 {
-    (point == d)
-        & ((high == d)
-            & ((low == d)
-                & ((median == d)
-                    & ((ideal_high == d)
-                        & ((ideal_low == d)
-                            & ((expected == d) & ((out_high == d) & (out_low == d))))))))
+    (n.point == d)
+        & ((n.high == d)
+            & ((n.low == d)
+                & ((n.median == d)
+                    & ((n.ideal_high == d)
+                        & ((n.ideal_low == d)
+                            & ((n.expected == d) & ((n.out_high == d) & (n.out_low == d))))))))
 }
 
-fn rows_ok(base: usize, scale: usize, shift: usize, deviations: usize) -> bool
-    ensures { λ r. ⌜ r ≡ Checks.rowsOk base scale shift deviations ⌝ }
+// As long as the base each.
+fn rows_ok(base: usize, n: Lengths) -> bool
+    ensures { λ r. ⌜ r ≡ Checks.rowsOk base n ⌝ }
 {
-    (scale == base) & ((shift == base) & (deviations == base))
+    (n.scale == base) & ((n.shift == base) & (n.difference_deviations == base))
 }
 
 pub fn neighbours_ok(d: usize, n: usize) -> bool
@@ -272,51 +282,18 @@ pub fn seen_ok(values_seen: usize, has_anomaly: bool, last_seen: usize) -> bool
     (1 <= values_seen) & ((values_seen <= 16777216) & is_later(values_seen, has_anomaly, last_seen))
 }
 
-// Refusal 3's test. The last three numbers are the lengths of the buffers that a raised reading writes.
-fn lengths_ok(
-    r: Reading,
-    l: LastDescriptor,
-    point: &[f32],
-    scale: &[f32],
-    shift: &[f32],
-    difference_deviations: &[f32],
-    last_expected: &[f32],
-    last_anomalous: &[f32],
-    high: &[f64],
-    low: &[f64],
-    median: &[f32],
-    ideal_high: &[f64],
-    ideal_low: &[f64],
-    neighbours: &[f32],
-    expected: usize,
-    out_high: usize,
-    out_low: usize,
-) -> bool
-    ensures { λ b. ⌜ b ≡ Checks.lengthsOk r l (lent
-        (now (point .entry)) (now (scale .entry)) (now (shift .entry)) (now («difference_deviations» .entry))
-        (now («last_expected» .entry)) (now («last_anomalous» .entry)) (now (high .entry)) (now (low .entry))
-        (now (median .entry)) (now («ideal_high» .entry)) (now («ideal_low» .entry)) (now (neighbours .entry))) expected «out_high» «out_low» ⌝ }
+// Refusal 3's test.
+fn lengths_ok(r: Reading, l: LastDescriptor, n: Lengths) -> bool
+    ensures { λ b. ⌜ b ≡ Checks.lengthsOk r l n ⌝ }
 {
-    let base = r.base_dimension;
-    let d = dimension(r.shingle_size, base);
-    points_ok(
-        d,
-        point.len(),
-        high.len(),
-        low.len(),
-        median.len(),
-        ideal_high.len(),
-        ideal_low.len(),
-        expected,
-        out_high,
-        out_low,
-    )
-        & (rows_ok(base, scale.len(), shift.len(), difference_deviations.len())
-            & (neighbours_ok(d, neighbours.len())
-                & last_points_ok(l.has_anomaly, d, last_expected.len(), last_anomalous.len())))
+    let d = dimension(r.shingle_size, r.base_dimension);
+    points_ok(d, n)
+        & (rows_ok(r.base_dimension, n)
+            & (neighbours_ok(d, n.neighbours)
+                & last_points_ok(l.has_anomaly, d, n.last_expected, n.last_anomalous)))
 }
 
-// Refusal 4's test. Buffers of one length share a loop.
+// Refusal 4's test. The attributions share a loop, so do the rows, the point and the median, and the last anomaly's two points.
 fn finite_ok(
     r: Reading,
     l: LastDescriptor,
@@ -346,10 +323,12 @@ fn finite_ok(
                         & all_finite_f32(neighbours)))))
 }
 
-// The answer to a reading: the smallest refusal of document 01's table that applies. `counts_ok` is refusal 6's test, which the state's owner makes.
+// The answer to a reading: the smallest refusal of document 01's table that applies. The lengths are handed over beside the slices, since those to be written are
+// not lent here; `counts_ok` is refusal 6's test, which the state's owner makes.
 pub fn answer(
     r: Reading,
     l: LastDescriptor,
+    n: Lengths,
     point: &[f32],
     scale: &[f32],
     shift: &[f32],
@@ -363,37 +342,16 @@ pub fn answer(
     ideal_low: &[f64],
     neighbours: &[f32],
     state_base: usize,
-    expected: usize,
-    out_high: usize,
-    out_low: usize,
     counts_ok: bool,
 ) -> Answer
     ensures { λ a. ⌜ a ≡ Checks.answerOf r l (lent
         (now (point .entry)) (now (scale .entry)) (now (shift .entry)) (now («difference_deviations» .entry))
         (now («last_expected» .entry)) (now («last_anomalous» .entry)) (now (high .entry)) (now (low .entry))
-        (now (median .entry)) (now («ideal_high» .entry)) (now («ideal_low» .entry)) (now (neighbours .entry))) «state_base» expected «out_high» «out_low» «counts_ok» ⌝ }
+        (now (median .entry)) (now («ideal_high» .entry)) (now («ideal_low» .entry)) (now (neighbours .entry))) n «state_base» «counts_ok» ⌝ }
 {
     let anomaly = l.anomaly;
     if range_ok(r.shingle_size, r.base_dimension, state_base) {
-        if lengths_ok(
-            r,
-            l,
-            point,
-            scale,
-            shift,
-            difference_deviations,
-            last_expected,
-            last_anomalous,
-            high,
-            low,
-            median,
-            ideal_high,
-            ideal_low,
-            neighbours,
-            expected,
-            out_high,
-            out_low,
-        ) {
+        if lengths_ok(r, l, n) {
             if finite_ok(
                 r,
                 l,

@@ -15,10 +15,11 @@ use Rattle.types.specs.declared.Refusal.the-variants.{Range, Length, NotFinite,
 use Rattle.types.specs.declared.Answer.the-variants.{Done, Refused}
 use Rattle.divector.specs.DiVector.{maxGapContribution}
 use Rattle.divector.proofs.Laws as DiVectorLaws
-use Rattle.descriptor.specs.Checks.{sizesOk, dimension, rangeOk, pointsOk, rowsOk, neighboursOk, lengthsOk, finiteOk, isLater, seenOk, answerOf}
+use Rattle.descriptor.specs.Checks.{sizesOk, dimension, rangeOk, lengthsOf, pointsOk, rowsOk, neighboursOk, lengthsOk, finiteOk, isLater, seenOk, answerOf}
 use Rattle.descriptor.specs.Lent.{Lent}
 use Rattle.descriptor.specs.declared.Reading.{Reading}
 use Rattle.descriptor.specs.declared.LastDescriptor.{LastDescriptor}
+use Rattle.descriptor.specs.declared.Lengths.{Lengths}
 use Rattle.descriptor.proofs.Bounds.{both, sizes, product-fits, dimension-is, last-points}
 use Rattle.detection.specs.Judging.{gapOf, blockOf, gap, block, start}
 use Rattle.detection.specs.Steps.{Correctable, Branching, Writing, passing, late}
@@ -41,34 +42,34 @@ passed true false d e f h = absurd (let z : _≡_ {A = ℕ} 0 1 = cc in omega ar
 passed false c d e f h = absurd (let z : _≡_ {A = ℕ} 0 1 = cc in omega arith)
 
 -- The buffers that are D long.
-record Points (d point high low median idealHigh idealLow expected outHigh outLow : ℕ) : Type 0 where
-  of-point : point ≡ d
-  of-high : high ≡ d
-  of-low : low ≡ d
-  of-median : median ≡ d
-  of-expected : expected ≡ d
-  of-out-high : outHigh ≡ d
-  of-out-low : outLow ≡ d
+record Points (d : ℕ) (n : Lengths) : Type 0 where
+  of-point : n .point ≡ d
+  of-high : n .high ≡ d
+  of-low : n .low ≡ d
+  of-median : n .median ≡ d
+  of-expected : n .expected ≡ d
+  of-out-high : n .«out_high» ≡ d
+  of-out-low : n .«out_low» ≡ d
 
-points : (d point high low median ih il e h w : ℕ) → pointsOk d point high low median ih il e h w ≡ true → Points d point high low median ih il e h w
+points : (d : ℕ) (n : Lengths) → pointsOk d n ≡ true → Points d n
 unfolding pointsOk
-points d point high low median ih il e h w q =
-    let p₁ = both (eqb point d) _ q in
-    let p₂ = both (eqb high d) _ (p₁ .1) in
-    let p₃ = both (eqb low d) _ (p₂ .1) in
-    let p₄ = both (eqb median d) _ (p₃ .1) in
-    let p₅ = both (eqb ih d) _ (p₄ .1) in
-    let p₆ = both (eqb il d) _ (p₅ .1) in
-    let p₇ = both (eqb e d) _ (p₆ .1) in
-    let p₈ = both (eqb h d) (eqb w d) (p₇ .1) in
+points d n q =
+    let p₁ = both (eqb (n .point) d) _ q in
+    let p₂ = both (eqb (n .high) d) _ (p₁ .1) in
+    let p₃ = both (eqb (n .low) d) _ (p₂ .1) in
+    let p₄ = both (eqb (n .median) d) _ (p₃ .1) in
+    let p₅ = both (eqb (n .«ideal_high») d) _ (p₄ .1) in
+    let p₆ = both (eqb (n .«ideal_low») d) _ (p₅ .1) in
+    let p₇ = both (eqb (n .expected) d) _ (p₆ .1) in
+    let p₈ = both (eqb (n .«out_high») d) (eqb (n .«out_low») d) (p₇ .1) in
     record {
-      of-point = eqb-true point d (p₁ .0);
-      of-high = eqb-true high d (p₂ .0);
-      of-low = eqb-true low d (p₃ .0);
-      of-median = eqb-true median d (p₄ .0);
-      of-expected = eqb-true e d (p₇ .0);
-      of-out-high = eqb-true h d (p₈ .0);
-      of-out-low = eqb-true w d (p₈ .1);
+      of-point = eqb-true (n .point) d (p₁ .0);
+      of-high = eqb-true (n .high) d (p₂ .0);
+      of-low = eqb-true (n .low) d (p₃ .0);
+      of-median = eqb-true (n .median) d (p₄ .0);
+      of-expected = eqb-true (n .expected) d (p₇ .0);
+      of-out-high = eqb-true (n .«out_high») d (p₈ .0);
+      of-out-low = eqb-true (n .«out_low») d (p₈ .1);
     }
 
 -- A reading that is seen later than the last anomaly has a gap.
@@ -106,8 +107,8 @@ row-apart k shingle base h = go (eq-or-lt-of-le h)
     go (inl e) = let p : (k + 1) * base ≡ shingle * base = ap (λ (n : ℕ). n * base) (let q : k + 1 ≡ shingle = omega arith in q) in inl (omega arith)
     go (inr i) = let p : (k + 2) * base ≤ shingle * base = mul-le-mul-right base (let q : k + 2 ≤ shingle = omega arith in q) in inr (omega arith)
 
-module _ (r : Reading) (l : LastDescriptor) (b : Lent) (stateBase e h w : ℕ) (ok : Bool) (accepted : answerOf r l b stateBase e h w ok ≡ Done) where
-  tests : Passed (rangeOk (r .«shingle_size») (r .«base_dimension») stateBase) (lengthsOk r l b e h w) (finiteOk r l b) (seenOk (r .«values_seen») (l .«has_anomaly») (l .anomaly .«values_seen»)) ok
+module _ (r : Reading) (l : LastDescriptor) (b : Lent) (stateBase e h w : ℕ) (ok : Bool) (accepted : answerOf r l b (lengthsOf b e h w) stateBase ok ≡ Done) where
+  tests : Passed (rangeOk (r .«shingle_size») (r .«base_dimension») stateBase) (lengthsOk r l (lengthsOf b e h w)) (finiteOk r l b) (seenOk (r .«values_seen») (l .«has_anomaly») (l .anomaly .«values_seen»)) ok
   unfolding answerOf
   tests = passed _ _ _ _ _ accepted
 
@@ -132,18 +133,32 @@ module _ (r : Reading) (l : LastDescriptor) (b : Lent) (stateBase e h w : ℕ) (
   unfolding d
   product = dimension-is (r .«shingle_size») (r .«base_dimension») sized
 
-  record Lengths : Type 0 where
-    of : Points d (length (b .point)) (length (b .high)) (length (b .low)) (length (b .median)) (length (b .«ideal_high»)) (length (b .«ideal_low»)) e h w
+  record Fits : Type 0 where
+    of-point : length (b .point) ≡ d
+    of-high : length (b .high) ≡ d
+    of-low : length (b .low) ≡ d
+    of-median : length (b .median) ≡ d
+    of-expected : e ≡ d
+    of-out-high : h ≡ d
+    of-out-low : w ≡ d
     last : l .«has_anomaly» ≡ true → (length (b .«last_expected») ≡ d) × (length (b .«last_anomalous») ≡ d)
 
-  lengths : Lengths
-  unfolding lengthsOk d
-  lengths =
-      let p₁ = both (pointsOk d (length (b .point)) (length (b .high)) (length (b .low)) (length (b .median)) (length (b .«ideal_high»)) (length (b .«ideal_low»)) e h w) _ (tests .lengths) in
-      let p₂ = both (rowsOk (r .«base_dimension») (length (b .scale)) (length (b .shift)) (length (b .«difference_deviations»))) _ (p₁ .1) in
+  fits : Fits
+  unfolding lengthsOk lengthsOf d
+  fits =
+      let n = lengthsOf b e h w in
+      let p₁ = both (pointsOk d n) _ (tests .lengths) in
+      let p₂ = both (rowsOk (r .«base_dimension») n) _ (p₁ .1) in
       let p₃ = both (neighboursOk d (length (b .neighbours))) _ (p₂ .1) in
+      let of = points d n (p₁ .0) in
       record {
-        of = points d (length (b .point)) (length (b .high)) (length (b .low)) (length (b .median)) (length (b .«ideal_high»)) (length (b .«ideal_low»)) e h w (p₁ .0);
+        of-point = of .of-point;
+        of-high = of .of-high;
+        of-low = of .of-low;
+        of-median = of .of-median;
+        of-expected = of .of-expected;
+        of-out-high = of .of-out-high;
+        of-out-low = of .of-out-low;
         last = last-points (l .«has_anomaly») d (length (b .«last_expected»)) (length (b .«last_anomalous»)) (p₃ .1);
       }
 
@@ -155,35 +170,35 @@ module _ (r : Reading) (l : LastDescriptor) (b : Lent) (stateBase e h w : ℕ) (
   unfolding block
   block-below =
       let z = sizes (r .«shingle_size») (r .«base_dimension») sized in
-      let n = lengths in
-      block-within (b .high) (b .low) (r .«shingle_size») (r .«base_dimension») (gap r l b) (n .of .of-high ∙ product) (n .of .of-high ∙ sym (n .of .of-low)) (z .shingle-least) (z .base-least) gapped
+      let n = fits in
+      block-within (b .high) (b .low) (r .«shingle_size») (r .«base_dimension») (gap r l b) (n .of-high ∙ product) (n .of-high ∙ sym (n .of-low)) (z .shingle-least) (z .base-least) gapped
 
   inside : start r l b + r .«base_dimension» ≤ length (b .point)
   unfolding start
-  inside = le-trans (row-inside (block r l b) (r .«shingle_size») (r .«base_dimension») block-below) (le-of-eq (sym (lengths .of .of-point ∙ product)))
+  inside = le-trans (row-inside (block r l b) (r .«shingle_size») (r .«base_dimension») block-below) (le-of-eq (sym (fits .of-point ∙ product)))
 
   apart : (start r l b + r .«base_dimension» ≡ length (b .point)) ⊎ (start r l b + r .«base_dimension» ≤ length (b .point) - r .«base_dimension»)
   unfolding start
   apart =
       subst (λ (n : ℕ). (block r l b * r .«base_dimension» + r .«base_dimension» ≡ n) ⊎ (block r l b * r .«base_dimension» + r .«base_dimension» ≤ n - r .«base_dimension»))
-      (sym (lengths .of .of-point ∙ product))
+      (sym (fits .of-point ∙ product))
       (row-apart (block r l b) (r .«shingle_size») (r .«base_dimension») block-below)
 
   pub branching : Branching r l b
   branching =
       let z = sizes (r .«shingle_size») (r .«base_dimension») sized in
-      let n = lengths in
+      let n = fits in
       let k = block-below in
       let m = z .shingle-most in
-      let long = n .of .of-point in
+      let long = n .of-point in
       record {
         shingle-most = z .shingle-most;
         base-most = z .base-most;
         point-most = subst (λ (x : ℕ). x ≤ 1024) (sym (long ∙ product)) (product-fits (r .«shingle_size») (r .«base_dimension») sized);
         expecting = record {
-          high-long = n .of .of-high ∙ sym long;
-          low-long = n .of .of-low ∙ sym long;
-          median-long = n .of .of-median ∙ sym long;
+          high-long = n .of-high ∙ sym long;
+          low-long = n .of-low ∙ sym long;
+          median-long = n .of-median ∙ sym long;
           out-long = refl;
           some = z .base-least;
           few = z .base-most;
@@ -196,8 +211,8 @@ module _ (r : Reading) (l : LastDescriptor) (b : Lent) (stateBase e h w : ℕ) (
   correctable : Correctable r l b
   correctable =
       let z = sizes (r .«shingle_size») (r .«base_dimension») sized in
-      let n = lengths in
-      let long = n .of .of-point in
+      let n = fits in
+      let long = n .of-point in
       record {
         point-most = branching .point-most;
         correcting = record {
@@ -221,10 +236,10 @@ module _ (r : Reading) (l : LastDescriptor) (b : Lent) (stateBase e h w : ℕ) (
 
   pub writing : Writing b e h w
   writing =
-      let n = lengths in
+      let n = fits in
       record {
-        expected-long = n .of .of-expected ∙ sym (n .of .of-point);
-        low-long = n .of .of-high ∙ sym (n .of .of-low);
-        out-high-long = n .of .of-high ∙ sym (n .of .of-out-high);
-        out-low-long = n .of .of-high ∙ sym (n .of .of-out-low);
+        expected-long = n .of-expected ∙ sym (n .of-point);
+        low-long = n .of-high ∙ sym (n .of-low);
+        out-high-long = n .of-high ∙ sym (n .of-out-high);
+        out-low-long = n .of-high ∙ sym (n .of-out-low);
       }

@@ -1,6 +1,6 @@
 -- What each stage's calls answer, in the words of the definitions, and which way the tests choose. Assumes nothing.
-use mathlib.Core.Path.{_≡_, refl, sym, ap, ap₂, _∙_}
-use mathlib.Core.Bool.{Bool, true, false, cond, not, _&&_}
+use mathlib.Core.Path.{_≡_, refl, ap, ap₂, _∙_}
+use mathlib.Core.Bool.{Bool, true, false, not, _&&_}
 use mathlib.Core.List.{List}
 use Prim.Native.Nat.{ℕ, _*_}
 use lib.Dec.{ltb}
@@ -8,9 +8,6 @@ use lib.ListN.{length, replicate}
 use lib.Ieee as Ieee
 use lib.Ieee.{Float, binary32}
 use Rattle.types.specs.Codes.{isDifferenced}
-use Rattle.types.specs.declared.Answer.{Answer}
-use Rattle.types.specs.declared.Answer.the-variants as Answers
-use Rattle.types.specs.declared.Refusal.{Refusal}
 use Rattle.types.specs.declared.CorrectionMode.the-variants.{NOISE, «ANOMALY_IN_SHINGLE»}
 use Rattle.basicthresholder.specs.declared.BasicThresholder.{BasicThresholder}
 use Rattle.basicthresholder.specs.declared.Graded.{Graded}
@@ -18,14 +15,12 @@ use Rattle.divector.specs.DiVector.{maxGapContribution}
 use Rattle.uncertainty_box.specs.Box.{uncertaintyBox, explainedByConditionalField}
 use Rattle.uncertainty_box.specs.Pass.{centeredTransformPass}
 use Rattle.corrector.specs.Corrector.{applyBasicCorrector, trigger}
-use Rattle.descriptor.specs.Checks.{answerOf}
 use Rattle.descriptor.specs.Lent.{Lent}
 use Rattle.descriptor.specs.declared.Reading.{Reading}
 use Rattle.descriptor.specs.declared.LastDescriptor.{LastDescriptor}
 use Rattle.detection.specs.Const.{zero32}
 use Rattle.detection.specs.Judging.{gapOf, isRecent, blockOf, gap, recent, opening, correctedPoint, noisePass, block, start, box, explained, triggered}
-use Rattle.detection.specs.Steps.{passing, gradedWay, acceptedWay, wayOf, way}
-use Rattle.detection.specs.declared.Way.{Way}
+use Rattle.detection.specs.Steps.{passing, way}
 use Rattle.detection.specs.declared.Way.the-variants as Ways
 
 module _ (r : Reading) (l : LastDescriptor) (b : Lent) where
@@ -68,51 +63,32 @@ module _ (r : Reading) (l : LastDescriptor) (b : Lent) where
   unfolding triggered gap
   shingle-is t threshold e = e
 
-  -- ---- above an opening grade of 0
-  module _ (t : BasicThresholder) (g : Graded) where
-    pub graded-quiet : (recent r l b && Ieee.eq (opening t r (r .«corrected_score») .grade) zero32) ≡ true → Ways.Corrected (g .threshold) «ANOMALY_IN_SHINGLE» ≡ gradedWay r l b t g
-    unfolding gradedWay
-    graded-quiet h = rw h
+  -- ---- which way the tests choose
+  module _ (t : BasicThresholder) where
+    pub way-skipped : Ieee.eq (r .score) zero32 ≡ true → Ways.Skipped ≡ way r l b t
+    unfolding way
+    way-skipped k = rw k
 
-    pub graded-noise : (f : Float) → f ≡ noisePass r l b → (recent r l b && Ieee.eq (opening t r (r .«corrected_score») .grade) zero32) ≡ false
-        → Ieee.eq (Ieee.mul binary32 (g .grade) f) zero32 ≡ true → Ways.Corrected (g .threshold) NOISE ≡ gradedWay r l b t g
-    unfolding gradedWay
-    graded-noise f e h k = rw (h, rw e at k)
+    module _ (k : Ieee.eq (r .score) zero32 ≡ false) (g : Graded) (q : g ≡ opening t r (r .score)) where
+      pub way-quiet : Ieee.eq (g .grade) zero32 ≡ true → Ways.Quiet (g .threshold) ≡ way r l b t
+      unfolding way
+      way-quiet z = ap (λ (o : Graded). Ways.Quiet (o .threshold)) q ∙ rw (k, rw q at z)
 
-    pub graded-past : (f : Float) → f ≡ noisePass r l b → (recent r l b && Ieee.eq (opening t r (r .«corrected_score») .grade) zero32) ≡ false
-        → Ieee.eq (Ieee.mul binary32 (g .grade) f) zero32 ≡ false → Ways.Past (g .threshold) (Ieee.mul binary32 (g .grade) f) ≡ gradedWay r l b t g
-    unfolding gradedWay
-    graded-past f e h k = ap (λ (x : Float). Ways.Past (g .threshold) (Ieee.mul binary32 (g .grade) x)) e ∙ rw (h, rw e at k)
+      module _ (z : Ieee.eq (g .grade) zero32 ≡ false) where
+        pub way-shingle : (recent r l b && Ieee.eq (opening t r (r .«corrected_score») .grade) zero32) ≡ true → Ways.Corrected (g .threshold) «ANOMALY_IN_SHINGLE» ≡ way r l b t
+        unfolding way
+        way-shingle h = ap (λ (o : Graded). Ways.Corrected (o .threshold) «ANOMALY_IN_SHINGLE») q ∙ rw (k, rw q at z, h)
+
+        module _ (h : (recent r l b && Ieee.eq (opening t r (r .«corrected_score») .grade) zero32) ≡ false) (f : Float) (e : f ≡ noisePass r l b) where
+          pub way-noise : Ieee.eq (Ieee.mul binary32 (g .grade) f) zero32 ≡ true → Ways.Corrected (g .threshold) NOISE ≡ way r l b t
+          unfolding way
+          way-noise m = ap (λ (o : Graded). Ways.Corrected (o .threshold) NOISE) q ∙ rw (k, rw q at z, h, rw (q, e) at m)
+
+          pub way-past : Ieee.eq (Ieee.mul binary32 (g .grade) f) zero32 ≡ false → Ways.Past (g .threshold) (Ieee.mul binary32 (g .grade) f) ≡ way r l b t
+          unfolding way
+          way-past m = ap₂ (λ (o : Graded) (x : Float). Ways.Past (o .threshold) (Ieee.mul binary32 (o .grade) x)) q e ∙ rw (k, rw q at z, h, rw (q, e) at m)
 
     -- It looks at six buffers.
-    pub graded-lent : gradedWay r l (passing (b .point) (b .scale) (b .shift) (b .«difference_deviations») (b .«last_expected») (b .«last_anomalous»)) t g ≡ gradedWay r l b t g
-    unfolding gradedWay recent gap noisePass correctedPoint
-    graded-lent = refl
-
-  -- ---- by the answer of the entry checks
-  module _ (t : BasicThresholder) (base e h w : ℕ) (ok : Bool) (a : Answer) (said : a ≡ answerOf r l b base e h w ok) where
-    way-is : wayOf r l b t a ≡ way r l b t base e h w ok
-    unfolding way
-    way-is = ap (wayOf r l b t) said
-
-    pub way-refused : (why : Refusal) → a ≡ Answers.Refused why → Ways.Refused why ≡ way r l b t base e h w ok
-    unfolding wayOf
-    way-refused why k = ap (wayOf r l b t) (sym k) ∙ way-is
-
-    module _ (d : a ≡ Answers.Done) where
-      way-done : acceptedWay r l b t ≡ way r l b t base e h w ok
-      unfolding wayOf
-      way-done = ap (wayOf r l b t) (sym d) ∙ way-is
-
-      pub way-skipped : Ieee.eq (r .score) zero32 ≡ true → Ways.Skipped ≡ way r l b t base e h w ok
-      unfolding acceptedWay
-      way-skipped k = let p : Ways.Skipped ≡ acceptedWay r l b t = rw k in p ∙ way-done
-
-      pub way-quiet : Ieee.eq (r .score) zero32 ≡ false → (g : Graded) → g ≡ opening t r (r .score) → Ieee.eq (g .grade) zero32 ≡ true → Ways.Quiet (g .threshold) ≡ way r l b t base e h w ok
-      unfolding acceptedWay
-      way-quiet k g q z = let p : Ways.Quiet (opening t r (r .score) .threshold) ≡ acceptedWay r l b t = rw (k, rw q at z) in ap (λ (o : Graded). Ways.Quiet (o .threshold)) q ∙ p ∙ way-done
-
-      pub way-graded : Ieee.eq (r .score) zero32 ≡ false → (g : Graded) → g ≡ opening t r (r .score) → Ieee.eq (g .grade) zero32 ≡ false
-          → (y : Way) → y ≡ gradedWay r l b t g → y ≡ way r l b t base e h w ok
-      unfolding acceptedWay
-      way-graded k g q z y x = let p : gradedWay r l b t (opening t r (r .score)) ≡ acceptedWay r l b t = rw (k, rw q at z) in x ∙ ap (gradedWay r l b t) q ∙ p ∙ way-done
+    pub way-lent : way r l (passing (b .point) (b .scale) (b .shift) (b .«difference_deviations») (b .«last_expected») (b .«last_anomalous»)) t ≡ way r l b t
+    unfolding way recent gap noisePass correctedPoint
+    way-lent = refl

@@ -2,6 +2,7 @@
 use basicthresholder::BasicThresholder;
 use basicthresholder::Graded;
 use descriptor::LastDescriptor;
+use descriptor::Lengths;
 use descriptor::Reading;
 use deviation::Deviation;
 use predictorcorrector::PredictorCorrector;
@@ -157,6 +158,13 @@ fn box_of(
     out
 }
 
+// The block that contributes most: its place among the blocks, where it starts, and the uncertainty box there in the first `base` places.
+struct Block {
+    index: usize,
+    start: usize,
+    edges: [f32; 16],
+}
+
 // Where the block starts.
 fn block_start(block: usize, base: usize) -> usize
     requires { ⌜ block ≤ 1024 ⌝ ∗ ⌜ base ≤ 16 ⌝ }
@@ -173,21 +181,19 @@ fn relative_index(block: usize, shingle_size: usize) -> i32
     (block as i32) - (shingle_size as i32) + 1
 }
 
-// Where a reading ends, up to the noise pass; or the threshold and the grade that it is past it with.
+// Where an accepted reading ends, up to the noise pass; or the threshold and the grade that it is past it with.
 enum Way {
-    Refused(Refusal),
     Skipped,
     Quiet(f32),
     Corrected(f32, CorrectionMode),
     Past(f32, f32),
 }
 
-// Above an opening grade of 0: the corrected point's grade, and the noise pass.
-fn graded_way(
+// Every exit of an accepted reading up to the noise pass.
+fn find_way(
     t: BasicThresholder,
     r: Reading,
     l: LastDescriptor,
-    opened: Graded,
     point: &[f32],
     scale: &[f32],
     shift: &[f32],
@@ -196,8 +202,15 @@ fn graded_way(
     last_anomalous: &[f32],
 ) -> Way
     requires { ⌜ Steps.Correctable r l (Steps.passing (now point) (now scale) (now shift) (now «difference_deviations») (now «last_expected») (now «last_anomalous»)) ⌝ }
-    ensures { λ y. ⌜ y ≡ Steps.gradedWay r l (Steps.passing (now (point .entry)) (now (scale .entry)) (now (shift .entry)) (now («difference_deviations» .entry)) (now («last_expected» .entry)) (now («last_anomalous» .entry))) t opened ⌝ }
+    ensures { λ y. ⌜ y ≡ Steps.way r l (Steps.passing (now (point .entry)) (now (scale .entry)) (now (shift .entry)) (now («difference_deviations» .entry)) (now («last_expected» .entry)) (now («last_anomalous» .entry))) t ⌝ }
 {
+    if scoring::is_skipped(r.score) {
+        return Way::Skipped;
+    }
+    let opened = scoring::opening(t, r, r.score);
+    if opened.grade == 0.0 {
+        return Way::Quiet(opened.threshold);
+    }
     if scoring::corrected_quiet(t, r, l) {
         return Way::Corrected(opened.threshold, CorrectionMode::ANOMALY_IN_SHINGLE);
     }
@@ -217,78 +230,6 @@ fn graded_way(
         return Way::Corrected(opened.threshold, CorrectionMode::NOISE);
     }
     Way::Past(opened.threshold, working)
-}
-
-// The entry checks, then every exit up to the noise pass. The last three numbers are the lengths of the buffers to write.
-fn find_way(
-    t: BasicThresholder,
-    counts_ok: bool,
-    base: usize,
-    r: Reading,
-    l: LastDescriptor,
-    point: &[f32],
-    scale: &[f32],
-    shift: &[f32],
-    difference_deviations: &[f32],
-    last_expected: &[f32],
-    last_anomalous: &[f32],
-    high: &[f64],
-    low: &[f64],
-    median: &[f32],
-    ideal_high: &[f64],
-    ideal_low: &[f64],
-    neighbours: &[f32],
-    expected: usize,
-    out_high: usize,
-    out_low: usize,
-) -> Way
-    ensures { λ y. ⌜ y ≡ Steps.way r l (lent (now (point .entry)) (now (scale .entry)) (now (shift .entry)) (now («difference_deviations» .entry))
-        (now («last_expected» .entry)) (now («last_anomalous» .entry)) (now (high .entry)) (now (low .entry)) (now (median .entry))
-        (now («ideal_high» .entry)) (now («ideal_low» .entry)) (now (neighbours .entry))) t base expected «out_high» «out_low» «counts_ok» ⌝ }
-{
-    let answer = descriptor::answer(
-        r,
-        l,
-        point,
-        scale,
-        shift,
-        difference_deviations,
-        last_expected,
-        last_anomalous,
-        high,
-        low,
-        median,
-        ideal_high,
-        ideal_low,
-        neighbours,
-        base,
-        expected,
-        out_high,
-        out_low,
-        counts_ok,
-    );
-    if let Answer::Refused(why) = answer {
-        return Way::Refused(why);
-    }
-    if scoring::is_skipped(r.score) {
-        return Way::Skipped;
-    }
-    let opened = scoring::opening(t, r, r.score);
-    if opened.grade == 0.0 {
-        return Way::Quiet(opened.threshold);
-    }
-    graded_way(
-        t,
-        r,
-        l,
-        opened,
-        point,
-        scale,
-        shift,
-        difference_deviations,
-        last_expected,
-        last_anomalous,
-    )
 }
 
 // An outcome short of the candidate branch.
@@ -370,11 +311,8 @@ fn expected_exits(
     k: Standing,
     r: Reading,
     l: LastDescriptor,
-    block: usize,
-    start: usize,
-    edges: [f32; 16],
-    threshold: f32,
-    grade: f32,
+    block: Block,
+    working: Graded,
     point: &[f32],
     scale: &[f32],
     difference_deviations: &[f32],
@@ -388,16 +326,19 @@ fn expected_exits(
     requires { ⌜ Steps.Branching r l (Steps.branch (now point) (now scale) (now «difference_deviations») (now high) (now low) (now median)) ⌝
         ∗ ⌜ Steps.Writing (Steps.branch (now point) (now scale) (now «difference_deviations») (now high) (now low) (now median))
         (length (now expected)) (length (now «out_high»)) (length (now «out_low»)) ⌝
-        ∗ ⌜ block ≡ Judging.block r l (Steps.branch (now point) (now scale) (now «difference_deviations») (now high) (now low) (now median)) ⌝
-        ∗ ⌜ start ≡ Judging.start r l (Steps.branch (now point) (now scale) (now «difference_deviations») (now high) (now low) (now median)) ⌝
-        ∗ ⌜ length edges ≡ 16 ⌝ }
+        ∗ ⌜ block .index ≡ Judging.block r l (Steps.branch (now point) (now scale) (now «difference_deviations») (now high) (now low) (now median)) ⌝
+        ∗ ⌜ block .start ≡ Judging.start r l (Steps.branch (now point) (now scale) (now «difference_deviations») (now high) (now low) (now median)) ⌝
+        ∗ ⌜ length (block .edges) ≡ 16 ⌝ }
     ensures { λ j. ⌜ Decided.Decided r l (Steps.branch (now (point .entry)) (now (scale .entry)) (now («difference_deviations» .entry))
         (now (high .entry)) (now (low .entry)) (now (median .entry))) (Steps.expectedOutcome k r l (Steps.branch (now (point .entry))
         (now (scale .entry)) (now («difference_deviations» .entry)) (now (high .entry)) (now (low .entry)) (now (median .entry)))
-        (take (r .«base_dimension») edges) threshold grade) j (now (expected .entry)) (now («out_high» .entry)) (now («out_low» .entry))
+        (take (r .«base_dimension») (block .edges)) (working .threshold) (working .grade)) j (now (expected .entry)) (now («out_high» .entry)) (now («out_low» .entry))
         (now (expected .exit)) (now («out_high» .exit)) (now («out_low» .exit)) ⌝ }
 {
     let base = r.base_dimension;
+    let start = block.start;
+    let edges = block.edges;
+    let threshold = working.threshold;
     let row = corrector::expected_row(high, low, start, base, point, median);
     if within_expected(edges, start, base, scale, point, row) {
         return without_row(Outcome::Accepted(Verdict::Corrected(
@@ -423,8 +364,8 @@ fn expected_exits(
     }
     scoring::write_raised(r, start, point, row, high, low, expected, out_high, out_low);
     Decision {
-        outcome: Outcome::Accepted(Verdict::Raised(threshold, grade)),
-        relative_index: relative_index(block, r.shingle_size),
+        outcome: Outcome::Accepted(Verdict::Raised(threshold, working.grade)),
+        relative_index: relative_index(block.index, r.shingle_size),
         newest_expected,
     }
 }
@@ -434,8 +375,7 @@ fn past_noise(
     k: Standing,
     r: Reading,
     l: LastDescriptor,
-    threshold: f32,
-    grade: f32,
+    working: Graded,
     point: &[f32],
     scale: &[f32],
     shift: &[f32],
@@ -458,12 +398,13 @@ fn past_noise(
         (now («difference_deviations» .entry)) (now (high .entry)) (now (low .entry)) (now (median .entry)) (now («ideal_high» .entry))
         (now («ideal_low» .entry)) (now (neighbours .entry))) (Steps.lateOutcome k r l (Steps.late (now (point .entry)) (now (scale .entry))
         (now (shift .entry)) (now («difference_deviations» .entry)) (now (high .entry)) (now (low .entry)) (now (median .entry))
-        (now («ideal_high» .entry)) (now («ideal_low» .entry)) (now (neighbours .entry))) threshold grade) j (now (expected .entry))
+        (now («ideal_high» .entry)) (now («ideal_low» .entry)) (now (neighbours .entry))) (working .threshold) (working .grade)) j (now (expected .entry))
         (now («out_high» .entry)) (now («out_low» .entry)) (now (expected .exit)) (now («out_high» .exit)) (now («out_low» .exit)) ⌝ }
 {
     let base = r.base_dimension;
-    let block = scoring::anomaly_block(r, l, high, low);
-    let start = block_start(block, base);
+    let threshold = working.threshold;
+    let index = scoring::anomaly_block(r, l, high, low);
+    let start = block_start(index, base);
     let edges = box_of(r, start, point, scale, shift, difference_deviations);
     if scoring::auto_explained(
         k.auto_adjust,
@@ -488,11 +429,12 @@ fn past_noise(
         k,
         r,
         l,
-        block,
-        start,
-        edges,
-        threshold,
-        grade,
+        Block {
+            index,
+            start,
+            edges,
+        },
+        working,
         point,
         scale,
         difference_deviations,
@@ -537,12 +479,27 @@ pub fn judge(
         (length (now («out_low» .entry)))) j (now (expected .entry)) (now («out_high» .entry)) (now («out_low» .entry)) (now (expected .exit))
         (now («out_high» .exit)) (now («out_low» .exit)) ⌝ }
 {
-    let way = find_way(
-        k.basic_thresholder,
-        k.counts_ok,
-        k.base_dimension,
+    let lengths = Lengths {
+        point: point.len(),
+        scale: scale.len(),
+        shift: shift.len(),
+        difference_deviations: difference_deviations.len(),
+        last_expected: last_expected.len(),
+        last_anomalous: last_anomalous.len(),
+        high: high.len(),
+        low: low.len(),
+        median: median.len(),
+        ideal_high: ideal_high.len(),
+        ideal_low: ideal_low.len(),
+        neighbours: neighbours.len(),
+        expected: expected.len(),
+        out_high: out_high.len(),
+        out_low: out_low.len(),
+    };
+    let answer = descriptor::answer(
         r,
         l,
+        lengths,
         point,
         scale,
         shift,
@@ -555,12 +512,24 @@ pub fn judge(
         ideal_high,
         ideal_low,
         neighbours,
-        expected.len(),
-        out_high.len(),
-        out_low.len(),
+        k.base_dimension,
+        k.counts_ok,
+    );
+    if let Answer::Refused(why) = answer {
+        return without_row(Outcome::Refused(why));
+    }
+    let way = find_way(
+        k.basic_thresholder,
+        r,
+        l,
+        point,
+        scale,
+        shift,
+        difference_deviations,
+        last_expected,
+        last_anomalous,
     );
     match way {
-        Way::Refused(why) => without_row(Outcome::Refused(why)),
         Way::Skipped => without_row(Outcome::Accepted(Verdict::Skipped)),
         Way::Quiet(threshold) => without_row(Outcome::Accepted(Verdict::Quiet(threshold))),
         Way::Corrected(threshold, mode) => {
@@ -570,8 +539,7 @@ pub fn judge(
             k,
             r,
             l,
-            threshold,
-            grade,
+            Graded { threshold, grade },
             point,
             scale,
             shift,

@@ -3,11 +3,11 @@ use mathlib.Core.Path.{_≡_, refl, sym, ap, _∙_}
 use mathlib.Core.Bool.{Bool, true, false, cond, _&&_}
 use mathlib.Core.List.{List, [], _∷_, _++_}
 use Prim.Native.Nat.{ℕ, zero, suc, _+_, _*_, _-_, _<_, _≤_}
-use native.Mathlib.Nat.{not-suc-le-zero, le-of-suc-le-suc, add-assoc, add-zero}
+use native.Mathlib.Nat.{not-suc-le-zero, add-assoc, add-zero}
 use native.Mathlib.Numerals.{add-one}
 use native.Mathlib.Omega.{arith}
 use lib.Dec.{T, eqb, leb, ltb}
-use lib.ListN.{length, getD, set, take, drop, length-set, length-replicate, replicate, List·getD-eq-default}
+use lib.ListN.{length, getD, set, take, drop, length-set, replicate, List·getD-eq-default}
 use lib.Seq.{getD-drop, getD-set-same, getD-set-other, drop-drop, drop-at}
 use lib.Ieee.{Float, binary32, fits}
 use lib.Ieee as Ieee
@@ -21,13 +21,12 @@ use Rattle.basicthresholder.specs.declared.BasicThresholder.{BasicThresholder}
 use Rattle.predictorcorrector.specs.State.{state, withThresholder, withRun, existing, stateCountsOk, longerRun, runEnded, autoAdjusted, candidateCounted, heightScore, updateScore}
 use Rattle.predictorcorrector.specs.declared.PredictorCorrector.{PredictorCorrector}
 use Rattle.predictorcorrector.specs.Lists.{changed, stepped, rowFits, firstCountable, listCountable}
-use Rattle.predictorcorrector.proofs.Rows.{countable-next, changed-at, stepped-at, none-left, row-fits, lists-ok, thresholder-ok}
+use Rattle.predictorcorrector.proofs.Rows.{countable-next, changed-at, stepped-at, none-left, row-fits, lists-ok}
 use Rattle.types.specs.declared.Refusal.the-variants.{Range, Length, Count}
 use Rattle.types.specs.declared.Answer.the-variants.{Done, Refused}
 use Rattle.types.specs.Codes.{isHeight}
 use Rattle.types.specs.declared.ScoringStrategy.{ScoringStrategy}
 use Rattle.descriptor.specs.declared.Reading.{Reading}
-use Rattle.descriptor.specs.declared.LastDescriptor.{LastDescriptor}
 use Rattle.descriptor.specs.Checks.{rangeOk, sizesOk}
 use Rattle.descriptor.proofs.Bounds.{sizes}
 use Rattle.basicthresholder.specs.Updates.{countsOk, updated, update, updateBoth, updatePrimary, bothCounted, primaryCounted}

@@ -1,5 +1,5 @@
--- What a call reads of a state's, a reading's and the last descriptor's bytes. Of the refusals that apply the smallest is answered, and nothing inside a slice of
--- another length is looked at.
+-- What a call reads of a state's, a reading's and the last descriptor's bytes. Nothing inside a slice of another length is looked at. Sizes are tested here only where
+-- some slice has another length, since 2 then comes before 3; otherwise the call behind tests them.
 use Prim.Native.Nat.{ℕ}
 use mathlib.Core.Bool.{Bool, true, cond, _&&_}
 use mathlib.Core.List.{List}

@@ -1,5 +1,5 @@
 -- The bytes of a stored state after a call. A reading: its scores enter the thresholder, and the run and the two lists change. A state that the reading does not fit,
--- or that refusal 6 is of, is left alone, whole.
+-- that has a yes/no byte above 1, or that refusal 6 is of, is left alone, whole.
 use Prim.Native.Nat.{ℕ}
 use mathlib.Core.Bool.{Bool, cond, _&&_}
 use mathlib.Core.List.{List}

@@ -1,4 +1,4 @@
--- How many bytes each record has, and where in it each number stands: the fields in the Rust's order without gaps.
+-- How many bytes each record has, and where in it each number stands, without gaps. A statistic and a thresholder have their fields in the Rust's order.
 use Prim.Native.Nat.{ℕ}
 
 -- ---- a statistic; its discount stands first.

@@ -1280,8 +1280,8 @@ fn sizes_fit(state: &[u8], reading: &[u8]) -> bool
     true
 }
 
-// What a call reads of all three: 2 for a code, a yes/no byte or a size in a slice that can be read, then 3 for a slice of another length; `out` is whether the one
-// that the call writes has its length.
+// What a call reads of all three: 2 for a code or a yes/no byte in a slice that can be read; where a slice has another length, 2 for such a size, then 3. `out` is
+// whether the one that the call writes has its length. Where all have theirs, the call behind tests the sizes.
 pub fn read_call(state: &[u8], reading: &[u8], last: &[u8], out: bool) -> CallRead
     ensures { λ r. ⌜ r ≡ Call.readCall (now (state .entry)) (now (reading .entry)) (now (last .entry)) out ⌝ }
 {

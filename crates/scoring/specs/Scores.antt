@@ -51,7 +51,7 @@ updateScore t r l corrected = State.updateScore t (r .«scoring_strategy») (r .
 unfoldable pub entered : PredictorCorrector → Reading → LastDescriptor → Float → PredictorCorrector
 entered s r l corrected = withThresholder s (updateScore (s .«basic_thresholder») r l corrected)
 
--- The block that a search answers. It is refused for no accepted reading.
+-- The block that a search answers, 0 where it is refused; it is not for the attribution of an accepted reading.
 unfoldable pub blockOf : Block → ℕ
 blockOf (Blocks.At k) = k
 blockOf (Blocks.Refused why) = 0

@@ -1,74 +1,79 @@
-use mathlib.Core.Path.{_∙_, sym}
+use mathlib.Core.Path.{_∙_, sym, subst}
+use Prim.Native.Nat.{ℕ}
 use denote.Ref.{now}
-use Rattle.descriptor.specs.Lent.{lent}
-use Rattle.detection.proofs.Entry.{for-noise}
-use Rattle.detection.proofs.Stages.{way-refused, way-skipped, way-quiet, way-graded, graded-lent}
+use lib.ListN.{length}
+use Rattle.corrector.specs.Steps.{Correcting}
+use Rattle.detection.proofs.Stages.{gap-is, quiet-is, pass-is, way-skipped, way-quiet, way-shingle, way-noise, way-past}
+use Rattle.detection.specs.Steps.{passing}
 use borrow.Author.Needs.{needs}
 use Rattle.detection.proofs.find_way.Statement.{statement}
 use Rattle.detection.proofs.find_way.Tie as tie
 use Rattle.detection.proofs.find_way.Reads as reads
 use Rattle.detection.proofs.find_way.Lts as lts
-use Rattle.descriptor.proofs.answer.Reads as answer-reads
-use Rattle.detection.proofs.graded_way.Reads as graded-way-reads
+use Rattle.detection.proofs.noise_pass.Reads as noise-pass-reads
+use Rattle.scoring.proofs.corrected_quiet.Reads as corrected-quiet-reads
+use Rattle.scoring.proofs.gap.Reads as gap-reads
 use Rattle.scoring.proofs.is_skipped.Reads as is-skipped-reads
 use Rattle.scoring.proofs.opening.Reads as opening-reads
-
-answer-requires : tie.Need-answer-requires
-answer-requires c κs = search needs
-
-enum-known-answer : tie.Need-enum-known-answer
-enum-known-answer c = search needs
-
-returns : tie.Need-returns
-returns c =
-    let b = lent (now (c .before .before .before .before .before .before .before .before .before .before .before .before .before .before .before .before .args .point)) (now (c .before .before .before .before .before .before .before .before .before .before .before .before .before .before .before .before .args .scale)) (now (c .before .before .before .before .before .before .before .before .before .before .before .before .before .before .before .before .args .shift)) (now (c .before .before .before .before .before .before .before .before .before .before .before .before .before .before .before .before .args .difference-deviations)) (now (c .before .before .before .before .before .before .before .before .before .before .before .before .before .before .before .before .args .last-expected)) (now (c .before .before .before .before .before .before .before .before .before .before .before .before .before .before .before .before .args .last-anomalous)) (now (c .before .before .before .before .before .before .before .before .before .before .before .before .before .before .before .before .args .high)) (now (c .before .before .before .before .before .before .before .before .before .before .before .before .before .before .before .before .args .low)) (now (c .before .before .before .before .before .before .before .before .before .before .before .before .before .before .before .before .args .median)) (now (c .before .before .before .before .before .before .before .before .before .before .before .before .before .before .before .before .args .ideal-high)) (now (c .before .before .before .before .before .before .before .before .before .before .before .before .before .before .before .before .args .ideal-low)) (now (c .before .before .before .before .before .before .before .before .before .before .before .before .before .before .before .before .args .neighbours)) in
-    let a = c .before .before .before .before .before .before .before .before .before .before .before .before .before .before .before .before .args in
-    way-refused (a .r) (a .l) b (a .t) (a .base) (a .expected) (a .out-high) (a .out-low) (a .counts-ok) (c .before .before .before .answer .result) (c .before .before .before .answer .ensures) _ (c .before .answer2 .given .1)
-
-enum-told : tie.Need-enum-told
-enum-told c = search needs
 
 is-skipped-requires : tie.Need-is-skipped-requires
 is-skipped-requires c κs = search needs
 
-returns-2 : tie.Need-returns-2
-returns-2 c =
-    let b = lent (now (c .before .before .before .before .before .before .before .before .before .before .before .before .before .before .before .before .before .args .point)) (now (c .before .before .before .before .before .before .before .before .before .before .before .before .before .before .before .before .before .args .scale)) (now (c .before .before .before .before .before .before .before .before .before .before .before .before .before .before .before .before .before .args .shift)) (now (c .before .before .before .before .before .before .before .before .before .before .before .before .before .before .before .before .before .args .difference-deviations)) (now (c .before .before .before .before .before .before .before .before .before .before .before .before .before .before .before .before .before .args .last-expected)) (now (c .before .before .before .before .before .before .before .before .before .before .before .before .before .before .before .before .before .args .last-anomalous)) (now (c .before .before .before .before .before .before .before .before .before .before .before .before .before .before .before .before .before .args .high)) (now (c .before .before .before .before .before .before .before .before .before .before .before .before .before .before .before .before .before .args .low)) (now (c .before .before .before .before .before .before .before .before .before .before .before .before .before .before .before .before .before .args .median)) (now (c .before .before .before .before .before .before .before .before .before .before .before .before .before .before .before .before .before .args .ideal-high)) (now (c .before .before .before .before .before .before .before .before .before .before .before .before .before .before .before .before .before .args .ideal-low)) (now (c .before .before .before .before .before .before .before .before .before .before .before .before .before .before .before .before .before .args .neighbours)) in
-    let a = c .before .before .before .before .before .before .before .before .before .before .before .before .before .before .before .before .before .args in
-    way-skipped (a .r) (a .l) b (a .t) (a .base) (a .expected) (a .out-high) (a .out-low) (a .counts-ok) (c .before .before .before .before .answer .result) (c .before .before .before .before .answer .ensures) (c .before .before .enum-told .given .1) (sym (c .before .is-skipped .ensures) ∙ c .if1 .taken)
+returns : tie.Need-returns
+returns c =
+    let a = c .before .before .before .before .before .before .before .before .args in
+    let b = passing (now (a .point)) (now (a .scale)) (now (a .shift)) (now (a .difference-deviations)) (now (a .last-expected)) (now (a .last-anomalous)) in
+    way-skipped (a .r) (a .l) b (a .t) (sym (c .before .is-skipped .ensures) ∙ c .if1 .taken)
 
 opening-requires : tie.Need-opening-requires
 opening-requires c κs = search needs
 
+returns-2 : tie.Need-returns-2
+returns-2 c =
+    let a = c .before .before .before .before .before .before .before .before .before .before .before .args in
+    let b = passing (now (a .point)) (now (a .scale)) (now (a .shift)) (now (a .difference-deviations)) (now (a .last-expected)) (now (a .last-anomalous)) in
+    way-quiet (a .r) (a .l) b (a .t) (sym (c .before .before .before .before .is-skipped .ensures) ∙ c .before .before .before .if1 .left) (c .before .before .opening .result) (c .before .before .opening .ensures) (c .if2 .taken)
+
+corrected-quiet-requires : tie.Need-corrected-quiet-requires
+corrected-quiet-requires c κs = search needs
+
 returns-3 : tie.Need-returns-3
 returns-3 c =
-    let b = lent (now (c .before .before .before .before .before .before .before .before .before .before .before .before .before .before .before .before .before .before .before .before .args .point)) (now (c .before .before .before .before .before .before .before .before .before .before .before .before .before .before .before .before .before .before .before .before .args .scale)) (now (c .before .before .before .before .before .before .before .before .before .before .before .before .before .before .before .before .before .before .before .before .args .shift)) (now (c .before .before .before .before .before .before .before .before .before .before .before .before .before .before .before .before .before .before .before .before .args .difference-deviations)) (now (c .before .before .before .before .before .before .before .before .before .before .before .before .before .before .before .before .before .before .before .before .args .last-expected)) (now (c .before .before .before .before .before .before .before .before .before .before .before .before .before .before .before .before .before .before .before .before .args .last-anomalous)) (now (c .before .before .before .before .before .before .before .before .before .before .before .before .before .before .before .before .before .before .before .before .args .high)) (now (c .before .before .before .before .before .before .before .before .before .before .before .before .before .before .before .before .before .before .before .before .args .low)) (now (c .before .before .before .before .before .before .before .before .before .before .before .before .before .before .before .before .before .before .before .before .args .median)) (now (c .before .before .before .before .before .before .before .before .before .before .before .before .before .before .before .before .before .before .before .before .args .ideal-high)) (now (c .before .before .before .before .before .before .before .before .before .before .before .before .before .before .before .before .before .before .before .before .args .ideal-low)) (now (c .before .before .before .before .before .before .before .before .before .before .before .before .before .before .before .before .before .before .before .before .args .neighbours)) in
-    let a = c .before .before .before .before .before .before .before .before .before .before .before .before .before .before .before .before .before .before .before .before .args in
-    way-quiet (a .r) (a .l) b (a .t) (a .base) (a .expected) (a .out-high) (a .out-low) (a .counts-ok) (c .before .before .before .before .before .before .before .answer .result) (c .before .before .before .before .before .before .before .answer .ensures) (c .before .before .before .before .before .enum-told .given .1) (sym (c .before .before .before .before .is-skipped .ensures) ∙ c .before .before .before .if1 .left) (c .before .before .opening .result) (c .before .before .opening .ensures) (c .if2 .taken)
+    let a = c .before .before .before .before .before .before .before .before .before .before .before .before .before .args in
+    let b = passing (now (a .point)) (now (a .scale)) (now (a .shift)) (now (a .difference-deviations)) (now (a .last-expected)) (now (a .last-anomalous)) in
+    way-shingle (a .r) (a .l) b (a .t) (sym (c .before .before .before .before .before .before .is-skipped .ensures) ∙ c .before .before .before .before .before .if1 .left) (c .before .before .before .before .opening .result) (c .before .before .before .before .opening .ensures) (c .before .before .if2 .left) (sym (quiet-is (a .r) (a .l) b (a .t) (c .before .corrected-quiet .result) (c .before .corrected-quiet .ensures)) ∙ c .if3 .taken)
 
-graded-way-requires : tie.Need-graded-way-requires
-graded-way-requires c κs =
-    let b = lent (now (c .before .before .before .before .before .before .before .before .before .before .before .before .before .before .before .before .before .before .before .before .args .point)) (now (c .before .before .before .before .before .before .before .before .before .before .before .before .before .before .before .before .before .before .before .before .args .scale)) (now (c .before .before .before .before .before .before .before .before .before .before .before .before .before .before .before .before .before .before .before .before .args .shift)) (now (c .before .before .before .before .before .before .before .before .before .before .before .before .before .before .before .before .before .before .before .before .args .difference-deviations)) (now (c .before .before .before .before .before .before .before .before .before .before .before .before .before .before .before .before .before .before .before .before .args .last-expected)) (now (c .before .before .before .before .before .before .before .before .before .before .before .before .before .before .before .before .before .before .before .before .args .last-anomalous)) (now (c .before .before .before .before .before .before .before .before .before .before .before .before .before .before .before .before .before .before .before .before .args .high)) (now (c .before .before .before .before .before .before .before .before .before .before .before .before .before .before .before .before .before .before .before .before .args .low)) (now (c .before .before .before .before .before .before .before .before .before .before .before .before .before .before .before .before .before .before .before .before .args .median)) (now (c .before .before .before .before .before .before .before .before .before .before .before .before .before .before .before .before .before .before .before .before .args .ideal-high)) (now (c .before .before .before .before .before .before .before .before .before .before .before .before .before .before .before .before .before .before .before .before .args .ideal-low)) (now (c .before .before .before .before .before .before .before .before .before .before .before .before .before .before .before .before .before .before .before .before .args .neighbours)) in
-    let a = c .before .before .before .before .before .before .before .before .before .before .before .before .before .before .before .before .before .before .before .before .args in
-    for-noise (a .r) (a .l) b (a .base) (a .expected) (a .out-high) (a .out-low) (a .counts-ok) (sym (c .before .before .before .before .before .before .before .answer .ensures) ∙ c .before .before .before .before .before .enum-told .given .1)
+gap-requires : tie.Need-gap-requires
+gap-requires c κs = search needs
+
+noise-pass-requires : tie.Need-noise-pass-requires
+noise-pass-requires c κs =
+    let a = c .before .before .before .before .before .before .before .before .before .before .before .before .before .before .args in
+    (c .before .before .before .before .before .before .before .before .before .before .before .before .before .before .pre .point-most, subst (λ (n : ℕ). Correcting (length (now (a .point))) n (a .r .«shingle_size») (a .r .«base_dimension») (a .l .«has_anomaly») (length (now (a .last-expected))) (length (now (a .last-anomalous))) (length (now (a .point)))) (sym (c .gap .ensures)) (c .before .before .before .before .before .before .before .before .before .before .before .before .before .before .pre .correcting))
 
 returns-4 : tie.Need-returns-4
 returns-4 c =
-    let b = lent (now (c .before .before .before .before .before .before .before .before .before .before .before .before .before .before .before .before .before .before .before .before .before .args .point)) (now (c .before .before .before .before .before .before .before .before .before .before .before .before .before .before .before .before .before .before .before .before .before .args .scale)) (now (c .before .before .before .before .before .before .before .before .before .before .before .before .before .before .before .before .before .before .before .before .before .args .shift)) (now (c .before .before .before .before .before .before .before .before .before .before .before .before .before .before .before .before .before .before .before .before .before .args .difference-deviations)) (now (c .before .before .before .before .before .before .before .before .before .before .before .before .before .before .before .before .before .before .before .before .before .args .last-expected)) (now (c .before .before .before .before .before .before .before .before .before .before .before .before .before .before .before .before .before .before .before .before .before .args .last-anomalous)) (now (c .before .before .before .before .before .before .before .before .before .before .before .before .before .before .before .before .before .before .before .before .before .args .high)) (now (c .before .before .before .before .before .before .before .before .before .before .before .before .before .before .before .before .before .before .before .before .before .args .low)) (now (c .before .before .before .before .before .before .before .before .before .before .before .before .before .before .before .before .before .before .before .before .before .args .median)) (now (c .before .before .before .before .before .before .before .before .before .before .before .before .before .before .before .before .before .before .before .before .before .args .ideal-high)) (now (c .before .before .before .before .before .before .before .before .before .before .before .before .before .before .before .before .before .before .before .before .before .args .ideal-low)) (now (c .before .before .before .before .before .before .before .before .before .before .before .before .before .before .before .before .before .before .before .before .before .args .neighbours)) in
-    let a = c .before .before .before .before .before .before .before .before .before .before .before .before .before .before .before .before .before .before .before .before .before .args in
-    way-graded (a .r) (a .l) b (a .t) (a .base) (a .expected) (a .out-high) (a .out-low) (a .counts-ok) (c .before .before .before .before .before .before .before .before .answer .result) (c .before .before .before .before .before .before .before .before .answer .ensures) (c .before .before .before .before .before .before .enum-told .given .1) (sym (c .before .before .before .before .before .is-skipped .ensures) ∙ c .before .before .before .before .if1 .left) (c .before .before .before .opening .result) (c .before .before .before .opening .ensures) (c .before .if2 .left) (c .graded-way .result) (c .graded-way .ensures ∙ graded-lent (a .r) (a .l) b (a .t) (c .before .before .before .opening .result))
+    let a = c .before .before .before .before .before .before .before .before .before .before .before .before .before .before .before .before .before .args in
+    let b = passing (now (a .point)) (now (a .scale)) (now (a .shift)) (now (a .difference-deviations)) (now (a .last-expected)) (now (a .last-anomalous)) in
+    way-noise (a .r) (a .l) b (a .t) (sym (c .before .before .before .before .before .before .before .before .before .before .is-skipped .ensures) ∙ c .before .before .before .before .before .before .before .before .before .if1 .left) (c .before .before .before .before .before .before .before .before .opening .result) (c .before .before .before .before .before .before .before .before .opening .ensures) (c .before .before .before .before .before .before .if2 .left) (sym (quiet-is (a .r) (a .l) b (a .t) (c .before .before .before .before .before .corrected-quiet .result) (c .before .before .before .before .before .corrected-quiet .ensures)) ∙ c .before .before .before .before .if3 .left) (c .before .before .noise-pass .result) (pass-is (a .r) (a .l) b (c .before .before .before .gap .result) (c .before .before .noise-pass .result) (gap-is (a .r) (a .l) b (c .before .before .before .gap .result) (c .before .before .before .gap .ensures)) (c .before .before .noise-pass .ensures)) (c .if4 .taken)
+
+returns-5 : tie.Need-returns-5
+returns-5 c =
+    let a = c .before .before .before .before .before .before .before .before .before .before .before .before .before .before .before .before .before .args in
+    let b = passing (now (a .point)) (now (a .scale)) (now (a .shift)) (now (a .difference-deviations)) (now (a .last-expected)) (now (a .last-anomalous)) in
+    way-past (a .r) (a .l) b (a .t) (sym (c .before .before .before .before .before .before .before .before .before .before .is-skipped .ensures) ∙ c .before .before .before .before .before .before .before .before .before .if1 .left) (c .before .before .before .before .before .before .before .before .opening .result) (c .before .before .before .before .before .before .before .before .opening .ensures) (c .before .before .before .before .before .before .if2 .left) (sym (quiet-is (a .r) (a .l) b (a .t) (c .before .before .before .before .before .corrected-quiet .result) (c .before .before .before .before .before .corrected-quiet .ensures)) ∙ c .before .before .before .before .if3 .left) (c .before .before .noise-pass .result) (pass-is (a .r) (a .l) b (c .before .before .before .gap .result) (c .before .before .noise-pass .result) (gap-is (a .r) (a .l) b (c .before .before .before .gap .result) (c .before .before .before .gap .ensures)) (c .before .before .noise-pass .ensures)) (c .if4 .left)
 
 pub find-way-spec : {M : Type 1} → statement M
 find-way-spec =
     tie.close
     (tie.spec
-    answer-requires
-    enum-known-answer
-    returns
-    enum-told
     is-skipped-requires
-    returns-2
+    returns
     opening-requires
+    returns-2
+    corrected-quiet-requires
     returns-3
-    graded-way-requires
-    returns-4)
+    gap-requires
+    noise-pass-requires
+    returns-4
+    returns-5)

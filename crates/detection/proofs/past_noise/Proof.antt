@@ -62,7 +62,7 @@ returns c =
     let st = start-by r l b (c .before .before .before .before .before .before .anomaly-block .result) (c .before .before .before .before .before .block-start .result) k (c .before .before .before .before .before .block-start .ensures) in
     let bx = box-is r l b (c .before .before .before .before .before .block-start .result) u st (c .before .before .before .before .box-of .ensures) in
     let x = explained-is r l b (k₀ .«auto_adjust») (c .before .before .auto-explained .result) u (c .before .before .before .before .before .block-start .result) bx st (c .before .before .auto-explained .ensures) in
-    at-explained k₀ r l b (c .before .before .before .before .before .before .before .before .before .before .before .before .before .before .before .before .before .before .before .before .args .threshold) (c .before .before .before .before .before .before .before .before .before .before .before .before .before .before .before .before .before .before .before .before .args .grade) _ (now (c .before .before .before .before .before .before .before .before .before .before .before .before .before .before .before .before .before .before .before .before .args .expected)) (now (c .before .before .before .before .before .before .before .before .before .before .before .before .before .before .before .before .before .before .before .before .args .out-high)) (now (c .before .before .before .before .before .before .before .before .before .before .before .before .before .before .before .before .before .before .before .before .args .out-low)) _ _ _ (sym x ∙ c .before .if1 .taken) (calm-left r l b (now (c .before .before .before .before .before .before .before .before .before .before .before .before .before .before .before .before .before .before .before .before .args .expected)) (now (c .before .before .before .before .before .before .before .before .before .before .before .before .before .before .before .before .before .before .before .before .args .out-high)) (now (c .before .before .before .before .before .before .before .before .before .before .before .before .before .before .before .before .before .before .before .before .args .out-low)) (Accepted (Corrected (c .before .before .before .before .before .before .before .before .before .before .before .before .before .before .before .before .before .before .before .before .args .threshold) «CONDITIONAL_FORECAST»)) _ refl (c .without-row .ensures))
+    at-explained k₀ r l b (c .before .before .before .before .before .before .before .before .before .before .before .before .before .before .before .before .before .before .before .before .args .working .threshold) (c .before .before .before .before .before .before .before .before .before .before .before .before .before .before .before .before .before .before .before .before .args .working .grade) _ (now (c .before .before .before .before .before .before .before .before .before .before .before .before .before .before .before .before .before .before .before .before .args .expected)) (now (c .before .before .before .before .before .before .before .before .before .before .before .before .before .before .before .before .before .before .before .before .args .out-high)) (now (c .before .before .before .before .before .before .before .before .before .before .before .before .before .before .before .before .before .before .before .before .args .out-low)) _ _ _ (sym x ∙ c .before .if1 .taken) (calm-left r l b (now (c .before .before .before .before .before .before .before .before .before .before .before .before .before .before .before .before .before .before .before .before .args .expected)) (now (c .before .before .before .before .before .before .before .before .before .before .before .before .before .before .before .before .before .before .before .before .args .out-high)) (now (c .before .before .before .before .before .before .before .before .before .before .before .before .before .before .before .before .before .before .before .before .args .out-low)) (Accepted (Corrected (c .before .before .before .before .before .before .before .before .before .before .before .before .before .before .before .before .before .before .before .before .args .working .threshold) «CONDITIONAL_FORECAST»)) _ refl (c .without-row .ensures))
 
 in-shingle-requires : tie.Need-in-shingle-requires
 in-shingle-requires c κs = search needs
@@ -81,8 +81,8 @@ returns-2 c =
     let st = start-by r l b (c .before .before .before .before .before .before .before .before .anomaly-block .result) (c .before .before .before .before .before .before .before .block-start .result) k (c .before .before .before .before .before .before .before .block-start .ensures) in
     let bx = box-is r l b (c .before .before .before .before .before .before .before .block-start .result) u st (c .before .before .before .before .before .before .box-of .ensures) in
     let x = explained-is r l b (k₀ .«auto_adjust») (c .before .before .before .before .auto-explained .result) u (c .before .before .before .before .before .before .before .block-start .result) bx st (c .before .before .before .before .auto-explained .ensures) in
-    let y = shingle-is r l b (c .before .before .in-shingle .result) (c .before .before .before .before .before .before .before .before .before .before .before .before .before .before .before .before .before .before .before .before .before .before .args .threshold) (c .before .before .in-shingle .ensures) in
-    at-shingle k₀ r l b (c .before .before .before .before .before .before .before .before .before .before .before .before .before .before .before .before .before .before .before .before .before .before .args .threshold) (c .before .before .before .before .before .before .before .before .before .before .before .before .before .before .before .before .before .before .before .before .before .before .args .grade) _ (now (c .before .before .before .before .before .before .before .before .before .before .before .before .before .before .before .before .before .before .before .before .before .before .args .expected)) (now (c .before .before .before .before .before .before .before .before .before .before .before .before .before .before .before .before .before .before .before .before .before .before .args .out-high)) (now (c .before .before .before .before .before .before .before .before .before .before .before .before .before .before .before .before .before .before .before .before .before .before .args .out-low)) _ _ _ (sym x ∙ c .before .before .before .if1 .left) (sym y ∙ c .before .if2 .taken) (calm-left r l b (now (c .before .before .before .before .before .before .before .before .before .before .before .before .before .before .before .before .before .before .before .before .before .before .args .expected)) (now (c .before .before .before .before .before .before .before .before .before .before .before .before .before .before .before .before .before .before .before .before .before .before .args .out-high)) (now (c .before .before .before .before .before .before .before .before .before .before .before .before .before .before .before .before .before .before .before .before .before .before .args .out-low)) (Accepted (Corrected (c .before .before .before .before .before .before .before .before .before .before .before .before .before .before .before .before .before .before .before .before .before .before .args .threshold) «ANOMALY_IN_SHINGLE»)) _ refl (c .without-row2 .ensures))
+    let y = shingle-is r l b (c .before .before .in-shingle .result) (c .before .before .before .before .before .before .before .before .before .before .before .before .before .before .before .before .before .before .before .before .before .before .args .working .threshold) (c .before .before .in-shingle .ensures) in
+    at-shingle k₀ r l b (c .before .before .before .before .before .before .before .before .before .before .before .before .before .before .before .before .before .before .before .before .before .before .args .working .threshold) (c .before .before .before .before .before .before .before .before .before .before .before .before .before .before .before .before .before .before .before .before .before .before .args .working .grade) _ (now (c .before .before .before .before .before .before .before .before .before .before .before .before .before .before .before .before .before .before .before .before .before .before .args .expected)) (now (c .before .before .before .before .before .before .before .before .before .before .before .before .before .before .before .before .before .before .before .before .before .before .args .out-high)) (now (c .before .before .before .before .before .before .before .before .before .before .before .before .before .before .before .before .before .before .before .before .before .before .args .out-low)) _ _ _ (sym x ∙ c .before .before .before .if1 .left) (sym y ∙ c .before .if2 .taken) (calm-left r l b (now (c .before .before .before .before .before .before .before .before .before .before .before .before .before .before .before .before .before .before .before .before .before .before .args .expected)) (now (c .before .before .before .before .before .before .before .before .before .before .before .before .before .before .before .before .before .before .before .before .before .before .args .out-high)) (now (c .before .before .before .before .before .before .before .before .before .before .before .before .before .before .before .before .before .before .before .before .before .before .args .out-low)) (Accepted (Corrected (c .before .before .before .before .before .before .before .before .before .before .before .before .before .before .before .before .before .before .before .before .before .before .args .working .threshold) «ANOMALY_IN_SHINGLE»)) _ refl (c .without-row2 .ensures))
 
 expected-exits-requires : tie.Need-expected-exits-requires
 expected-exits-requires c κs =
@@ -114,8 +114,8 @@ returns-3 c =
     let st = start-by r l b (c .before .before .before .before .before .before .before .before .before .before .before .before .before .before .before .before .before .anomaly-block .result) (c .before .before .before .before .before .before .before .before .before .before .before .before .before .before .before .before .block-start .result) k (c .before .before .before .before .before .before .before .before .before .before .before .before .before .before .before .before .block-start .ensures) in
     let bx = box-is r l b (c .before .before .before .before .before .before .before .before .before .before .before .before .before .before .before .before .block-start .result) u st (c .before .before .before .before .before .before .before .before .before .before .before .before .before .before .before .box-of .ensures) in
     let x = explained-is r l b (k₀ .«auto_adjust») (c .before .before .before .before .before .before .before .before .before .before .before .before .before .auto-explained .result) u (c .before .before .before .before .before .before .before .before .before .before .before .before .before .before .before .before .block-start .result) bx st (c .before .before .before .before .before .before .before .before .before .before .before .before .before .auto-explained .ensures) in
-    let y = shingle-is r l b (c .before .before .before .before .before .before .before .before .before .before .before .in-shingle .result) (c .before .before .before .before .before .before .before .before .before .before .before .before .before .before .before .before .before .before .before .before .before .before .before .before .before .before .before .before .before .before .before .args .threshold) (c .before .before .before .before .before .before .before .before .before .before .before .in-shingle .ensures) in
-    at-expected k₀ r l b (c .before .before .before .before .before .before .before .before .before .before .before .before .before .before .before .before .before .before .before .before .before .before .before .before .before .before .before .before .before .before .before .args .threshold) (c .before .before .before .before .before .before .before .before .before .before .before .before .before .before .before .before .before .before .before .before .before .before .before .before .before .before .before .before .before .before .before .args .grade) _ (now (c .before .before .before .before .before .before .before .before .before .before .before .before .before .before .before .before .before .before .before .before .before .before .before .before .before .before .before .before .before .before .before .args .expected)) (now (c .before .before .before .before .before .before .before .before .before .before .before .before .before .before .before .before .before .before .before .before .before .before .before .before .before .before .before .before .before .before .before .args .out-high)) (now (c .before .before .before .before .before .before .before .before .before .before .before .before .before .before .before .before .before .before .before .before .before .before .before .before .before .before .before .before .before .before .before .args .out-low)) _ _ _ (sym x ∙ c .before .before .before .before .before .before .before .before .before .before .before .before .if1 .left) (sym y ∙ c .before .before .before .before .before .before .before .before .before .before .if2 .left) u bx (branch-lent k₀ r l b (c .before .before .before .before .before .before .before .before .before .before .before .before .before .before .before .before .before .before .before .before .before .before .before .before .before .before .before .before .before .before .before .args .threshold) (c .before .before .before .before .before .before .before .before .before .before .before .before .before .before .before .before .before .before .before .before .before .before .before .before .before .before .before .before .before .before .before .args .grade) _ (now (c .before .before .before .before .before .before .before .before .before .before .before .before .before .before .before .before .before .before .before .before .before .before .before .before .before .before .before .before .before .before .before .args .expected)) (now (c .before .before .before .before .before .before .before .before .before .before .before .before .before .before .before .before .before .before .before .before .before .before .before .before .before .before .before .before .before .before .before .args .out-high)) (now (c .before .before .before .before .before .before .before .before .before .before .before .before .before .before .before .before .before .before .before .before .before .before .before .before .before .before .before .before .before .before .before .args .out-low)) _ _ _ u (c .before .before .before .before .before .before .expected-exits .ensures))
+    let y = shingle-is r l b (c .before .before .before .before .before .before .before .before .before .before .before .in-shingle .result) (c .before .before .before .before .before .before .before .before .before .before .before .before .before .before .before .before .before .before .before .before .before .before .before .before .before .before .before .before .before .before .before .args .working .threshold) (c .before .before .before .before .before .before .before .before .before .before .before .in-shingle .ensures) in
+    at-expected k₀ r l b (c .before .before .before .before .before .before .before .before .before .before .before .before .before .before .before .before .before .before .before .before .before .before .before .before .before .before .before .before .before .before .before .args .working .threshold) (c .before .before .before .before .before .before .before .before .before .before .before .before .before .before .before .before .before .before .before .before .before .before .before .before .before .before .before .before .before .before .before .args .working .grade) _ (now (c .before .before .before .before .before .before .before .before .before .before .before .before .before .before .before .before .before .before .before .before .before .before .before .before .before .before .before .before .before .before .before .args .expected)) (now (c .before .before .before .before .before .before .before .before .before .before .before .before .before .before .before .before .before .before .before .before .before .before .before .before .before .before .before .before .before .before .before .args .out-high)) (now (c .before .before .before .before .before .before .before .before .before .before .before .before .before .before .before .before .before .before .before .before .before .before .before .before .before .before .before .before .before .before .before .args .out-low)) _ _ _ (sym x ∙ c .before .before .before .before .before .before .before .before .before .before .before .before .if1 .left) (sym y ∙ c .before .before .before .before .before .before .before .before .before .before .if2 .left) u bx (branch-lent k₀ r l b (c .before .before .before .before .before .before .before .before .before .before .before .before .before .before .before .before .before .before .before .before .before .before .before .before .before .before .before .before .before .before .before .args .working .threshold) (c .before .before .before .before .before .before .before .before .before .before .before .before .before .before .before .before .before .before .before .before .before .before .before .before .before .before .before .before .before .before .before .args .working .grade) _ (now (c .before .before .before .before .before .before .before .before .before .before .before .before .before .before .before .before .before .before .before .before .before .before .before .before .before .before .before .before .before .before .before .args .expected)) (now (c .before .before .before .before .before .before .before .before .before .before .before .before .before .before .before .before .before .before .before .before .before .before .before .before .before .before .before .before .before .before .before .args .out-high)) (now (c .before .before .before .before .before .before .before .before .before .before .before .before .before .before .before .before .before .before .before .before .before .before .before .before .before .before .before .before .before .before .before .args .out-low)) _ _ _ u (c .before .before .before .before .before .before .expected-exits .ensures))
 
 pub past-noise-spec : {M : Type 1} → statement M
 past-noise-spec =
