@@ -12,6 +12,7 @@ use lib.ListN.{length}
 use lib.Ieee.{Float}
 use borrow.Author.Tests.{leb-true, ltb-true, eqb-true}
 use Rattle.types.specs.declared.Refusal.the-variants.{Range, Length, NotFinite, ValuesSeen, Count}
+use Rattle.types.specs.declared.Answer.{Answer}
 use Rattle.types.specs.declared.Answer.the-variants.{Done, Refused}
 use Rattle.divector.specs.DiVector.{maxGapContribution}
 use Rattle.divector.proofs.Laws as DiVectorLaws
@@ -22,7 +23,7 @@ use Rattle.descriptor.specs.declared.LastDescriptor.{LastDescriptor}
 use Rattle.descriptor.specs.declared.Lengths.{Lengths}
 use Rattle.descriptor.proofs.Bounds.{both, sizes, product-fits, dimension-is, last-points}
 use Rattle.detection.specs.Judging.{gapOf, blockOf, gap, block, start}
-use Rattle.detection.specs.Steps.{Correctable, Branching, Writing, passing, late}
+use Rattle.detection.specs.Steps.{Correctable, Accepting, Branching, Writing, passing, late}
 
 -- The tests that passed, of an answer that is no refusal.
 record Passed (a c d e f : Bool) : Type 0 where
@@ -225,7 +226,7 @@ module _ (r : Reading) (l : LastDescriptor) (b : Lent) (stateBase e h w : ℕ) (
       }
 
   -- The same for the stages that are lent some of the buffers.
-  pub for-noise : Correctable r l (passing (b .point) (b .scale) (b .shift) (b .«difference_deviations») (b .«last_expected») (b .«last_anomalous»))
+  for-noise : Correctable r l (passing (b .point) (b .scale) (b .shift) (b .«difference_deviations») (b .«last_expected») (b .«last_anomalous»))
   for-noise = let f = correctable in record { point-most = f .point-most; correcting = f .correcting }
 
   pub for-late : Branching r l (late (b .point) (b .scale) (b .shift) (b .«difference_deviations») (b .high) (b .low) (b .median) (b .«ideal_high») (b .«ideal_low») (b .neighbours))
@@ -243,3 +244,9 @@ module _ (r : Reading) (l : LastDescriptor) (b : Lent) (stateBase e h w : ℕ) (
         out-high-long = n .of-high ∙ sym (n .of-out-high);
         out-low-long = n .of-high ∙ sym (n .of-out-low);
       }
+
+-- What the way up to the noise pass asks, by the answer.
+pub accepting : (r : Reading) (l : LastDescriptor) (b : Lent) (stateBase e h w : ℕ) (ok : Bool) (a : Answer) → a ≡ answerOf r l b (lengthsOf b e h w) stateBase ok
+    → Accepting r l (passing (b .point) (b .scale) (b .shift) (b .«difference_deviations») (b .«last_expected») (b .«last_anomalous»)) a
+accepting r l b stateBase e h w ok Done said = for-noise r l b stateBase e h w ok (sym said)
+accepting r l b stateBase e h w ok (Refused why) said = tt

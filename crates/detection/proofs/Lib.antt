@@ -3,7 +3,6 @@ mod Entry
 mod ExpectedRow
 mod Index
 mod Modes
-mod Rows
 mod Settle
 mod Stages
-mod Work
+pub mod Work

@@ -11,7 +11,6 @@ use lib.Ieee as Ieee
 use lib.Ieee.{Float, binary32}
 use Rattle.types.specs.declared.Answer.{Answer}
 use Rattle.types.specs.declared.Answer.the-variants as Answers
-use Rattle.types.specs.declared.Refusal.{Refusal}
 use Rattle.types.specs.declared.CorrectionMode.{CorrectionMode}
 use Rattle.types.specs.declared.CorrectionMode.the-variants as Modes
 use Rattle.divector.specs.DiVector.{normalized}
@@ -29,7 +28,7 @@ use Rattle.detection.specs.Const.{zero32}
 use Rattle.detection.specs.Judging.{gap, recent, opening, noisePass, block, start, box, explained, triggered, withinBox, expected, newestOf, isDriftMode, lateVerdict, gradedVerdict, decided, relativeIndex, kept}
 use Rattle.detection.specs.Judged.{outcomeOf, indexAfter, written}
 use Rattle.detection.specs.Decided.{noRow, newestExpected, rowAfter, driftOf, decision, Decided}
-use Rattle.detection.specs.Steps.{branch, late, Branching, Writing, way, driftBy, lateOutcome, expectedOutcome, withoutRow}
+use Rattle.detection.specs.Steps.{branch, late, Branching, Writing, acceptedWay, way, driftBy, lateOutcome, expectedOutcome, withoutRow}
 use Rattle.detection.specs.declared.Way.{Way}
 use Rattle.detection.specs.declared.Way.the-variants as Ways
 use Rattle.detection.specs.declared.Verdict.{Verdict}
@@ -80,6 +79,7 @@ module _ (r : Reading) (l : LastDescriptor) (b : Lent) (e h w : List Float) wher
 -- ---- the outcome that a way leads to
 module _ (k : Standing) (r : Reading) (l : LastDescriptor) (b : Lent) where
   unfoldable pub ended : Way → Outcome
+  ended (Ways.Refused why) = Refused why
   ended Ways.Skipped = Accepted Skipped
   ended (Ways.Quiet t) = Accepted (Quiet t)
   ended (Ways.Corrected t m) = Accepted (Corrected t m)
@@ -93,25 +93,20 @@ module _ (k : Standing) (r : Reading) (l : LastDescriptor) (b : Lent) where
   abbrev verdictBy : Verdict
   verdictBy = decided r l b (k .«basic_thresholder») (k .«auto_adjust») (driftOf r l b k (opening (k .«basic_thresholder») r (r .score) .threshold))
 
-  -- The end of an accepted reading's way is its verdict.
-  way-ended : ended (way r l b (k .«basic_thresholder»)) ≡ Accepted verdictBy
-  unfolding way decided gradedVerdict ended lateOutcome
-  way-ended =
+  way-ended : (a : Answer) → ended (way r l b (k .«basic_thresholder») a) ≡ outcomeOf verdictBy a
+  unfolding way acceptedWay decided gradedVerdict ended lateOutcome outcomeOf
+  way-ended Answers.Done =
       let g = opening (k .«basic_thresholder») r (r .score) in
       picks (Ieee.eq (r .score) zero32) (Ieee.eq (g .grade) zero32) _ _ _ _ _ _ refl refl
       (picks (recent r l b && Ieee.eq (opening (k .«basic_thresholder») r (r .«corrected_score») .grade) zero32) (Ieee.eq (Ieee.mul binary32 (g .grade) (noisePass r l b)) zero32) _ _ _ _ _ _ refl refl refl)
+  way-ended (Answers.Refused why) = refl
 
-  -- ---- from what the entry checks and a way left to the contract
-  module _ (j : Decision) (e h w e′ h′ w′ : List Float) (a : Answer) (said : a ≡ answerOf r l b (lengthsOf b (length e) (length h) (length w)) (k .«base_dimension») (k .«counts_ok»)) where
-    pub refused-decided : (why : Refusal) → a ≡ Answers.Refused why → Decided r l b (Refused why) j e h w e′ h′ w′ → Decided r l b (decision r l b k (length e) (length h) (length w)) j e h w e′ h′ w′
-    unfolding decision outcomeOf
-    refused-decided why is p = subst (λ (x : Answer). Decided r l b (outcomeOf verdictBy x) j e h w e′ h′ w′) (sym is ∙ said) p
-
-    pub way-decided : a ≡ Answers.Done → (y z : Way) → y ≡ way r l b (k .«basic_thresholder») → y ≡ z
-        → Decided r l b (ended z) j e h w e′ h′ w′ → Decided r l b (decision r l b k (length e) (length h) (length w)) j e h w e′ h′ w′
-    unfolding decision outcomeOf
-    way-decided done y z is at p =
-        subst (λ (x : Answer). Decided r l b (outcomeOf verdictBy x) j e h w e′ h′ w′) (sym done ∙ said) (subst (λ (o : Outcome). Decided r l b o j e h w e′ h′ w′) (ap ended (sym at ∙ is) ∙ way-ended) p)
+  -- ---- from what a way left to the contract
+  pub way-decided : (j : Decision) (e h w e′ h′ w′ : List Float) (a : Answer) → a ≡ answerOf r l b (lengthsOf b (length e) (length h) (length w)) (k .«base_dimension») (k .«counts_ok»)
+      → (y z : Way) → y ≡ way r l b (k .«basic_thresholder») a → y ≡ z
+      → Decided r l b (ended z) j e h w e′ h′ w′ → Decided r l b (decision r l b k (length e) (length h) (length w)) j e h w e′ h′ w′
+  unfolding decision
+  way-decided j e h w e′ h′ w′ a said y z is at p = subst (λ (o : Outcome). Decided r l b o j e h w e′ h′ w′) (ap ended (sym at ∙ is) ∙ way-ended a ∙ ap (outcomeOf verdictBy) said) p
 
   -- Data drift by the newest rows.
   pub drift-is : (t : Float) (d : Bool) (x : List Float) → x ≡ newestOf r l b (expected r l b)
@@ -153,10 +148,17 @@ module _ (k : Standing) (r : Reading) (l : LastDescriptor) (b : Lent) where
     at-expected y z u is p = rw (y, z) (subst (λ (v : List Float). Decided r l b (expectedOutcome k r l b v t g) j e h w e′ h′ w′) is p)
 
   -- ---- what the exits past the noise pass ask
-  pub past-fits : (e h w : ℕ) → answerOf r l b (lengthsOf b e h w) (k .«base_dimension») (k .«counts_ok») ≡ Answers.Done
+  past-done : (t g : Float) (a : Answer) → way r l b (k .«basic_thresholder») a ≡ Ways.Past t g → a ≡ Answers.Done
+  unfolding way
+  past-done t g Answers.Done h = refl
+  past-done t g (Answers.Refused why) h = absurd (let z : _≡_ {A = ℕ} 0 1 = cc in omega arith)
+
+  pub past-fits : (e h w : ℕ) (a : Answer) → a ≡ answerOf r l b (lengthsOf b e h w) (k .«base_dimension») (k .«counts_ok»)
+      → (y : Way) (t g : Float) → y ≡ way r l b (k .«basic_thresholder») a → y ≡ Ways.Past t g
       → Branching r l (late (b .point) (b .scale) (b .shift) (b .«difference_deviations») (b .high) (b .low) (b .median) (b .«ideal_high») (b .«ideal_low») (b .neighbours))
       × Writing (late (b .point) (b .scale) (b .shift) (b .«difference_deviations») (b .high) (b .low) (b .median) (b .«ideal_high») (b .«ideal_low») (b .neighbours)) e h w
-  past-fits e h w d =
+  past-fits e h w a said y t g is at =
+      let d = sym said ∙ past-done t g a (sym is ∙ at) in
       let f = writing r l b (k .«base_dimension») e h w (k .«counts_ok») d in
       (for-late r l b (k .«base_dimension») e h w (k .«counts_ok») d, record { expected-long = f .expected-long; low-long = f .low-long; out-high-long = f .out-high-long; out-low-long = f .out-low-long })
 

@@ -8,6 +8,9 @@ use lib.ListN.{length, replicate}
 use lib.Ieee as Ieee
 use lib.Ieee.{Float, binary32}
 use Rattle.types.specs.Codes.{isDifferenced}
+use Rattle.types.specs.declared.Answer.{Answer}
+use Rattle.types.specs.declared.Answer.the-variants as Answers
+use Rattle.types.specs.declared.Refusal.{Refusal}
 use Rattle.types.specs.declared.CorrectionMode.the-variants.{NOISE, «ANOMALY_IN_SHINGLE»}
 use Rattle.basicthresholder.specs.declared.BasicThresholder.{BasicThresholder}
 use Rattle.basicthresholder.specs.declared.Graded.{Graded}
@@ -20,7 +23,7 @@ use Rattle.descriptor.specs.declared.Reading.{Reading}
 use Rattle.descriptor.specs.declared.LastDescriptor.{LastDescriptor}
 use Rattle.detection.specs.Const.{zero32}
 use Rattle.detection.specs.Judging.{gapOf, isRecent, blockOf, gap, recent, opening, correctedPoint, noisePass, block, start, box, explained, triggered}
-use Rattle.detection.specs.Steps.{passing, way}
+use Rattle.detection.specs.Steps.{passing, acceptedWay, way}
 use Rattle.detection.specs.declared.Way.the-variants as Ways
 
 module _ (r : Reading) (l : LastDescriptor) (b : Lent) where
@@ -63,32 +66,50 @@ module _ (r : Reading) (l : LastDescriptor) (b : Lent) where
   unfolding triggered gap
   shingle-is t threshold e = e
 
-  -- ---- which way the tests choose
-  module _ (t : BasicThresholder) where
-    pub way-skipped : Ieee.eq (r .score) zero32 ≡ true → Ways.Skipped ≡ way r l b t
+  -- ---- which way the entry checks' answer and the tests choose
+  module _ (t : BasicThresholder) (a : Answer) where
+    pub way-refused : (why : Refusal) → a ≡ Answers.Refused why → Ways.Refused why ≡ way r l b t a
     unfolding way
-    way-skipped k = rw k
+    way-refused why e = rw e
 
-    module _ (k : Ieee.eq (r .score) zero32 ≡ false) (g : Graded) (q : g ≡ opening t r (r .score)) where
-      pub way-quiet : Ieee.eq (g .grade) zero32 ≡ true → Ways.Quiet (g .threshold) ≡ way r l b t
+    module _ (d : a ≡ Answers.Done) where
+      done : acceptedWay r l b t ≡ way r l b t a
       unfolding way
-      way-quiet z = ap (λ (o : Graded). Ways.Quiet (o .threshold)) q ∙ rw (k, rw q at z)
+      done = rw d
 
-      module _ (z : Ieee.eq (g .grade) zero32 ≡ false) where
-        pub way-shingle : (recent r l b && Ieee.eq (opening t r (r .«corrected_score») .grade) zero32) ≡ true → Ways.Corrected (g .threshold) «ANOMALY_IN_SHINGLE» ≡ way r l b t
-        unfolding way
-        way-shingle h = ap (λ (o : Graded). Ways.Corrected (o .threshold) «ANOMALY_IN_SHINGLE») q ∙ rw (k, rw q at z, h)
+      pub way-skipped : Ieee.eq (r .score) zero32 ≡ true → Ways.Skipped ≡ way r l b t a
+      unfolding acceptedWay
+      way-skipped k = (let p : Ways.Skipped ≡ acceptedWay r l b t = rw k in p) ∙ done
 
-        module _ (h : (recent r l b && Ieee.eq (opening t r (r .«corrected_score») .grade) zero32) ≡ false) (f : Float) (e : f ≡ noisePass r l b) where
-          pub way-noise : Ieee.eq (Ieee.mul binary32 (g .grade) f) zero32 ≡ true → Ways.Corrected (g .threshold) NOISE ≡ way r l b t
-          unfolding way
-          way-noise m = ap (λ (o : Graded). Ways.Corrected (o .threshold) NOISE) q ∙ rw (k, rw q at z, h, rw (q, e) at m)
+      module _ (k : Ieee.eq (r .score) zero32 ≡ false) (g : Graded) (q : g ≡ opening t r (r .score)) where
+        pub way-quiet : Ieee.eq (g .grade) zero32 ≡ true → Ways.Quiet (g .threshold) ≡ way r l b t a
+        unfolding acceptedWay
+        way-quiet z =
+            let p : Ways.Quiet (opening t r (r .score) .threshold) ≡ acceptedWay r l b t = rw (k, rw q at z) in
+            ap (λ (o : Graded). Ways.Quiet (o .threshold)) q ∙ p ∙ done
 
-          pub way-past : Ieee.eq (Ieee.mul binary32 (g .grade) f) zero32 ≡ false → Ways.Past (g .threshold) (Ieee.mul binary32 (g .grade) f) ≡ way r l b t
-          unfolding way
-          way-past m = ap₂ (λ (o : Graded) (x : Float). Ways.Past (o .threshold) (Ieee.mul binary32 (o .grade) x)) q e ∙ rw (k, rw q at z, h, rw (q, e) at m)
+        module _ (z : Ieee.eq (g .grade) zero32 ≡ false) where
+          pub way-shingle : (recent r l b && Ieee.eq (opening t r (r .«corrected_score») .grade) zero32) ≡ true → Ways.Corrected (g .threshold) «ANOMALY_IN_SHINGLE» ≡ way r l b t a
+          unfolding acceptedWay
+          way-shingle h =
+              let p : Ways.Corrected (opening t r (r .score) .threshold) «ANOMALY_IN_SHINGLE» ≡ acceptedWay r l b t = rw (k, rw q at z, h) in
+              ap (λ (o : Graded). Ways.Corrected (o .threshold) «ANOMALY_IN_SHINGLE») q ∙ p ∙ done
 
-    -- It looks at six buffers.
-    pub way-lent : way r l (passing (b .point) (b .scale) (b .shift) (b .«difference_deviations») (b .«last_expected») (b .«last_anomalous»)) t ≡ way r l b t
-    unfolding way recent gap noisePass correctedPoint
-    way-lent = refl
+          module _ (h : (recent r l b && Ieee.eq (opening t r (r .«corrected_score») .grade) zero32) ≡ false) (f : Float) (e : f ≡ noisePass r l b) where
+            pub way-noise : Ieee.eq (Ieee.mul binary32 (g .grade) f) zero32 ≡ true → Ways.Corrected (g .threshold) NOISE ≡ way r l b t a
+            unfolding acceptedWay
+            way-noise m =
+                let p : Ways.Corrected (opening t r (r .score) .threshold) NOISE ≡ acceptedWay r l b t = rw (k, rw q at z, h, rw (q, e) at m) in
+                ap (λ (o : Graded). Ways.Corrected (o .threshold) NOISE) q ∙ p ∙ done
+
+            pub way-past : Ieee.eq (Ieee.mul binary32 (g .grade) f) zero32 ≡ false → Ways.Past (g .threshold) (Ieee.mul binary32 (g .grade) f) ≡ way r l b t a
+            unfolding acceptedWay
+            way-past m =
+                let p : Ways.Past (opening t r (r .score) .threshold) (Ieee.mul binary32 (opening t r (r .score) .grade) (noisePass r l b)) ≡ acceptedWay r l b t = rw (k, rw q at z, h, rw (q, e) at m) in
+                ap₂ (λ (o : Graded) (x : Float). Ways.Past (o .threshold) (Ieee.mul binary32 (o .grade) x)) q e ∙ p ∙ done
+
+  -- It looks at six buffers.
+  pub way-lent : (t : BasicThresholder) (a : Answer) → way r l (passing (b .point) (b .scale) (b .shift) (b .«difference_deviations») (b .«last_expected») (b .«last_anomalous»)) t a ≡ way r l b t a
+  unfolding way acceptedWay recent gap noisePass correctedPoint
+  way-lent t Answers.Done = refl
+  way-lent t (Answers.Refused why) = refl

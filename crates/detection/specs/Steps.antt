@@ -8,6 +8,8 @@ use lib.IntN.{pos}
 use lib.ListN.{length}
 use lib.Ieee as Ieee
 use lib.Ieee.{Float, binary32}
+use Rattle.types.specs.declared.Answer.{Answer}
+use Rattle.types.specs.declared.Answer.the-variants as Answers
 use Rattle.types.specs.declared.CorrectionMode.the-variants.{NOISE, «ANOMALY_IN_SHINGLE», FORECAST, «DATA_DRIFT»}
 use Rattle.basicthresholder.specs.declared.BasicThresholder.{BasicThresholder}
 use Rattle.uncertainty_box.specs.Box.{withinUnertaintyBox}
@@ -59,15 +61,24 @@ pub record Writing (b : Lent) (e h w : ℕ) : Type 0 where
   pub out-high-long : length (b .high) ≡ h
   pub out-low-long : length (b .high) ≡ w
 
--- ---- where an accepted reading ends, up to the noise pass
-unfoldable pub way : Reading → LastDescriptor → Lent → BasicThresholder → Way
-way r l b t =
-    let opened = opening t r (r .score) in
-    let working = Ieee.mul binary32 (opened .grade) (noisePass r l b) in
-    cond (Ieee.eq (r .score) zero32) Ways.Skipped
-    (cond (Ieee.eq (opened .grade) zero32) (Ways.Quiet (opened .threshold))
-    (cond (recent r l b && Ieee.eq (opening t r (r .«corrected_score») .grade) zero32) (Ways.Corrected (opened .threshold) «ANOMALY_IN_SHINGLE»)
-    (cond (Ieee.eq working zero32) (Ways.Corrected (opened .threshold) NOISE) (Ways.Past (opened .threshold) working))))
+abbrev pub Accepting : Reading → LastDescriptor → Lent → Answer → Type 0
+Accepting r l b Answers.Done = Correctable r l b
+Accepting r l b (Answers.Refused why) = Unit
+
+-- ---- where a reading ends, up to the noise pass
+module _ (r : Reading) (l : LastDescriptor) (b : Lent) (t : BasicThresholder) where
+  unfoldable pub acceptedWay : Way
+  acceptedWay =
+      let opened = opening t r (r .score) in
+      let working = Ieee.mul binary32 (opened .grade) (noisePass r l b) in
+      cond (Ieee.eq (r .score) zero32) Ways.Skipped
+      (cond (Ieee.eq (opened .grade) zero32) (Ways.Quiet (opened .threshold))
+      (cond (recent r l b && Ieee.eq (opening t r (r .«corrected_score») .grade) zero32) (Ways.Corrected (opened .threshold) «ANOMALY_IN_SHINGLE»)
+      (cond (Ieee.eq working zero32) (Ways.Corrected (opened .threshold) NOISE) (Ways.Past (opened .threshold) working))))
+
+  unfoldable pub way : Answer → Way
+  way Answers.Done = acceptedWay
+  way (Answers.Refused why) = Ways.Refused why
 
 -- ---- past it
 -- Data drift by the newest rows.

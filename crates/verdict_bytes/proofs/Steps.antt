@@ -6,7 +6,7 @@ use Prim.Native.Nat.{ℕ, _-_}
 use native.Mathlib.Omega.{arith}
 use lib.Dec.{eqb, leb, ltb}
 use lib.ListN.{length, take, drop, length-drop}
-use lib.Seq.{take-all, length-take-le}
+use lib.Seq.{length-take-le}
 use lib.IntN.{ℤ}
 use lib.Ieee.{Float}
 use borrow.Author.Tests.{leb-true, eq-eqb, le-leb}
@@ -108,10 +108,6 @@ module _ (s : PredictorCorrector) (r : Reading) (l : LastDescriptor) (x : Float)
         go false h = rw h
 
 -- ---- the state's bytes.
--- What a part to the end is.
-pub tail-is : (xs : List Float) (n : ℕ) → take (length xs - n) (drop n xs) ≡ drop n xs
-tail-is xs n = take-all (length xs - n) (drop n xs) (simp length-drop (omega arith))
-
 stored-same : (a : Answer) (xs : List ℕ) (s t : PredictorCorrector) → (a ≡ Answers.Done → s ≡ t) → storedBy a xs s ≡ storedBy a xs t
 unfolding storedBy
 stored-same Answers.Done xs s t e = ap (encodeStateOver xs) (e refl)

@@ -1,12 +1,12 @@
-use mathlib.Core.Path.{_∙_, sym}
+use mathlib.Core.Path.{_∙_}
 use denote.Ref.{now}
 use lib.ListN.{length}
 use Rattle.descriptor.specs.Checks.{lengthsOf}
 use Rattle.descriptor.specs.Lent.{lent}
-use Rattle.detection.proofs.Entry.{for-noise}
+use Rattle.detection.proofs.Entry.{accepting}
 use Rattle.detection.proofs.Modes.{not-drift}
 use Rattle.detection.proofs.Stages.{way-lent}
-use Rattle.detection.proofs.Settle.{ended, refused-decided, way-decided, calm-left, late-lent, past-fits}
+use Rattle.detection.proofs.Settle.{ended, way-decided, calm-left, late-lent, past-fits}
 use Rattle.detection.specs.declared.Verdict.the-variants.{Quiet, Corrected, Skipped}
 use Rattle.detection.specs.declared.Outcome.the-variants.{Accepted, Refused}
 use borrow.Author.Needs.{needs}
@@ -22,81 +22,78 @@ use Rattle.detection.proofs.without_row.Reads as without-row-reads
 answer-requires : tie.Need-answer-requires
 answer-requires c κs = search needs
 
-enum-known-answer : tie.Need-enum-known-answer
-enum-known-answer c = search needs
-
-without-row-requires : tie.Need-without-row-requires
-without-row-requires c κs = search needs
-
-returns : tie.Need-returns
-unfolding lengthsOf
-returns c =
-    let a = c .before .before .before .before .before .before .before .before .before .before .before .before .before .before .before .before .before .before .before .before .args in
-    let b = lent (now (a .point)) (now (a .scale)) (now (a .shift)) (now (a .difference-deviations)) (now (a .last-expected)) (now (a .last-anomalous)) (now (a .high)) (now (a .low)) (now (a .median)) (now (a .ideal-high)) (now (a .ideal-low)) (now (a .neighbours)) in
-    refused-decided (a .k) (a .r) (a .l) b _ (now (a .expected)) (now (a .out-high)) (now (a .out-low)) _ _ _ (c .before .before .before .before .answer .result) (c .before .before .before .before .answer .ensures) _ (c .before .before .answer2 .given .1)
-    (calm-left (a .r) (a .l) b (now (a .expected)) (now (a .out-high)) (now (a .out-low)) (Refused _) _ tt (c .without-row .ensures))
-
-enum-told : tie.Need-enum-told
-enum-told c = search needs
-
 find-way-requires : tie.Need-find-way-requires
 unfolding lengthsOf
 find-way-requires c κs =
-    let a = c .before .before .before .before .before .before .before .before .before .before .before .before .before .before .before .before .before .before .args in
+    let a = c .before .before .before .before .before .before .before .before .before .before .before .before .before .before .before .before .args in
     let b = lent (now (a .point)) (now (a .scale)) (now (a .shift)) (now (a .difference-deviations)) (now (a .last-expected)) (now (a .last-anomalous)) (now (a .high)) (now (a .low)) (now (a .median)) (now (a .ideal-high)) (now (a .ideal-low)) (now (a .neighbours)) in
-    for-noise (a .r) (a .l) b (a .k .«base_dimension») (length (now (a .expected))) (length (now (a .out-high))) (length (now (a .out-low))) (a .k .«counts_ok») (sym (c .before .before .answer .ensures) ∙ c .enum-told .given .1)
-
-enum-told-2 : tie.Need-enum-told-2
-enum-told-2 c = search needs
-
-without-row-requires-2 : tie.Need-without-row-requires-2
-without-row-requires-2 c κs = search needs
+    accepting (a .r) (a .l) b (a .k .«base_dimension») (length (now (a .expected))) (length (now (a .out-high))) (length (now (a .out-low))) (a .k .«counts_ok») (c .answer .result) (c .answer .ensures)
 
 enum-known-way : tie.Need-enum-known-way
 enum-known-way c = search needs
 
-without-row-requires-3 : tie.Need-without-row-requires-3
-without-row-requires-3 c κs = search needs
+without-row-requires : tie.Need-without-row-requires
+without-row-requires c κs = search needs
+
+enum-told : tie.Need-enum-told
+enum-told c = search needs
+
+without-row-requires-2 : tie.Need-without-row-requires-2
+without-row-requires-2 c κs = search needs
 
 enum-known-way-2 : tie.Need-enum-known-way-2
 enum-known-way-2 c = search needs
 
-without-row-requires-4 : tie.Need-without-row-requires-4
-without-row-requires-4 c κs = search needs
+without-row-requires-3 : tie.Need-without-row-requires-3
+without-row-requires-3 c κs = search needs
 
 enum-known-way-3 : tie.Need-enum-known-way-3
 enum-known-way-3 c = search needs
 
+without-row-requires-4 : tie.Need-without-row-requires-4
+without-row-requires-4 c κs = search needs
+
+enum-known-way-4 : tie.Need-enum-known-way-4
+enum-known-way-4 c = search needs
+
 past-noise-requires : tie.Need-past-noise-requires
 unfolding lengthsOf
 past-noise-requires c κs =
-    let a = c .before .before .before .before .before .before .before .before .before .before .before .before .before .before .before .before .before .before .before .before .before .before .before .before .before .args in
+    let a = c .before .before .before .before .before .before .before .before .before .before .before .before .before .before .before .before .before .before .before .before .before .before .before .args in
     let b = lent (now (a .point)) (now (a .scale)) (now (a .shift)) (now (a .difference-deviations)) (now (a .last-expected)) (now (a .last-anomalous)) (now (a .high)) (now (a .low)) (now (a .median)) (now (a .ideal-high)) (now (a .ideal-low)) (now (a .neighbours)) in
-    past-fits (a .k) (a .r) (a .l) b (length (now (a .expected))) (length (now (a .out-high))) (length (now (a .out-low))) (sym (c .before .before .before .before .before .before .before .before .before .answer .ensures) ∙ c .before .before .before .before .before .before .before .enum-told .given .1)
+    past-fits (a .k) (a .r) (a .l) b (length (now (a .expected))) (length (now (a .out-high))) (length (now (a .out-low))) (c .before .before .before .before .before .before .before .answer .result) (c .before .before .before .before .before .before .before .answer .ensures) (c .before .before .before .before .before .before .find-way .result) _ _ (c .before .before .before .before .before .before .find-way .ensures ∙ way-lent (a .r) (a .l) b (a .k .«basic_thresholder») (c .before .before .before .before .before .before .before .answer .result)) (c .before .before .before .before .way4 .given .1)
+
+returns : tie.Need-returns
+unfolding lengthsOf ended
+returns c =
+    let a = c .before .before .before .before .before .before .before .before .before .before .before .before .before .before .before .before .before .before .before .before .before .args in
+    let b = lent (now (a .point)) (now (a .scale)) (now (a .shift)) (now (a .difference-deviations)) (now (a .last-expected)) (now (a .last-anomalous)) (now (a .high)) (now (a .low)) (now (a .median)) (now (a .ideal-high)) (now (a .ideal-low)) (now (a .neighbours)) in
+    way-decided (a .k) (a .r) (a .l) b _ (now (a .expected)) (now (a .out-high)) (now (a .out-low)) _ _ _ (c .before .before .before .before .before .answer .result) (c .before .before .before .before .before .answer .ensures) (c .before .before .before .before .find-way .result) _ (c .before .before .before .before .find-way .ensures ∙ way-lent (a .r) (a .l) b (a .k .«basic_thresholder») (c .before .before .before .before .before .answer .result)) (c .before .before .way .given .1)
+    (calm-left (a .r) (a .l) b (now (a .expected)) (now (a .out-high)) (now (a .out-low)) (Refused _) _ tt (c .without-row .ensures))
 
 returns-2 : tie.Need-returns-2
 unfolding lengthsOf ended
 returns-2 c =
-    let a = c .before .before .before .before .before .before .before .before .before .before .before .before .before .before .before .before .before .before .before .before .before .before .args in
+    let a = c .before .before .before .before .before .before .before .before .before .before .before .before .before .before .before .before .before .before .before .before .args in
     let b = lent (now (a .point)) (now (a .scale)) (now (a .shift)) (now (a .difference-deviations)) (now (a .last-expected)) (now (a .last-anomalous)) (now (a .high)) (now (a .low)) (now (a .median)) (now (a .ideal-high)) (now (a .ideal-low)) (now (a .neighbours)) in
-    way-decided (a .k) (a .r) (a .l) b _ (now (a .expected)) (now (a .out-high)) (now (a .out-low)) _ _ _ (c .before .before .before .before .before .before .answer .result) (c .before .before .before .before .before .before .answer .ensures) (c .before .before .before .before .enum-told .given .1) (c .before .before .before .find-way .result) _ (c .before .before .before .find-way .ensures ∙ way-lent (a .r) (a .l) b (a .k .«basic_thresholder»)) (c .before .enum-told2 .given .1)
+    way-decided (a .k) (a .r) (a .l) b _ (now (a .expected)) (now (a .out-high)) (now (a .out-low)) _ _ _ (c .before .before .before .before .answer .result) (c .before .before .before .before .answer .ensures) (c .before .before .before .find-way .result) _ (c .before .before .before .find-way .ensures ∙ way-lent (a .r) (a .l) b (a .k .«basic_thresholder») (c .before .before .before .before .answer .result)) (c .before .enum-told .given .1)
     (calm-left (a .r) (a .l) b (now (a .expected)) (now (a .out-high)) (now (a .out-low)) (Accepted Skipped) _ tt (c .without-row2 .ensures))
 
 returns-3 : tie.Need-returns-3
 unfolding lengthsOf ended
 returns-3 c =
-    let a = c .before .before .before .before .before .before .before .before .before .before .before .before .before .before .before .before .before .before .before .before .before .before .before .args in
+    let a = c .before .before .before .before .before .before .before .before .before .before .before .before .before .before .before .before .before .before .before .before .before .args in
     let b = lent (now (a .point)) (now (a .scale)) (now (a .shift)) (now (a .difference-deviations)) (now (a .last-expected)) (now (a .last-anomalous)) (now (a .high)) (now (a .low)) (now (a .median)) (now (a .ideal-high)) (now (a .ideal-low)) (now (a .neighbours)) in
-    way-decided (a .k) (a .r) (a .l) b _ (now (a .expected)) (now (a .out-high)) (now (a .out-low)) _ _ _ (c .before .before .before .before .before .before .before .answer .result) (c .before .before .before .before .before .before .before .answer .ensures) (c .before .before .before .before .before .enum-told .given .1) (c .before .before .before .before .find-way .result) _ (c .before .before .before .before .find-way .ensures ∙ way-lent (a .r) (a .l) b (a .k .«basic_thresholder»)) (c .before .before .way .given .1)
+    way-decided (a .k) (a .r) (a .l) b _ (now (a .expected)) (now (a .out-high)) (now (a .out-low)) _ _ _ (c .before .before .before .before .before .answer .result) (c .before .before .before .before .before .answer .ensures) (c .before .before .before .before .find-way .result) _ (c .before .before .before .before .find-way .ensures ∙ way-lent (a .r) (a .l) b (a .k .«basic_thresholder») (c .before .before .before .before .before .answer .result)) (c .before .before .way2 .given .1)
     (calm-left (a .r) (a .l) b (now (a .expected)) (now (a .out-high)) (now (a .out-low)) (Accepted (Quiet _)) _ tt (c .without-row3 .ensures))
 
 returns-4 : tie.Need-returns-4
 unfolding lengthsOf ended
 returns-4 c =
-    let a = c .before .before .before .before .before .before .before .before .before .before .before .before .before .before .before .before .before .before .before .before .before .before .before .args in
+    let a = c .before .before .before .before .before .before .before .before .before .before .before .before .before .before .before .before .before .before .before .before .before .args in
     let b = lent (now (a .point)) (now (a .scale)) (now (a .shift)) (now (a .difference-deviations)) (now (a .last-expected)) (now (a .last-anomalous)) (now (a .high)) (now (a .low)) (now (a .median)) (now (a .ideal-high)) (now (a .ideal-low)) (now (a .neighbours)) in
-    way-decided (a .k) (a .r) (a .l) b _ (now (a .expected)) (now (a .out-high)) (now (a .out-low)) _ _ _ (c .before .before .before .before .before .before .before .answer .result) (c .before .before .before .before .before .before .before .answer .ensures) (c .before .before .before .before .before .enum-told .given .1) (c .before .before .before .before .find-way .result) _ (c .before .before .before .before .find-way .ensures ∙ way-lent (a .r) (a .l) b (a .k .«basic_thresholder»)) (c .before .before .way2 .given .1)
-    (calm-left (a .r) (a .l) b (now (a .expected)) (now (a .out-high)) (now (a .out-low)) (Accepted (Corrected _ _)) _ (not-drift (a .r) (a .l) b (a .k .«basic_thresholder») (c .before .before .before .before .find-way .result) _ _ (c .before .before .before .before .find-way .ensures ∙ way-lent (a .r) (a .l) b (a .k .«basic_thresholder»)) (c .before .before .way2 .given .1)) (c .without-row4 .ensures))
+    way-decided (a .k) (a .r) (a .l) b _ (now (a .expected)) (now (a .out-high)) (now (a .out-low)) _ _ _ (c .before .before .before .before .before .answer .result) (c .before .before .before .before .before .answer .ensures) (c .before .before .before .before .find-way .result) _ (c .before .before .before .before .find-way .ensures ∙ way-lent (a .r) (a .l) b (a .k .«basic_thresholder») (c .before .before .before .before .before .answer .result)) (c .before .before .way3 .given .1)
+    (calm-left (a .r) (a .l) b (now (a .expected)) (now (a .out-high)) (now (a .out-low)) (Accepted (Corrected _ _)) _ (not-drift (a .r) (a .l) b (a .k .«basic_thresholder») (c .before .before .before .before .before .answer .result) (c .before .before .before .before .find-way .result) _ _ (c .before .before .before .before .find-way .ensures ∙ way-lent (a .r) (a .l) b (a .k .«basic_thresholder») (c .before .before .before .before .before .answer .result)) (c .before .before .way3 .given .1)) (c .without-row4 .ensures))
 
 same-length : tie.Need-same-length
 same-length c = search needs
@@ -110,9 +107,9 @@ same-length-3 c = search needs
 returns-5 : tie.Need-returns-5
 unfolding lengthsOf
 returns-5 c =
-    let a = c .before .before .before .before .before .before .before .before .before .before .before .before .before .before .before .before .before .before .before .before .before .before .before .before .before .before .before .before .before .before .before .before .args in
+    let a = c .before .before .before .before .before .before .before .before .before .before .before .before .before .before .before .before .before .before .before .before .before .before .before .before .before .before .before .before .before .before .args in
     let b = lent (now (a .point)) (now (a .scale)) (now (a .shift)) (now (a .difference-deviations)) (now (a .last-expected)) (now (a .last-anomalous)) (now (a .high)) (now (a .low)) (now (a .median)) (now (a .ideal-high)) (now (a .ideal-low)) (now (a .neighbours)) in
-    way-decided (a .k) (a .r) (a .l) b _ (now (a .expected)) (now (a .out-high)) (now (a .out-low)) _ _ _ (c .before .before .before .before .before .before .before .before .before .before .before .before .before .before .before .before .answer .result) (c .before .before .before .before .before .before .before .before .before .before .before .before .before .before .before .before .answer .ensures) (c .before .before .before .before .before .before .before .before .before .before .before .before .before .before .enum-told .given .1) (c .before .before .before .before .before .before .before .before .before .before .before .before .before .find-way .result) _ (c .before .before .before .before .before .before .before .before .before .before .before .before .before .find-way .ensures ∙ way-lent (a .r) (a .l) b (a .k .«basic_thresholder»)) (c .before .before .before .before .before .before .before .before .before .before .before .way3 .given .1)
+    way-decided (a .k) (a .r) (a .l) b _ (now (a .expected)) (now (a .out-high)) (now (a .out-low)) _ _ _ (c .before .before .before .before .before .before .before .before .before .before .before .before .before .before .answer .result) (c .before .before .before .before .before .before .before .before .before .before .before .before .before .before .answer .ensures) (c .before .before .before .before .before .before .before .before .before .before .before .before .before .find-way .result) _ (c .before .before .before .before .before .before .before .before .before .before .before .before .before .find-way .ensures ∙ way-lent (a .r) (a .l) b (a .k .«basic_thresholder») (c .before .before .before .before .before .before .before .before .before .before .before .before .before .before .answer .result)) (c .before .before .before .before .before .before .before .before .before .before .before .way4 .given .1)
     (late-lent (a .k) (a .r) (a .l) b _ _ _ (now (a .expected)) (now (a .out-high)) (now (a .out-low)) _ _ _ (c .before .before .before .before .before .before .past-noise .ensures))
 
 pub judge-spec : {M : Type 1} → statement M
@@ -120,19 +117,18 @@ judge-spec =
     tie.close
     (tie.spec
     answer-requires
-    enum-known-answer
-    without-row-requires
-    returns
-    enum-told
     find-way-requires
-    enum-told-2
-    without-row-requires-2
     enum-known-way
-    without-row-requires-3
+    without-row-requires
+    enum-told
+    without-row-requires-2
     enum-known-way-2
-    without-row-requires-4
+    without-row-requires-3
     enum-known-way-3
+    without-row-requires-4
+    enum-known-way-4
     past-noise-requires
+    returns
     returns-2
     returns-3
     returns-4

@@ -3,7 +3,8 @@ use Prim.Native.Nat.{_-_}
 use native.Mathlib.Omega.{arith}
 use lib.ListN.{length, length-take}
 use denote.Ref.{now}
-use Rattle.verdict_bytes.proofs.Steps.{rows-counted, rows-entered, tail-is}
+use Rattle.detection.proofs.Work.{tail-is}
+use Rattle.verdict_bytes.proofs.Steps.{rows-counted, rows-entered}
 use borrow.Author.Needs.{needs}
 use Rattle.verdict_bytes.proofs.put_rows.Statement.{statement}
 use Rattle.verdict_bytes.proofs.put_rows.Tie as tie

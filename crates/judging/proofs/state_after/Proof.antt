@@ -1,13 +1,13 @@
 use mathlib.Core.Path.{_∙_, sym, ap, subst}
 use denote.Ref.{now}
 use lib.ListN.{length}
 use Rattle.detection.specs.Steps.{Fitting, stateRows}
 use Rattle.detection.specs.declared.Outcome.{Outcome}
 use borrow.Author.Needs.{needs}
-use Rattle.detection.proofs.state_after.Statement.{statement}
-use Rattle.detection.proofs.state_after.Tie as tie
-use Rattle.detection.proofs.state_after.Reads as reads
-use Rattle.detection.proofs.state_after.Lts as lts
+use Rattle.judging.proofs.state_after.Statement.{statement}
+use Rattle.judging.proofs.state_after.Tie as tie
+use Rattle.judging.proofs.state_after.Reads as reads
+use Rattle.judging.proofs.state_after.Lts as lts
 
 enum-known-outcome : tie.Need-enum-known-outcome
 enum-known-outcome c = search needs

@@ -6,13 +6,13 @@ use denote.Ref.{now}
 use lib.ListN.{length, take, length-take}
 use lib.Ieee.{Float}
 use Rattle.candidate.specs.Candidate.{isCandidate, candidateWith}
 use Rattle.detection.specs.Steps.{rowsCounted}
 use Rattle.detection.proofs.Work.{tail-is}
 use borrow.Author.Needs.{needs}
-use Rattle.detection.proofs.rows_counted.Statement.{statement}
-use Rattle.detection.proofs.rows_counted.Tie as tie
-use Rattle.detection.proofs.rows_counted.Reads as reads
-use Rattle.detection.proofs.rows_counted.Lts as lts
+use Rattle.judging.proofs.rows_counted.Statement.{statement}
+use Rattle.judging.proofs.rows_counted.Tie as tie
+use Rattle.judging.proofs.rows_counted.Reads as reads
+use Rattle.judging.proofs.rows_counted.Lts as lts
 use Rattle.candidate.proofs.count_rows.Reads as count-rows-reads
 
 sub-at : tie.Need-sub-at

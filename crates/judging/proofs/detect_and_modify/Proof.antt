@@ -3,15 +3,15 @@ use lib.ListN.{length}
 use mir.Syntax.{w32}
 use mir.ValLaws.{toZ-ofZ}
 use Rattle.descriptor.specs.Lent.{lent}
 use Rattle.detection.proofs.ByState.{fitting, judged}
 use borrow.Author.Needs.{needs}
-use Rattle.detection.proofs.detect_and_modify.Statement.{statement}
-use Rattle.detection.proofs.detect_and_modify.Tie as tie
-use Rattle.detection.proofs.detect_and_modify.Reads as reads
-use Rattle.detection.proofs.detect_and_modify.Lts as lts
+use Rattle.judging.proofs.detect_and_modify.Statement.{statement}
+use Rattle.judging.proofs.detect_and_modify.Tie as tie
+use Rattle.judging.proofs.detect_and_modify.Reads as reads
+use Rattle.judging.proofs.detect_and_modify.Lts as lts
 use Rattle.detection.proofs.judge.Reads as judge-reads
-use Rattle.detection.proofs.standing_of.Reads as standing-of-reads
-use Rattle.detection.proofs.state_after.Reads as state-after-reads
+use Rattle.judging.proofs.standing_of.Reads as standing-of-reads
+use Rattle.judging.proofs.state_after.Reads as state-after-reads
 
 standing-of-requires : tie.Need-standing-of-requires
 standing-of-requires c κs = search needs

@@ -1,9 +1,9 @@
 use mathlib.Core.Path.{_≡_}
 use Rattle.detection.specs.Decided.{standing}
 use Rattle.detection.specs.declared.Standing.{Standing}
 use borrow.Author.Needs.{needs}
-use Rattle.detection.proofs.standing_of.Statement.{statement}
-use Rattle.detection.proofs.standing_of.Tie as tie
+use Rattle.judging.proofs.standing_of.Statement.{statement}
+use Rattle.judging.proofs.standing_of.Tie as tie
 
 cast-base : tie.Need-cast-base
 cast-base c = search needs

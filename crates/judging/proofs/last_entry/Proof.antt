@@ -4,10 +4,10 @@ use native.Mathlib.Omega.{arith}
 use lib.ListN.{length, getD, List·getD-eq-default}
 use Rattle.deviation.specs.Const.{zero64}
 use Rattle.deviation.specs.Statistics.{fresh}
 use Rattle.detection.proofs.Work.{getD-any}
 use borrow.Author.Needs.{needs}
-use Rattle.detection.proofs.last_entry.Statement.{statement}
-use Rattle.detection.proofs.last_entry.Tie as tie
+use Rattle.judging.proofs.last_entry.Statement.{statement}
+use Rattle.judging.proofs.last_entry.Tie as tie
 
 last-place-requires : tie.Need-last-place-requires
 last-place-requires c κs = search needs
