@@ -13,7 +13,8 @@ use Rattle.types.specs.declared.Refusal.the-variants.{Range, Length}
 use Rattle.types.specs.declared.Answer.the-variants.{Done, Refused}
 use Rattle.descriptor.proofs.Bounds.{both}
 use Rattle.layout.specs.Places.{stateLength, readingLength, lastLength}
-use Rattle.layout.specs.Chain.{decodeState, coreOf}
+use Rattle.predictorcorrector.specs.State.{standing}
+use Rattle.layout.specs.Chain.{decodeState}
 use Rattle.layout.specs.Readings.{decodeReading, decodeLast}
 use Rattle.layout.specs.Call.{codesOk, slicesOk, sizesFit, readCall}
 use Rattle.layout.specs.Left.{left}
@@ -46,7 +47,7 @@ module _ (state reading last out : List ℕ) (x : Asked) (e : x ≡ askedOver st
   unfolding askedOver readCall
   five-long d =
       let s = by-tests (codesOk state reading last) (slicesOk (length state) (length reading) (length last) (eqb (length out) 5)) (sizesFit state reading)
-      (Reads.Read (coreOf (decodeState state)) (decodeReading reading) (decodeLast last)) (sym (ap (λ (a : Asked). a .answer) e) ∙ d) in
+      (Reads.Read (standing (decodeState state)) (decodeReading reading) (decodeLast last)) (sym (ap (λ (a : Asked). a .answer) e) ∙ d) in
       eqb-true (length out) 5 (out-long (length state) (length reading) (length last) (eqb (length out) 5) s)
 
   through : notedBy x out ≡ askedOfForest state reading last out

@@ -39,9 +39,7 @@ fn asked_over(state: &[u8], reading: &[u8], last: &[u8], out: usize) -> Asked
     ensures { λ r. ⌜ r ≡ Forest.askedOver (now (state .entry)) (now (reading .entry)) (now (last .entry)) out ⌝ }
 {
     match layout::read_call(state, reading, last, out == 5) {
-        CallRead::Read(core, r, l) => {
-            calls::asked_of_forest(core.auto_adjust, core.base_dimension as usize, r, l)
-        }
+        CallRead::Read(k, r, l) => { calls::asked_of_forest(k.auto_adjust, k.base_dimension, r, l) }
         CallRead::Refused(why) => refused(why),
     }
 }

@@ -23,14 +23,14 @@ use Rattle.divector.specs.declared.Block.{Block}
 use Rattle.divector.specs.declared.Block.the-variants as Places
 use Rattle.predictorcorrector.specs.declared.PredictorCorrector.{PredictorCorrector}
 use Rattle.predictorcorrector.specs.declared.Updated.{Updated}
-use Rattle.predictorcorrector.specs.State.{withThresholder, setHorizon}
+use Rattle.predictorcorrector.specs.State.{withThresholder, setHorizon, standing}
 use Rattle.layout.specs.Places.{stateLength, autoThresholdAt, autoAdjustAt}
 use Rattle.layout.specs.Numbers.{writtenOf, f64Bytes, bytes8}
-use Rattle.layout.specs.Chain.{decodeState, encodeStateOver, coreOf, stateCodesOk, readCore}
+use Rattle.layout.specs.Chain.{decodeState, encodeStateOver, stateCodesOk, readStanding}
 use Rattle.layout.specs.InPlace.{kept}
-use Rattle.layout.specs.declared.Core.{Core}
-use Rattle.layout.specs.declared.CoreRead.the-variants as Cores
-use Rattle.layout.proofs.Taken.{core-read}
+use Rattle.predictorcorrector.specs.declared.Standing.{Standing}
+use Rattle.layout.specs.declared.StandingRead.the-variants as Standings
+use Rattle.layout.proofs.Taken.{standing-read}
 use Rattle.layout.specs.Left.{Left, left, putInto}
 use Rattle.c_chain.specs.Vectors.{pair, numbered, numberInto, blockInto}
 use Rattle.c_chain.specs.States.{chainRefusal, chainSet, horizonSetIn, chainMade}
@@ -84,28 +84,28 @@ refused-number Whys.Blocks = refl
 
 -- ---- a stored state.
 -- The tests of a slice that was not read, and its refusal's number.
-refusal : (long codes : Bool) (k : Core) (why : Refusal) → cond long (cond (cond long codes true) (Cores.Read k) (Cores.Refused Range)) (Cores.Refused Length) ≡ Cores.Refused why
+refusal : (long codes : Bool) (k : Standing) (why : Refusal) → cond long (cond (cond long codes true) (Standings.Read k) (Standings.Refused Range)) (Standings.Refused Length) ≡ Standings.Refused why
     → (number why ≡ cond long (cond codes 0 2) 3) × (eqb (number why) 0 ≡ false)
 refusal true true k why e = let z : _≡_ {A = ℕ} 0 1 = cc in absurd (omega arith)
 refusal true false k why e = let w : why ≡ Range = cc in (rw w, rw w)
 refusal false codes k why e = let w : why ≡ Length = cc in (rw w, rw w)
 
 module _ (xs : List ℕ) where
-  module _ (k : Core) (e : readCore xs ≡ Cores.Read k) where
+  module _ (k : Standing) (e : readStanding xs ≡ Standings.Read k) where
     full : eqb (length xs) stateLength ≡ true
-    full = core-read xs k e .0
+    full = standing-read xs k e .0
 
     none : chainRefusal xs ≡ 0
     unfolding chainRefusal stateCodesOk
-    none = let codes = rw full at (core-read xs k e .1) in rw (full, codes)
+    none = let codes = rw full at (standing-read xs k e .1) in rw (full, codes)
 
     over : (g : BasicThresholder → BasicThresholder) (t : BasicThresholder) (zs : List ℕ) → t ≡ g (k .«basic_thresholder»)
         → zs ≡ writtenOf stateLength xs (encodeStateOver xs (kept (decodeState xs) t (k .«run_length»)))
         → zs ≡ encodeStateOver xs (withThresholder (decodeState xs) (g (decodeState xs .«basic_thresholder»)))
-    unfolding writtenOf coreOf
+    unfolding writtenOf standing
     over g t zs p q =
-        let same = core-read xs k e .2 in
-        q ∙ rw full (λ i. encodeStateOver xs (kept (decodeState xs) ((p ∙ ap (λ (c : Core). g (c .«basic_thresholder»)) same) i) (same i .«run_length»)))
+        let same = standing-read xs k e .2 in
+        q ∙ rw full (λ i. encodeStateOver xs (kept (decodeState xs) ((p ∙ ap (λ (c : Standing). g (c .«basic_thresholder»)) same) i) (same i .«run_length»)))
 
     pub chain-set : (g : BasicThresholder → BasicThresholder) (t : BasicThresholder) (zs : List ℕ) → t ≡ g (k .«basic_thresholder»)
         → zs ≡ writtenOf stateLength xs (encodeStateOver xs (kept (decodeState xs) t (k .«run_length»)))
@@ -115,8 +115,8 @@ module _ (xs : List ℕ) where
 
     module _ (x : Float) (u : Thresholder.Updated) (d : u ≡ setScoreDifferencing (k .«basic_thresholder») x) where
       set-is : setScoreDifferencing (decodeState xs .«basic_thresholder») x ≡ u
-      unfolding coreOf
-      set-is = sym (d ∙ ap (λ (c : Core). setScoreDifferencing (c .«basic_thresholder») x) (core-read xs k e .2))
+      unfolding standing
+      set-is = sym (d ∙ ap (λ (c : Standing). setScoreDifferencing (c .«basic_thresholder») x) (standing-read xs k e .2))
 
       pub horizon-set : (zs : List ℕ) → u .answer ≡ Answers.Done → zs ≡ writtenOf stateLength xs (encodeStateOver xs (kept (decodeState xs) (u .thresholder) (k .«run_length»)))
           → left 0 zs ≡ horizonSetIn x xs
@@ -131,11 +131,11 @@ module _ (xs : List ℕ) where
           let not : setScoreDifferencing (decodeState xs .«basic_thresholder») x .answer ≡ Answers.Refused why = ap (λ (v : Thresholder.Updated). v .answer) set-is ∙ h in
           ap (λ (m : ℕ). left m xs) p ∙ rw (none, not, refused-number why)
 
-  module _ (why : Refusal) (e : readCore xs ≡ Cores.Refused why) (n : ℕ) (p : n ≡ number why) where
+  module _ (why : Refusal) (e : readStanding xs ≡ Standings.Refused why) (n : ℕ) (p : n ≡ number why) where
     kept-by : (n ≡ chainRefusal xs) × (eqb n 0 ≡ false)
-    unfolding chainRefusal readCore stateCodesOk
+    unfolding chainRefusal readStanding stateCodesOk
     kept-by =
-        let r = refusal (eqb (length xs) stateLength) (leb (getD xs autoThresholdAt 0) 1 && leb (getD xs autoAdjustAt 0) 1) (coreOf (decodeState xs)) why e in
+        let r = refusal (eqb (length xs) stateLength) (leb (getD xs autoThresholdAt 0) 1 && leb (getD xs autoAdjustAt 0) 1) (standing (decodeState xs)) why e in
         (p ∙ r .0, ap (λ (m : ℕ). eqb m 0) p ∙ r .1)
 
     pub chain-kept : (f : PredictorCorrector → PredictorCorrector) → left n xs ≡ chainSet f xs

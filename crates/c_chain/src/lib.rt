@@ -2,7 +2,7 @@
 // length). A state is its bytes, as the crate layout has them. A call answers document 01's number, 0 where it is done; a refused one has written nothing.
 use divector::Block;
 use divector::Number;
-use layout::CoreRead;
+use layout::StandingRead;
 use predictorcorrector::PredictorCorrector;
 use types::Answer;
 ghost use mathlib.Core.Path.{_≡_};
@@ -191,13 +191,13 @@ pub extern "C" fn krcf_new(
 pub extern "C" fn krcf_chain_set_z_factor(state: &mut [u8], factor: f32) -> u8
     ensures { λ r. ⌜ left r (now (state .exit)) ≡ chainSet (λ s. State.zFactorSet s factor) (now (state .entry)) ⌝ }
 {
-    match layout::read_core(state) {
-        CoreRead::Read(core) => {
-            let t = core.basic_thresholder;
-            layout::write_kept(state, t.set_z_factor(factor), core.run_length);
+    match layout::read_standing(state) {
+        StandingRead::Read(k) => {
+            let t = k.basic_thresholder;
+            layout::write_kept(state, t.set_z_factor(factor), k.run_length);
             0
         }
-        CoreRead::Refused(why) => why.number(),
+        StandingRead::Refused(why) => why.number(),
     }
 }
 
@@ -205,13 +205,13 @@ pub extern "C" fn krcf_chain_set_z_factor(state: &mut [u8], factor: f32) -> u8
 pub extern "C" fn krcf_chain_set_lower_threshold(state: &mut [u8], lower: f32) -> u8
     ensures { λ r. ⌜ left r (now (state .exit)) ≡ chainSet (λ s. State.lowerThresholdSet s lower) (now (state .entry)) ⌝ }
 {
-    match layout::read_core(state) {
-        CoreRead::Read(core) => {
-            let t = core.basic_thresholder;
-            layout::write_kept(state, t.set_absolute_threshold(lower), core.run_length);
+    match layout::read_standing(state) {
+        StandingRead::Read(k) => {
+            let t = k.basic_thresholder;
+            layout::write_kept(state, t.set_absolute_threshold(lower), k.run_length);
             0
         }
-        CoreRead::Refused(why) => why.number(),
+        StandingRead::Refused(why) => why.number(),
     }
 }
 
@@ -219,13 +219,13 @@ pub extern "C" fn krcf_chain_set_lower_threshold(state: &mut [u8], lower: f32) -
 pub extern "C" fn krcf_chain_set_initial_threshold(state: &mut [u8], initial: f32) -> u8
     ensures { λ r. ⌜ left r (now (state .exit)) ≡ chainSet (λ s. State.initialThresholdSet s initial) (now (state .entry)) ⌝ }
 {
-    match layout::read_core(state) {
-        CoreRead::Read(core) => {
-            let t = core.basic_thresholder;
-            layout::write_kept(state, t.set_initial_threshold(initial), core.run_length);
+    match layout::read_standing(state) {
+        StandingRead::Read(k) => {
+            let t = k.basic_thresholder;
+            layout::write_kept(state, t.set_initial_threshold(initial), k.run_length);
             0
         }
-        CoreRead::Refused(why) => why.number(),
+        StandingRead::Refused(why) => why.number(),
     }
 }
 
@@ -234,20 +234,20 @@ pub extern "C" fn krcf_chain_set_initial_threshold(state: &mut [u8], initial: f3
 pub extern "C" fn krcf_chain_set_horizon(state: &mut [u8], horizon: f32) -> u8
     ensures { λ r. ⌜ left r (now (state .exit)) ≡ horizonSetIn horizon (now (state .entry)) ⌝ }
 {
-    match layout::read_core(state) {
-        CoreRead::Read(core) => {
-            let t = core.basic_thresholder;
+    match layout::read_standing(state) {
+        StandingRead::Read(k) => {
+            let t = k.basic_thresholder;
             let set = t.set_score_differencing(horizon);
             let answer = set.answer;
             let after = set.thresholder;
             match answer {
                 Answer::Done => {
-                    layout::write_kept(state, after, core.run_length);
+                    layout::write_kept(state, after, k.run_length);
                     0
                 }
                 Answer::Refused(why) => why.number(),
             }
         }
-        CoreRead::Refused(why) => why.number(),
+        StandingRead::Refused(why) => why.number(),
     }
 }

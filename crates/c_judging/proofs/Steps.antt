@@ -17,54 +17,52 @@ use Rattle.descriptor.specs.Lent.{Lent}
 use Rattle.descriptor.proofs.Bounds.{both}
 use Rattle.descriptor.specs.declared.Reading.{Reading}
 use Rattle.descriptor.specs.declared.LastDescriptor.{LastDescriptor}
-use Rattle.predictorcorrector.specs.State.{stateCountsOk}
+use Rattle.predictorcorrector.specs.State.{stateCountsOk, standing}
 use Rattle.predictorcorrector.specs.declared.PredictorCorrector.{PredictorCorrector}
 use Rattle.divector.specs.DiVector.{normalized}
 use Rattle.detection.specs.Judging.{expected}
 use Rattle.detection.specs.Judged.{Judged, outcome, outcomeOf, outcomeNumber, stateAfter, indexAfter, written}
-use Rattle.detection.specs.Decided.{Decided, decision, standing}
+use Rattle.detection.specs.Decided.{Decided, decision}
 use Rattle.detection.specs.Steps.{Counting, Fitting}
 use Rattle.detection.specs.Decided.{afterRows, stateRows}
 use Rattle.detection.specs.declared.Decision.{Decision}
-use Rattle.detection.specs.declared.Standing.{Standing}
+use Rattle.predictorcorrector.specs.declared.Standing.{Standing}
 use Rattle.detection.specs.declared.Verdict.{Verdict}
 use Rattle.detection.specs.declared.Outcome.{Outcome}
 use Rattle.detection.specs.declared.Outcome.the-variants.{Accepted, Refused}
 use Rattle.detection.proofs.ByState as ByState
 use Rattle.layout.specs.Places.{stateLength, readingLength, lastLength, verdictLength, actualAt, expectedAt, autoAdjustAt, baseDimensionAt}
 use Rattle.layout.specs.Numbers.{le4, flagAt}
-use Rattle.layout.specs.Chain.{stateCodesOk, entries, decodeState, coreOf}
+use Rattle.layout.specs.Chain.{stateCodesOk, entries, decodeState}
 use Rattle.layout.specs.InPlace.{readingAnswer}
 use Rattle.layout.specs.Call.{readCall}
 use Rattle.layout.specs.Readings.{decodeReading, decodeLast}
-use Rattle.layout.specs.declared.Core.{Core}
 use Rattle.layout.proofs.InPlace.{list-length}
 use Rattle.layout.specs.declared.CallRead.{CallRead}
 use Rattle.layout.specs.declared.CallRead.the-variants as Calls
 use Rattle.verdict_bytes.specs.Put.{Put, putOutcome}
 use Rattle.c_judging.specs.Judging.{codesOk, slicesOk, sizesFit, outcomeOver, stateOver, indexOver, Answered, stateLeft, verdictLeft}
-use Rattle.c_judging.specs.Steps.{standingOf}
 
 -- ---- what was read.
 module _ (state reading last : List ℕ) (v : ℕ) where
-  pub record Taken (core : Core) (r : Reading) (l : LastDescriptor) : Type 0 where
+  pub record Taken (k : Standing) (r : Reading) (l : LastDescriptor) : Type 0 where
     pub codes : codesOk state reading last ≡ true
     pub slices : slicesOk (length state) (length reading) (length last) (eqb v verdictLength) ≡ true
-    pub core-is : core ≡ coreOf (decodeState state)
+    pub standing-is : k ≡ standing (decodeState state)
     pub reading-is : r ≡ decodeReading reading
     pub last-is : l ≡ decodeLast last
 
-  taken-by : (a c d : Bool) → codesOk state reading last ≡ a → slicesOk (length state) (length reading) (length last) (eqb v verdictLength) ≡ c → (core : Core) (r : Reading) (l : LastDescriptor)
-      → Calls.Read core r l ≡ cond a (cond c (Calls.Read (coreOf (decodeState state)) (decodeReading reading) (decodeLast last)) (cond d (Calls.Refused Length) (Calls.Refused Range))) (Calls.Refused Range) → Taken core r l
-  taken-by true true d p q core r l e = record { codes = p; slices = q; core-is = cc; reading-is = cc; last-is = cc }
-  taken-by true false true p q core r l e = absurd (let z : _≡_ {A = ℕ} 0 1 = cc in omega arith)
-  taken-by true false false p q core r l e = absurd (let z : _≡_ {A = ℕ} 0 1 = cc in omega arith)
-  taken-by false c d p q core r l e = absurd (let z : _≡_ {A = ℕ} 0 1 = cc in omega arith)
+  taken-by : (a c d : Bool) → codesOk state reading last ≡ a → slicesOk (length state) (length reading) (length last) (eqb v verdictLength) ≡ c → (k : Standing) (r : Reading) (l : LastDescriptor)
+      → Calls.Read k r l ≡ cond a (cond c (Calls.Read (standing (decodeState state)) (decodeReading reading) (decodeLast last)) (cond d (Calls.Refused Length) (Calls.Refused Range))) (Calls.Refused Range) → Taken k r l
+  taken-by true true d p q k r l e = record { codes = p; slices = q; standing-is = cc; reading-is = cc; last-is = cc }
+  taken-by true false true p q k r l e = absurd (let z : _≡_ {A = ℕ} 0 1 = cc in omega arith)
+  taken-by true false false p q k r l e = absurd (let z : _≡_ {A = ℕ} 0 1 = cc in omega arith)
+  taken-by false c d p q k r l e = absurd (let z : _≡_ {A = ℕ} 0 1 = cc in omega arith)
 
-  pub was-taken : (k : CallRead) → k ≡ readCall state reading last (eqb v verdictLength) → (core : Core) (r : Reading) (l : LastDescriptor) → k ≡ Calls.Read core r l → Taken core r l
+  pub was-taken : (c : CallRead) → c ≡ readCall state reading last (eqb v verdictLength) → (k : Standing) (r : Reading) (l : LastDescriptor) → c ≡ Calls.Read k r l → Taken k r l
   unfolding readCall
-  was-taken k e core r l h =
-      taken-by (codesOk state reading last) (slicesOk (length state) (length reading) (length last) (eqb v verdictLength)) (sizesFit state reading) refl refl core r l (sym h ∙ e)
+  was-taken c e k r l h =
+      taken-by (codesOk state reading last) (slicesOk (length state) (length reading) (length last) (eqb v verdictLength)) (sizesFit state reading) refl refl k r l (sym h ∙ e)
 
 -- ---- the whole call.
 module _ (state reading last : List ℕ) (b : Lent) (e h w : List Float) (v : List ℕ) where
@@ -77,7 +75,7 @@ module _ (state reading last : List ℕ) (b : Lent) (e h w : List Float) (v : Li
   turned-back why o = record { answer = rw o; bytes = rw o; point = rw o; highs = rw o; lows = rw o; verdict = rw o }
 
   refused-by : (a c d : Bool) (o : Outcome) (why : Refusal)
-      → Calls.Refused why ≡ cond a (cond c (Calls.Read (coreOf (decodeState state)) (decodeReading reading) (decodeLast last)) (cond d (Calls.Refused Length) (Calls.Refused Range))) (Calls.Refused Range)
+      → Calls.Refused why ≡ cond a (cond c (Calls.Read (standing (decodeState state)) (decodeReading reading) (decodeLast last)) (cond d (Calls.Refused Length) (Calls.Refused Range))) (Calls.Refused Range)
       → cond a (cond c o (cond d (Refused Length) (Refused Range))) (Refused Range) ≡ Refused why
   refused-by true true d o why q = absurd (let z : _≡_ {A = ℕ} 0 1 = cc in omega arith)
   refused-by true false true o why q = cc
@@ -99,12 +97,8 @@ module _ (state reading last : List ℕ) (b : Lent) (e h w : List Float) (v : Li
       through = rw (c, s)
 
       -- The judge's decision, taken over to the bytes.
-      module _ (core : Core) (k : Standing) (j : Decision) (e′ h′ w′ : List Float) (ec : core ≡ coreOf (decodeState state)) (ek : k ≡ standingOf core)
+      module _ (k : Standing) (j : Decision) (e′ h′ w′ : List Float) (stands : k ≡ standing (decodeState state))
           (d : Decided (decodeReading reading) (decodeLast last) b (decision (decodeReading reading) (decodeLast last) b k (length e) (length h) (length w)) j e h w e′ h′ w′) where
-        stands : k ≡ standing (decodeState state)
-        unfolding standing standingOf coreOf
-        stands = ek ∙ ap standingOf ec
-
         lists : (length (decodeState state .«deviations_actual») ≡ 16) × (length (decodeState state .«deviations_expected») ≡ 16)
         unfolding decodeState
         lists =
@@ -181,19 +175,19 @@ module _ (state reading last : List ℕ) (b : Lent) (e h w : List Float) (v : Li
               taken n state′ v′ (p .answer ∙ ap outcomeNumber q) (p .bytes ∙ (λ x. stateLeft (q x) state (after-is x))) (p .says ∙ (λ x. verdictLeft (q x) v (f x)))
 
   -- The same for what was read.
-  module _ (kc : CallRead) (ec : kc ≡ readCall state reading last (eqb (length v) verdictLength)) (core : Core) (r : Reading) (l : LastDescriptor) (hc : kc ≡ Calls.Read core r l) (k : Standing)
-      (ek : k ≡ standingOf core) (j : Decision) (e′ h′ w′ : List Float) (d : Decided r l b (decision r l b k (length e) (length h) (length w)) j e h w e′ h′ w′) where
-    read : Taken state reading last (length v) core r l
-    read = was-taken state reading last (length v) kc ec core r l hc
+  module _ (kc : CallRead) (ec : kc ≡ readCall state reading last (eqb (length v) verdictLength)) (k : Standing) (r : Reading) (l : LastDescriptor) (hc : kc ≡ Calls.Read k r l)
+      (j : Decision) (e′ h′ w′ : List Float) (d : Decided r l b (decision r l b k (length e) (length h) (length w)) j e h w e′ h′ w′) where
+    read : Taken state reading last (length v) k r l
+    read = was-taken state reading last (length v) kc ec k r l hc
 
     decided : Decided (decodeReading reading) (decodeLast last) b (decision (decodeReading reading) (decodeLast last) b k (length e) (length h) (length w)) j e h w e′ h′ w′
     decided = rw (← read .reading-is, ← read .last-is) d
 
     pub judged-refused : (why : Refusal) (n : ℕ) → j .outcome ≡ Refused why → n ≡ number why → Answered state reading last b n e h w v state e′ h′ w′ v
-    judged-refused why n o p = refused-over (read .codes) (read .slices) core k j e′ h′ w′ (read .core-is) ek decided why n o p
+    judged-refused why n o p = refused-over (read .codes) (read .slices) k j e′ h′ w′ (read .standing-is) decided why n o p
 
     pub judged-accepted : (said : Verdict) (i : ℤ) (n : ℕ) (state′ v′ : List ℕ) → j .outcome ≡ Accepted said → i ≡ j .«relative_index»
         → Put r l said i (b .point) (j .«newest_expected») n state v state′ v′ → Answered state reading last b n e h w v state′ e′ h′ w′ v′
     judged-accepted said i n state′ v′ o f p =
         let q : Put (decodeReading reading) (decodeLast last) said i (b .point) (j .«newest_expected») n state v state′ v′ = rw (← read .reading-is, ← read .last-is) p in
-        accepted-over (read .codes) (read .slices) core k j e′ h′ w′ (read .core-is) ek decided said o i n state′ v′ f q
+        accepted-over (read .codes) (read .slices) k j e′ h′ w′ (read .standing-is) decided said o i n state′ v′ f q

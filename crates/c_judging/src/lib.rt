@@ -2,35 +2,15 @@
 // verdict in their bytes, as the crate layout has them. The answer is document 01's number, 0 for an accepted reading; a refused call
 // has written nothing.
 use detection::Outcome;
-use detection::Standing;
 use layout::CallRead;
-use layout::Core;
 ghost use mathlib.Core.Path.{_≡_};
 ghost use Prim.Native.Nat.{_-_};
 ghost use lib.ListN.{length};
 ghost use Rattle.descriptor.specs.Lent.{lent};
 ghost use Rattle.c_judging.specs.Judging as Judging;
-ghost use Rattle.c_judging.specs.Steps as Steps;
 
 // Document 01's refusal of a length.
 const LENGTH: u8 = 3;
-
-fn standing_of(core: Core) -> Standing
-    ensures { λ k. ⌜ k ≡ Steps.standingOf core ⌝ }
-{
-    let basic_thresholder = core.basic_thresholder;
-    let last_actual = core.last_actual;
-    let last_expected = core.last_expected;
-    Standing {
-        basic_thresholder,
-        auto_adjust: core.auto_adjust,
-        run_length: core.run_length,
-        base_dimension: core.base_dimension as usize,
-        counts_ok: core.counts_ok,
-        last_actual,
-        last_expected,
-    }
-}
 
 // Judges a reading and changes the state: `judge` decides, and its verdict is put into the bytes.
 #[no_mangle]
@@ -67,9 +47,9 @@ pub extern "C" fn krcf_detect_and_modify(
         last,
         verdict.len() == layout::VERDICT_LENGTH,
     ) {
-        CallRead::Read(core, r, l) => {
+        CallRead::Read(k, r, l) => {
             let decision = detection::judge(
-                standing_of(core),
+                k,
                 r,
                 l,
                 point,

@@ -19,7 +19,7 @@ use Rattle.descriptor.specs.Checks.{answerOf, lengthsOf, rangeOk}
 use Rattle.descriptor.specs.Lent.{Lent}
 use Rattle.descriptor.specs.declared.Reading.{Reading}
 use Rattle.descriptor.specs.declared.LastDescriptor.{LastDescriptor}
-use Rattle.predictorcorrector.specs.State.{autoAdjusted, runGrown, stateCountsOk}
+use Rattle.predictorcorrector.specs.State.{autoAdjusted, runGrown, stateCountsOk, standing}
 use Rattle.predictorcorrector.specs.Lists.{firstCountable}
 use Rattle.predictorcorrector.specs.declared.PredictorCorrector.{PredictorCorrector}
 use Rattle.predictorcorrector.proofs.Rows.{lists-ok}
@@ -28,13 +28,13 @@ use Rattle.candidate.proofs.Last.{drift-at}
 use Rattle.detection.specs.Const.{zero32}
 use Rattle.detection.specs.Judging.{opening, start, expected, newestOf, candidateState, isDataDrift, isDriftMode, decided, verdict, correctedScore, entered, after}
 use Rattle.detection.specs.Judged.{Judged, outcome, outcomeOf, stateAfter}
-use Rattle.detection.specs.Decided.{standing, noRow, newestExpected, rowAfter, driftOf, decision, Decided}
+use Rattle.detection.specs.Decided.{noRow, newestExpected, rowAfter, driftOf, decision, Decided}
 use Rattle.detection.specs.Steps.{Branching, Counting, Fitting, rowsCounted, afterRows, stateRows}
 use Rattle.detection.specs.declared.Verdict.{Verdict}
 use Rattle.detection.specs.declared.Verdict.the-variants.{Quiet, Corrected, Raised, Skipped}
 use Rattle.detection.specs.declared.Outcome.{Outcome}
 use Rattle.detection.specs.declared.Outcome.the-variants.{Accepted, Refused}
-use Rattle.detection.specs.declared.Standing.{Standing}
+use Rattle.predictorcorrector.specs.declared.Standing.{Standing}
 use Rattle.detection.specs.declared.Decision.{Decision}
 use Rattle.detection.proofs.Entry.{branching, in-range, same-base, counts-ok}
 

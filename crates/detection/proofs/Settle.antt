@@ -35,7 +35,7 @@ use Rattle.detection.specs.declared.Verdict.{Verdict}
 use Rattle.detection.specs.declared.Verdict.the-variants.{Quiet, Corrected, Raised, Skipped}
 use Rattle.detection.specs.declared.Outcome.{Outcome}
 use Rattle.detection.specs.declared.Outcome.the-variants.{Accepted, Refused}
-use Rattle.detection.specs.declared.Standing.{Standing}
+use Rattle.predictorcorrector.specs.declared.Standing.{Standing}
 use Rattle.detection.specs.declared.Decision.{Decision}
 use Rattle.detection.proofs.Entry.{for-late, writing}
 

@@ -23,20 +23,8 @@ use Rattle.detection.specs.declared.Verdict.{Verdict}
 use Rattle.detection.specs.declared.Verdict.the-variants.{Quiet, Corrected, Raised, Skipped}
 use Rattle.detection.specs.declared.Outcome.{Outcome}
 use Rattle.detection.specs.declared.Outcome.the-variants.{Accepted, Refused}
-use Rattle.detection.specs.declared.Standing.{Standing}
+use Rattle.predictorcorrector.specs.declared.Standing.{Standing}
 use Rattle.detection.specs.declared.Decision.{Decision}
-
--- How a state stands. For it `decision` is `outcome` (proofs/ByState.antt).
-unfoldable pub standing : PredictorCorrector → Standing
-standing s = record {
-  «basic_thresholder» = s .«basic_thresholder»;
-  «auto_adjust» = s .«auto_adjust»;
-  «run_length» = s .«run_length»;
-  «base_dimension» = s .«base_dimension»;
-  «counts_ok» = stateCountsOk s;
-  «last_actual» = getD (s .«deviations_actual») (s .«base_dimension» - 1) (fresh zero64);
-  «last_expected» = getD (s .«deviations_expected») (s .«base_dimension» - 1) (fresh zero64);
-}
 
 -- No row: sixteen zeros.
 abbrev pub noRow : List Float

@@ -27,7 +27,7 @@ use Rattle.detection.specs.declared.Way.the-variants as Ways
 use Rattle.detection.specs.declared.Verdict.the-variants.{Quiet, Corrected, Raised, Skipped}
 use Rattle.detection.specs.declared.Outcome.{Outcome}
 use Rattle.detection.specs.declared.Outcome.the-variants.{Accepted, Refused}
-use Rattle.detection.specs.declared.Standing.{Standing}
+use Rattle.predictorcorrector.specs.declared.Standing.{Standing}
 use Rattle.detection.specs.declared.Decision.{Decision}
 
 -- The buffers that a stage is lent; the others are left empty, and its definitions do not look at them.

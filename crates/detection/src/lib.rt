@@ -4,8 +4,8 @@ use basicthresholder::Graded;
 use descriptor::LastDescriptor;
 use descriptor::Lengths;
 use descriptor::Reading;
-use deviation::Deviation;
 use predictorcorrector::PredictorCorrector;
+use predictorcorrector::Standing;
 use types::Answer;
 use types::CorrectionMode;
 use types::Refusal;
@@ -38,17 +38,6 @@ pub enum Verdict {
 pub enum Outcome {
     Accepted(Verdict),
     Refused(Refusal),
-}
-
-// How a state stands: all that judging looks at. Of the two lists the last entries alone decide; `counts_ok` is refusal 6's test, which the state's owner makes.
-pub struct Standing {
-    pub basic_thresholder: BasicThresholder,
-    pub auto_adjust: bool,
-    pub run_length: u32,
-    pub base_dimension: usize,
-    pub counts_ok: bool,
-    pub last_actual: Deviation,
-    pub last_expected: Deviation,
 }
 
 // The outcome, with the relative index of a raised reading and, where the candidate branch is reached, the newest row of the expected point.

@@ -3,18 +3,18 @@ use descriptor::LastDescriptor;
 use descriptor::Reading;
 use detection::Judgment;
 use detection::Outcome;
-use detection::Standing;
 use detection::Verdict;
 use deviation::Deviation;
 use predictorcorrector::PredictorCorrector;
+use predictorcorrector::Standing;
 ghost use mathlib.Core.Path.{_≡_};
 ghost use Prim.Native.Nat.{_-_};
 ghost use lib.ListN.{length, getD};
 ghost use Rattle.deviation.specs.Const.{zero64};
 ghost use Rattle.deviation.specs.Statistics.{fresh};
 ghost use Rattle.descriptor.specs.Lent.{lent};
+ghost use Rattle.predictorcorrector.specs.State as State;
 ghost use Rattle.detection.specs.Judged as Judged;
-ghost use Rattle.detection.specs.Decided as Decided;
 ghost use Rattle.detection.specs.Steps as Steps;
 
 // The candidate branch's rows, counted.
@@ -101,7 +101,7 @@ fn last_entry(list: [Deviation; 16], base: usize) -> Deviation
 }
 
 fn standing_of(s: PredictorCorrector) -> Standing
-    ensures { λ k. ⌜ k ≡ Decided.standing s ⌝ ∗ ⌜ length (s .«deviations_actual») ≡ 16 ⌝ ∗ ⌜ length (s .«deviations_expected») ≡ 16 ⌝ }
+    ensures { λ k. ⌜ k ≡ State.standing s ⌝ ∗ ⌜ length (s .«deviations_actual») ≡ 16 ⌝ ∗ ⌜ length (s .«deviations_expected») ≡ 16 ⌝ }
 {
     let base = s.base_dimension as usize;
     let basic_thresholder = s.basic_thresholder;

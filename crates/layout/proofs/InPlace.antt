@@ -18,7 +18,7 @@ use Rattle.deviation.specs.Statistics as Statistics
 use Rattle.deviation.specs.Statistics.{fresh, countable, reset}
 use Rattle.deviation.specs.declared.Deviation.{Deviation}
 use Rattle.basicthresholder.specs.declared.BasicThresholder.{BasicThresholder}
-use Rattle.predictorcorrector.specs.State.{state, withThresholder, withRun, existing, stateCountsOk, longerRun, runEnded, autoAdjusted, candidateCounted, heightScore, updateScore}
+use Rattle.predictorcorrector.specs.State.{state, withThresholder, withRun, existing, stateCountsOk, longerRun, runEnded, autoAdjusted, candidateCounted, heightScore, updateScore, standing}
 use Rattle.predictorcorrector.specs.declared.PredictorCorrector.{PredictorCorrector}
 use Rattle.predictorcorrector.specs.Lists.{changed, stepped, rowFits, firstCountable, listCountable}
 use Rattle.predictorcorrector.proofs.Rows.{countable-next, changed-at, stepped-at, none-left, row-fits, lists-ok}
@@ -34,8 +34,8 @@ use Rattle.descriptor.proofs.Bounds.{both}
 use Rattle.layout.specs.Places.{deviationLength, stateLength, autoAdjustAt, runLengthAt, baseDimensionAt, actualAt, expectedAt, listLength, readingLength, lastLength}
 use Rattle.layout.specs.Numbers.{le4, le8, f64At, i32At, flagAt, f32Bytes, f64Bytes, i32Bytes, flagByte, flagBytes, bytes8, bytes4, pasted, writtenOf}
 use Rattle.layout.specs.States.{joined, deviationAt, encodeDeviation, encodeThresholder, decodeThresholder}
-use Rattle.layout.specs.Chain.{stateCodesOk, entries, filled, emptyList, listAt, listOver, encodeHead, encodeStateOver, decodeState, coreOf}
-use Rattle.layout.specs.declared.Core.{Core}
+use Rattle.layout.specs.Chain.{stateCodesOk, entries, filled, emptyList, listAt, listOver, encodeHead, encodeStateOver, decodeState}
+use Rattle.predictorcorrector.specs.declared.Standing.{Standing}
 use Rattle.layout.specs.InPlace.{readingAnswer, runAfter, entered, ended, adjusted, counted, kept}
 use Rattle.layout.specs.Parts.{most, head, lastOf, rowKeptOver, Taking, scored, primaryScore, secondAfter}
 use Rattle.layout.proofs.Laws.{deviation-length}
@@ -493,11 +493,11 @@ module _ (xs : List ℕ) (at : ℕ) where
       go true e = few-last base (leb-true base 16 e)
       go false e = over-last base (leb-false base 16 e)
 
-pub core-is : (xs : List ℕ) (auto : Bool) (run base n : ℕ) (t : BasicThresholder) (ok : Bool) (a e : Deviation) → auto ≡ flagAt xs autoAdjustAt → run ≡ le4 xs runLengthAt → base ≡ le4 xs baseDimensionAt
+pub standing-is : (xs : List ℕ) (auto : Bool) (run base n : ℕ) (t : BasicThresholder) (ok : Bool) (a e : Deviation) → auto ≡ flagAt xs autoAdjustAt → run ≡ le4 xs runLengthAt → base ≡ le4 xs baseDimensionAt
     → n ≡ entries auto base → t ≡ decodeThresholder xs → ok ≡ stateCountsOk (decodeState xs) → a ≡ lastOf xs actualAt n base → e ≡ lastOf xs expectedAt n base
-    → _≡_ {A = Core} (record { «basic_thresholder» = t; «auto_adjust» = auto; «run_length» = run; «base_dimension» = base; «counts_ok» = ok; «last_actual» = a; «last_expected» = e }) (coreOf (decodeState xs))
-unfolding coreOf decodeState
-core-is xs auto run base n t ok a e pauto prun pbase pn pt pok pa pe = λ i. record {
+    → _≡_ {A = Standing} (record { «basic_thresholder» = t; «auto_adjust» = auto; «run_length» = run; «base_dimension» = base; «counts_ok» = ok; «last_actual» = a; «last_expected» = e }) (standing (decodeState xs))
+unfolding standing decodeState
+standing-is xs auto run base n t ok a e pauto prun pbase pn pt pok pa pe = λ i. record {
   «basic_thresholder» = pt i;
   «auto_adjust» = pauto i;
   «run_length» = prun i;

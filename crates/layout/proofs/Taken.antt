@@ -8,15 +8,16 @@ use lib.Dec.{eqb}
 use lib.ListN.{length}
 use Rattle.types.specs.declared.Refusal.the-variants.{Range, Length}
 use Rattle.layout.specs.Places.{stateLength}
-use Rattle.layout.specs.Chain.{coreOf, decodeState, stateCodesOk, readCore}
-use Rattle.layout.specs.declared.Core.{Core}
-use Rattle.layout.specs.declared.CoreRead.the-variants.{Read, Refused}
+use Rattle.predictorcorrector.specs.State.{standing}
+use Rattle.layout.specs.Chain.{decodeState, stateCodesOk, readStanding}
+use Rattle.predictorcorrector.specs.declared.Standing.{Standing}
+use Rattle.layout.specs.declared.StandingRead.the-variants.{Read, Refused}
 
-was-read : (long codes : Bool) (x y : Core) → cond long (cond codes (Read x) (Refused Range)) (Refused Length) ≡ Read y → (long ≡ true) × (codes ≡ true) × (y ≡ x)
+was-read : (long codes : Bool) (x y : Standing) → cond long (cond codes (Read x) (Refused Range)) (Refused Length) ≡ Read y → (long ≡ true) × (codes ≡ true) × (y ≡ x)
 was-read true true x y e = (refl, refl, cc)
 was-read true false x y e = absurd (let z : _≡_ {A = ℕ} 0 1 = cc in omega arith)
 was-read false codes x y e = absurd (let z : _≡_ {A = ℕ} 0 1 = cc in omega arith)
 
-pub core-read : (xs : List ℕ) (k : Core) → readCore xs ≡ Read k → (eqb (length xs) stateLength ≡ true) × (stateCodesOk xs ≡ true) × (k ≡ coreOf (decodeState xs))
-unfolding readCore
-core-read xs k e = was-read (eqb (length xs) stateLength) (stateCodesOk xs) (coreOf (decodeState xs)) k e
+pub standing-read : (xs : List ℕ) (k : Standing) → readStanding xs ≡ Read k → (eqb (length xs) stateLength ≡ true) × (stateCodesOk xs ≡ true) × (k ≡ standing (decodeState xs))
+unfolding readStanding
+standing-read xs k e = was-read (eqb (length xs) stateLength) (stateCodesOk xs) (standing (decodeState xs)) k e

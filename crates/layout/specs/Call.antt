@@ -8,7 +8,8 @@ use lib.ListN.{length}
 use Rattle.types.specs.declared.Refusal.the-variants.{Range, Length}
 use Rattle.descriptor.specs.Checks.{sizesOk, rangeOk}
 use Rattle.layout.specs.Places.{stateLength, readingLength, lastLength}
-use Rattle.layout.specs.Chain.{decodeState, coreOf, stateCodesOk}
+use Rattle.predictorcorrector.specs.State.{standing}
+use Rattle.layout.specs.Chain.{decodeState, stateCodesOk}
 use Rattle.layout.specs.Readings.{decodeReading, decodeLast, readingCodesOk, lastCodesOk}
 use Rattle.layout.specs.declared.CallRead.{CallRead}
 use Rattle.layout.specs.declared.CallRead.the-variants.{Read, Refused}
@@ -34,6 +35,6 @@ unfoldable pub readCall : (state reading last : List ℕ) → (out : Bool) → C
 readCall state reading last out =
     cond (codesOk state reading last)
     (cond (slicesOk (length state) (length reading) (length last) out)
-    (Read (coreOf (decodeState state)) (decodeReading reading) (decodeLast last))
+    (Read (standing (decodeState state)) (decodeReading reading) (decodeLast last))
     (cond (sizesFit state reading) (Refused Length) (Refused Range)))
     (Refused Range)

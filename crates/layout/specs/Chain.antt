@@ -12,12 +12,12 @@ use Rattle.deviation.specs.declared.Deviation.{Deviation}
 use Rattle.deviation.specs.Statistics.{fresh}
 use Rattle.deviation.specs.Const.{zero64}
 use Rattle.predictorcorrector.specs.declared.PredictorCorrector.{PredictorCorrector}
-use Rattle.predictorcorrector.specs.State.{state, new, stateCountsOk}
+use Rattle.predictorcorrector.specs.State.{state, new, standing}
 use Rattle.layout.specs.Places.{deviationLength, autoThresholdAt, stateLength, autoAdjustAt, runLengthAt, baseDimensionAt, actualAt, expectedAt}
-use Rattle.layout.specs.declared.Core.{Core}
+use Rattle.predictorcorrector.specs.declared.Standing.{Standing}
 use Rattle.layout.specs.declared.StateRead.{StateRead}
-use Rattle.layout.specs.declared.CoreRead.{CoreRead}
-use Rattle.layout.specs.declared.CoreRead.the-variants.{Read, Refused}
+use Rattle.layout.specs.declared.StandingRead.{StandingRead}
+use Rattle.layout.specs.declared.StandingRead.the-variants.{Read, Refused}
 use Rattle.layout.specs.Numbers.{le4, flagAt, bytes4, flagBytes, pasted}
 use Rattle.layout.specs.States.{joined, deviationAt, encodeDeviation, decodeThresholder, encodeThresholder}
 
@@ -61,18 +61,6 @@ encodeStateOver xs s =
     let n = entries (s .«auto_adjust») (s .«base_dimension») in
     listOver (listOver (pasted xs 0 (encodeHead s)) actualAt (s .«deviations_actual») n) expectedAt (s .«deviations_expected») n
 
--- What the calls need of a state: all but its lists, of which the last entry of each, and refusal 6's test.
-unfoldable pub coreOf : PredictorCorrector → Core
-coreOf s = record {
-  «basic_thresholder» = s .«basic_thresholder»;
-  «auto_adjust» = s .«auto_adjust»;
-  «run_length» = s .«run_length»;
-  «base_dimension» = s .«base_dimension»;
-  «counts_ok» = stateCountsOk s;
-  «last_actual» = getD (s .«deviations_actual») (s .«base_dimension» - 1) (fresh zero64);
-  «last_expected» = getD (s .«deviations_expected») (s .«base_dimension» - 1) (fresh zero64);
-}
-
 -- The two yes/no bytes hold 0 or 1. Nothing inside a slice of another length is looked at.
 unfoldable pub stateCodesOk : List ℕ → Bool
 stateCodesOk xs = cond (eqb (length xs) stateLength) (leb (getD xs autoThresholdAt 0) 1 && leb (getD xs autoAdjustAt 0) 1) true
@@ -85,5 +73,5 @@ unread why = record { answer = Answers.Refused why; state = new zero64 false 0 .
 unfoldable pub readState : List ℕ → StateRead
 readState xs = cond (eqb (length xs) stateLength) (cond (stateCodesOk xs) (record { answer = Answers.Done; state = decodeState xs }) (unread Range)) (unread Length)
 
-unfoldable pub readCore : List ℕ → CoreRead
-readCore xs = cond (eqb (length xs) stateLength) (cond (stateCodesOk xs) (Read (coreOf (decodeState xs))) (Refused Range)) (Refused Length)
+unfoldable pub readStanding : List ℕ → StandingRead
+readStanding xs = cond (eqb (length xs) stateLength) (cond (stateCodesOk xs) (Read (standing (decodeState xs))) (Refused Range)) (Refused Length)

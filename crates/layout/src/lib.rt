@@ -7,6 +7,7 @@ use descriptor::LastDescriptor;
 use descriptor::Reading;
 use deviation::Deviation;
 use predictorcorrector::PredictorCorrector;
+use predictorcorrector::Standing;
 use types::Answer;
 use types::MethodCode;
 use types::Refusal;
@@ -21,7 +22,7 @@ ghost use lib.ListN.{length, replicate};
 ghost use Rattle.deviation.specs.Statistics.{reset, counted};
 ghost use Rattle.predictorcorrector.specs.Lists.{changed, stepped, firstCountable};
 ghost use Rattle.basicthresholder.specs.Updates.{countsOk};
-ghost use Rattle.predictorcorrector.specs.State.{stateCountsOk};
+ghost use Rattle.predictorcorrector.specs.State.{stateCountsOk, standing};
 ghost use Rattle.types.specs.Codes as Codes;
 ghost use Rattle.layout.specs.Places.{deviationLength, thresholderLength, stateLength, baseDimensionAt, expectedAt, listLength, readingLength, lastLength, verdictLength};
 ghost use Rattle.layout.specs.Numbers as Numbers;
@@ -152,31 +153,20 @@ pub enum ThresholderRead {
     Refused(Refusal),
 }
 
-// What the calls on a stored state need of it: all but its lists, of which the last entry of each, and whether refusal 6 lets its counts pass.
-pub struct Core {
-    pub basic_thresholder: BasicThresholder,
-    pub auto_adjust: bool,
-    pub run_length: u32,
-    pub base_dimension: u32,
-    pub counts_ok: bool,
-    pub last_actual: Deviation,
-    pub last_expected: Deviation,
-}
-
 // An enum cannot hold the state's lists, so the answer stands beside it.
 pub struct StateRead {
     pub answer: Answer,
     pub state: PredictorCorrector,
 }
 
-pub enum CoreRead {
-    Read(Core),
+pub enum StandingRead {
+    Read(Standing),
     Refused(Refusal),
 }
 
 // What a call reads of all three slices.
 pub enum CallRead {
-    Read(Core, Reading, LastDescriptor),
+    Read(Standing, Reading, LastDescriptor),
     Refused(Refusal),
 }
 
@@ -581,21 +571,22 @@ fn last_entry(bytes: &[u8], at: usize, n: usize, base: usize) -> Deviation
     Deviation::default()
 }
 
-fn core_of(bytes: &[u8]) -> Core
+fn standing_of(bytes: &[u8]) -> Standing
     requires { ⌜ length (now bytes) ≡ stateLength ⌝ }
-    ensures { λ r. ⌜ r ≡ Chain.coreOf (Chain.decodeState (now (bytes .entry))) ⌝ }
+    ensures { λ r. ⌜ r ≡ standing (Chain.decodeState (now (bytes .entry))) ⌝ }
 {
     let auto_adjust = flag_at(bytes, AUTO_ADJUST_AT);
-    let base_dimension = read4(bytes, BASE_DIMENSION_AT);
-    let n = entries(auto_adjust, base_dimension);
-    Core {
+    let stored_base = read4(bytes, BASE_DIMENSION_AT);
+    let n = entries(auto_adjust, stored_base);
+    let base_dimension = stored_base as usize;
+    Standing {
         basic_thresholder: thresholder_of(bytes),
         auto_adjust,
         run_length: read4(bytes, RUN_LENGTH_AT),
         base_dimension,
         counts_ok: counts_ok_of(bytes),
-        last_actual: last_entry(bytes, ACTUAL_AT, n, base_dimension as usize),
-        last_expected: last_entry(bytes, EXPECTED_AT, n, base_dimension as usize),
+        last_actual: last_entry(bytes, ACTUAL_AT, n, base_dimension),
+        last_expected: last_entry(bytes, EXPECTED_AT, n, base_dimension),
     }
 }
 
@@ -628,16 +619,16 @@ pub fn read_state(bytes: &[u8]) -> StateRead
 }
 
 // The same without its lists.
-pub fn read_core(bytes: &[u8]) -> CoreRead
-    ensures { λ r. ⌜ r ≡ Chain.readCore (now (bytes .entry)) ⌝ }
+pub fn read_standing(bytes: &[u8]) -> StandingRead
+    ensures { λ r. ⌜ r ≡ Chain.readStanding (now (bytes .entry)) ⌝ }
 {
     if bytes.len() == STATE_LENGTH {
         if state_codes_ok(bytes) {
-            return CoreRead::Read(core_of(bytes));
+            return StandingRead::Read(standing_of(bytes));
         }
-        return CoreRead::Refused(Refusal::Range);
+        return StandingRead::Refused(Refusal::Range);
     }
-    CoreRead::Refused(Refusal::Length)
+    StandingRead::Refused(Refusal::Length)
 }
 
 // The first n entries of a list, written from `at` on; the bytes of those behind them stay.
@@ -1289,7 +1280,7 @@ pub fn read_call(state: &[u8], reading: &[u8], last: &[u8], out: bool) -> CallRe
         if (state.len() == STATE_LENGTH)
             & ((reading.len() == READING_LENGTH) & ((last.len() == LAST_LENGTH) & out))
         {
-            return CallRead::Read(core_of(state), reading_of(reading), last_of(last));
+            return CallRead::Read(standing_of(state), reading_of(reading), last_of(last));
         }
         if sizes_fit(state, reading) {
             return CallRead::Refused(Refusal::Length);

@@ -1,9 +1,9 @@
 -- predictorcorrector.rs: the state, its construction and setters, and what a reading does to it. One definition for each, in the Rust's shape.
-use Prim.Native.Nat.{ℕ, _+_}
+use Prim.Native.Nat.{ℕ, _+_, _-_}
 use mathlib.Core.Bool.{Bool, false, cond, _&&_}
 use mathlib.Core.List.{List}
 use lib.Dec.{leb, ltb}
-use lib.ListN.{replicate}
+use lib.ListN.{getD, replicate}
 use lib.Ieee.{Float}
 use Rattle.types.specs.declared.Refusal.the-variants.{Discount, Range}
 use Rattle.types.specs.declared.Answer.{Answer}
@@ -19,6 +19,7 @@ use Rattle.basicthresholder.specs.declared.BasicThresholder.{BasicThresholder}
 use Rattle.predictorcorrector.specs.Lists.{changed, stepped, rowFits, listCountable}
 use Rattle.predictorcorrector.specs.declared.PredictorCorrector.{PredictorCorrector}
 use Rattle.predictorcorrector.specs.declared.Updated.{Updated}
+use Rattle.predictorcorrector.specs.declared.Standing.{Standing}
 
 -- The state by its parts.
 abbrev pub state : BasicThresholder → Bool → ℕ → ℕ → List Deviation → List Deviation → PredictorCorrector
@@ -91,6 +92,18 @@ stateCountsOk s =
     && (countsOk (s .«basic_thresholder»)
     && (listCountable (existing (s .«auto_adjust») (s .«base_dimension»)) (s .«deviations_actual»)
     && listCountable (existing (s .«auto_adjust») (s .«base_dimension»)) (s .«deviations_expected»)))
+
+-- How a state stands: without its lists, but for the last of the entries that exist; a new one where none does.
+unfoldable pub standing : PredictorCorrector → Standing
+standing s = record {
+  «basic_thresholder» = s .«basic_thresholder»;
+  «auto_adjust» = s .«auto_adjust»;
+  «run_length» = s .«run_length»;
+  «base_dimension» = s .«base_dimension»;
+  «counts_ok» = stateCountsOk s;
+  «last_actual» = getD (s .«deviations_actual») (s .«base_dimension» - 1) (fresh zero64);
+  «last_expected» = getD (s .«deviations_expected») (s .«base_dimension» - 1) (fresh zero64);
+}
 
 -- ---- what a reading does
 -- One more; a run that refusal 6 is of stays.

@@ -32,6 +32,17 @@ pub struct Updated {
     pub state: PredictorCorrector,
 }
 
+// How a state stands: all that judging looks at. Of the two lists the last entries alone decide; `counts_ok` is refusal 6's test, which the state's owner makes.
+pub struct Standing {
+    pub basic_thresholder: BasicThresholder,
+    pub auto_adjust: bool,
+    pub run_length: u32,
+    pub base_dimension: usize,
+    pub counts_ok: bool,
+    pub last_actual: Deviation,
+    pub last_expected: Deviation,
+}
+
 // The longest run that refusal 6 lets pass.
 const RUN_LIMIT: u32 = 16777215;
 

@@ -12,11 +12,8 @@ use Rattle.layout.proofs.read_call.Reads as read-call-reads
 read-call-requires : tie.Need-read-call-requires
 read-call-requires c κs = search needs
 
-enum-known-core : tie.Need-enum-known-core
-enum-known-core c = search needs
-
-cast-asked-of-forest : tie.Need-cast-asked-of-forest
-cast-asked-of-forest c = search needs
+enum-known-k : tie.Need-enum-known-k
+enum-known-k c = search needs
 
 asked-of-forest-requires : tie.Need-asked-of-forest-requires
 asked-of-forest-requires c κs = search needs
@@ -29,7 +26,7 @@ refused-requires c κs = search needs
 
 returns : tie.Need-returns
 unfolding askedOver askedBy
-returns c = c .asked-of-forest .ensures ∙ ap askedBy (sym (c .before .before .before .core .given .1) ∙ c .before .before .before .before .before .read-call .ensures)
+returns c = c .asked-of-forest .ensures ∙ ap askedBy (sym (c .before .before .k .given .1) ∙ c .before .before .before .before .read-call .ensures)
 
 returns-2 : tie.Need-returns-2
 unfolding askedOver askedBy
@@ -40,8 +37,7 @@ asked-over-spec =
     tie.close
     (tie.spec
     read-call-requires
-    enum-known-core
-    cast-asked-of-forest
+    enum-known-k
     asked-of-forest-requires
     enum-known-why
     refused-requires

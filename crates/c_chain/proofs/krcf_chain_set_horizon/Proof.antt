@@ -5,11 +5,11 @@ use borrow.Author.Needs.{needs}
 use Rattle.c_chain.proofs.krcf_chain_set_horizon.Statement.{statement}
 use Rattle.c_chain.proofs.krcf_chain_set_horizon.Tie as tie
 
-read-core-requires : tie.Need-read-core-requires
-read-core-requires c κs = search needs
+read-standing-requires : tie.Need-read-standing-requires
+read-standing-requires c κs = search needs
 
-enum-known-core : tie.Need-enum-known-core
-enum-known-core c = search needs
+enum-known-k : tie.Need-enum-known-k
+enum-known-k c = search needs
 
 set-score-differencing-requires : tie.Need-set-score-differencing-requires
 set-score-differencing-requires c κs = search needs
@@ -36,26 +36,26 @@ same-length : tie.Need-same-length
 same-length c = search needs
 
 returns : tie.Need-returns
-returns c = horizon-set (now (c .before .before .before .before .before .before .before .before .before .before .before .before .before .before .before .args .state)) _ (sym (c .before .before .before .before .before .before .before .before .before .before .before .before .read-core .ensures) ∙ c .before .before .before .before .before .before .before .before .before .before .core .given .1) (c .before .before .before .before .before .before .before .before .before .before .before .before .before .before .before .args .horizon) _ (c .before .before .before .before .before .before .before .set-score-differencing .ensures) _ (c .before .before .before .before .enum-told .given .1) (c .before .before .write-kept .ensures)
+returns c = horizon-set (now (c .before .before .before .before .before .before .before .before .before .before .before .before .before .before .before .args .state)) _ (sym (c .before .before .before .before .before .before .before .before .before .before .before .before .read-standing .ensures) ∙ c .before .before .before .before .before .before .before .before .before .before .k .given .1) (c .before .before .before .before .before .before .before .before .before .before .before .before .before .before .before .args .horizon) _ (c .before .before .before .before .before .before .before .set-score-differencing .ensures) _ (c .before .before .before .before .enum-told .given .1) (c .before .before .write-kept .ensures)
 
 same-length-2 : tie.Need-same-length-2
 same-length-2 c = search needs
 
 returns-2 : tie.Need-returns-2
-returns-2 c = horizon-refused (now (c .before .before .before .before .before .before .before .before .before .before .before .before .before .args .state)) _ (sym (c .before .before .before .before .before .before .before .before .before .before .read-core .ensures) ∙ c .before .before .before .before .before .before .before .before .core .given .1) (c .before .before .before .before .before .before .before .before .before .before .before .before .before .args .horizon) _ (c .before .before .before .before .before .set-score-differencing .ensures) _ _ (c .before .before .answer .given .1) (c .number .ensures)
+returns-2 c = horizon-refused (now (c .before .before .before .before .before .before .before .before .before .before .before .before .before .args .state)) _ (sym (c .before .before .before .before .before .before .before .before .before .before .read-standing .ensures) ∙ c .before .before .before .before .before .before .before .before .k .given .1) (c .before .before .before .before .before .before .before .before .before .before .before .before .before .args .horizon) _ (c .before .before .before .before .before .set-score-differencing .ensures) _ _ (c .before .before .answer .given .1) (c .number .ensures)
 
 same-length-3 : tie.Need-same-length-3
 same-length-3 c = search needs
 
 returns-3 : tie.Need-returns-3
-returns-3 c = horizon-kept (now (c .before .before .before .before .before .before .before .args .state)) _ (sym (c .before .before .before .before .read-core .ensures) ∙ c .before .before .why .given .1) _ (c .number2 .ensures) (c .before .before .before .before .before .before .before .args .horizon)
+returns-3 c = horizon-kept (now (c .before .before .before .before .before .before .before .args .state)) _ (sym (c .before .before .before .before .read-standing .ensures) ∙ c .before .before .why .given .1) _ (c .number2 .ensures) (c .before .before .before .before .before .before .before .args .horizon)
 
 pub krcf-chain-set-horizon-spec : {M : Type 1} → statement M
 krcf-chain-set-horizon-spec =
     tie.close
     (tie.spec
-    read-core-requires
-    enum-known-core
+    read-standing-requires
+    enum-known-k
     set-score-differencing-requires
     enum-told
     write-kept-requires

@@ -7,11 +7,11 @@ use borrow.Author.Needs.{needs}
 use Rattle.c_chain.proofs.krcf_chain_set_z_factor.Statement.{statement}
 use Rattle.c_chain.proofs.krcf_chain_set_z_factor.Tie as tie
 
-read-core-requires : tie.Need-read-core-requires
-read-core-requires c κs = search needs
+read-standing-requires : tie.Need-read-standing-requires
+read-standing-requires c κs = search needs
 
-enum-known-core : tie.Need-enum-known-core
-enum-known-core c = search needs
+enum-known-k : tie.Need-enum-known-k
+enum-known-k c = search needs
 
 set-z-factor-requires : tie.Need-set-z-factor-requires
 set-z-factor-requires c κs = search needs
@@ -29,20 +29,20 @@ same-length : tie.Need-same-length
 same-length c = search needs
 
 returns : tie.Need-returns
-returns c = chain-set (now (c .before .before .before .before .before .before .before .before .before .before .before .before .args .state)) _ (sym (c .before .before .before .before .before .before .before .before .before .read-core .ensures) ∙ c .before .before .before .before .before .before .before .core .given .1) (λ (t : BasicThresholder). withZFactor t (c .before .before .before .before .before .before .before .before .before .before .before .before .args .factor)) _ _ (c .before .before .before .set-z-factor .ensures) (c .before .before .write-kept .ensures)
+returns c = chain-set (now (c .before .before .before .before .before .before .before .before .before .before .before .before .args .state)) _ (sym (c .before .before .before .before .before .before .before .before .before .read-standing .ensures) ∙ c .before .before .before .before .before .before .before .k .given .1) (λ (t : BasicThresholder). withZFactor t (c .before .before .before .before .before .before .before .before .before .before .before .before .args .factor)) _ _ (c .before .before .before .set-z-factor .ensures) (c .before .before .write-kept .ensures)
 
 same-length-2 : tie.Need-same-length-2
 same-length-2 c = search needs
 
 returns-2 : tie.Need-returns-2
-returns-2 c = chain-kept (now (c .before .before .before .before .before .before .before .args .state)) _ (sym (c .before .before .before .before .read-core .ensures) ∙ c .before .before .why .given .1) _ (c .number .ensures) _
+returns-2 c = chain-kept (now (c .before .before .before .before .before .before .before .args .state)) _ (sym (c .before .before .before .before .read-standing .ensures) ∙ c .before .before .why .given .1) _ (c .number .ensures) _
 
 pub krcf-chain-set-z-factor-spec : {M : Type 1} → statement M
 krcf-chain-set-z-factor-spec =
     tie.close
     (tie.spec
-    read-core-requires
-    enum-known-core
+    read-standing-requires
+    enum-known-k
     set-z-factor-requires
     write-kept-requires
     enum-known-why

@@ -9,7 +9,6 @@ use Rattle.c_judging.proofs.krcf_detect_and_modify.Statement.{statement
 use Rattle.c_judging.proofs.krcf_detect_and_modify.Tie as tie
 use Rattle.c_judging.proofs.krcf_detect_and_modify.Reads as reads
 use Rattle.c_judging.proofs.krcf_detect_and_modify.Lts as lts
-use Rattle.c_judging.proofs.standing_of.Reads as standing-of-reads
 use Rattle.detection.proofs.judge.Reads as judge-reads
 use Rattle.layout.proofs.read_call.Reads as read-call-reads
 use Rattle.types.proofs.Refusal.number.Reads as number-reads
@@ -18,11 +17,8 @@ use Rattle.verdict_bytes.proofs.put_verdict.Reads as put-verdict-reads
 read-call-requires : tie.Need-read-call-requires
 read-call-requires c κs = search needs
 
-enum-known-core : tie.Need-enum-known-core
-enum-known-core c = search needs
-
-standing-of-requires : tie.Need-standing-of-requires
-standing-of-requires c κs = search needs
+enum-known-k : tie.Need-enum-known-k
+enum-known-k c = search needs
 
 judge-requires : tie.Need-judge-requires
 judge-requires c κs = search needs
@@ -62,10 +58,10 @@ same-length-5 c = search needs
 
 returns : tie.Need-returns
 returns c =
-    let a = c .before .before .before .before .before .before .before .before .before .before .before .before .before .before .before .before .before .before .before .before .before .before .before .before .before .before .before .before .before .before .before .before .before .before .before .before .before .before .before .before .before .before .before .before .before .before .before .args in
+    let a = c .before .before .before .before .before .before .before .before .before .before .before .before .before .before .before .before .before .before .before .before .before .before .before .before .before .before .before .before .before .before .before .before .before .before .before .before .before .before .before .before .before .before .before .before .before .before .args in
     let b = lent (now (a .point)) (now (a .scale)) (now (a .shift)) (now (a .difference-deviations)) (now (a .last-expected)) (now (a .last-anomalous)) (now (a .high)) (now (a .low)) (now (a .median)) (now (a .ideal-high)) (now (a .ideal-low)) (now (a .neighbours)) in
     judged-accepted (now (a .state)) (now (a .reading)) (now (a .last)) b (now (a .expected)) (now (a .out-high)) (now (a .out-low)) (now (a .verdict))
-    _ (c .before .before .before .before .before .before .before .before .before .before .before .before .before .before .before .before .before .before .before .before .before .before .before .before .before .before .read-call .ensures) _ _ _ (c .before .before .before .before .before .before .before .before .before .before .before .before .before .before .before .before .before .before .before .before .before .before .before .before .core .given .1) _ (c .before .before .before .before .before .before .before .before .before .before .before .before .before .before .before .before .before .before .before .before .before .before .standing-of .ensures) _ _ _ _ (c .before .before .before .before .before .before .before .before .before .before .before .before .before .before .before .before .before .before .judge .ensures)
+    _ (c .before .before .before .before .before .before .before .before .before .before .before .before .before .before .before .before .before .before .before .before .before .before .before .before .before .read-call .ensures) _ _ _ (c .before .before .before .before .before .before .before .before .before .before .before .before .before .before .before .before .before .before .before .before .before .before .before .k .given .1) _ _ _ _ (c .before .before .before .before .before .before .before .before .before .before .before .before .before .before .before .before .before .before .judge .ensures)
     _ _ _ _ _ (c .before .before .before .before .before .before .before .before .before .outcome .given .1) (toZ-ofZ w32 (c .before .before .before .before .before .before .before .before .before .before .before .before .before .before .before .before .before .before .judge .result .«relative_index») (search needs)) (c .before .before .before .before .put-verdict .ensures)
 
 same-length-6 : tie.Need-same-length-6
@@ -82,10 +78,10 @@ same-length-9 c = search needs
 
 returns-2 : tie.Need-returns-2
 returns-2 c =
-    let a = c .before .before .before .before .before .before .before .before .before .before .before .before .before .before .before .before .before .before .before .before .before .before .before .before .before .before .before .before .before .before .before .before .before .before .before .before .before .before .before .before .args in
+    let a = c .before .before .before .before .before .before .before .before .before .before .before .before .before .before .before .before .before .before .before .before .before .before .before .before .before .before .before .before .before .before .before .before .before .before .before .before .before .before .before .args in
     let b = lent (now (a .point)) (now (a .scale)) (now (a .shift)) (now (a .difference-deviations)) (now (a .last-expected)) (now (a .last-anomalous)) (now (a .high)) (now (a .low)) (now (a .median)) (now (a .ideal-high)) (now (a .ideal-low)) (now (a .neighbours)) in
     judged-refused (now (a .state)) (now (a .reading)) (now (a .last)) b (now (a .expected)) (now (a .out-high)) (now (a .out-low)) (now (a .verdict))
-    _ (c .before .before .before .before .before .before .before .before .before .before .before .before .before .before .before .before .before .before .before .read-call .ensures) _ _ _ (c .before .before .before .before .before .before .before .before .before .before .before .before .before .before .before .before .before .core .given .1) _ (c .before .before .before .before .before .before .before .before .before .before .before .before .before .before .before .standing-of .ensures) _ _ _ _ (c .before .before .before .before .before .before .before .before .before .before .before .judge .ensures)
+    _ (c .before .before .before .before .before .before .before .before .before .before .before .before .before .before .before .before .before .before .read-call .ensures) _ _ _ (c .before .before .before .before .before .before .before .before .before .before .before .before .before .before .before .before .k .given .1) _ _ _ _ (c .before .before .before .before .before .before .before .before .before .before .before .judge .ensures)
     _ _ (c .before .before .outcome2 .given .1) (c .number .ensures)
 
 same-length-10 : tie.Need-same-length-10
@@ -102,8 +98,7 @@ krcf-detect-and-modify-spec =
     tie.close
     (tie.spec
     read-call-requires
-    enum-known-core
-    standing-of-requires
+    enum-known-k
     judge-requires
     enum-known-outcome
     put-verdict-requires

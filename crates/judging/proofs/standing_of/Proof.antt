@@ -1,6 +1,6 @@
+use Rattle.predictorcorrector.specs.State.{standing}
 use mathlib.Core.Path.{_≡_}
-use Rattle.detection.specs.Decided.{standing}
-use Rattle.detection.specs.declared.Standing.{Standing}
+use Rattle.predictorcorrector.specs.declared.Standing.{Standing}
 use borrow.Author.Needs.{needs}
 use Rattle.judging.proofs.standing_of.Statement.{statement}
 use Rattle.judging.proofs.standing_of.Tie as tie

@@ -9,7 +9,7 @@ use Rattle.layout.proofs.read_call.Tie as tie
 use Rattle.layout.proofs.read_call.Reads as reads
 use Rattle.layout.proofs.read_call.Lts as lts
 use Rattle.layout.proofs.codes_ok.Reads as codes-ok-reads
-use Rattle.layout.proofs.core_of.Reads as core-of-reads
+use Rattle.layout.proofs.standing_of.Reads as standing-of-reads
 use Rattle.layout.proofs.last_of.Reads as last-of-reads
 use Rattle.layout.proofs.reading_of.Reads as reading-of-reads
 use Rattle.layout.proofs.sizes_fit.Reads as sizes-fit-reads
@@ -17,8 +17,8 @@ use Rattle.layout.proofs.sizes_fit.Reads as sizes-fit-reads
 codes-ok-requires : tie.Need-codes-ok-requires
 codes-ok-requires c κs = search needs
 
-core-of-requires : tie.Need-core-of-requires
-core-of-requires c κs = all-three (length (now (c .before .before .before .before .before .before .args .state))) (length (now (c .before .before .before .before .before .before .args .reading))) (length (now (c .before .before .before .before .before .before .args .last))) (c .before .before .before .before .before .before .args .out) (c .if2 .taken) .0
+standing-of-requires : tie.Need-standing-of-requires
+standing-of-requires c κs = all-three (length (now (c .before .before .before .before .before .before .args .state))) (length (now (c .before .before .before .before .before .before .args .reading))) (length (now (c .before .before .before .before .before .before .args .last))) (c .before .before .before .before .before .before .args .out) (c .if2 .taken) .0
 
 reading-of-requires : tie.Need-reading-of-requires
 reading-of-requires c κs = all-three (length (now (c .before .before .before .before .before .before .before .args .state))) (length (now (c .before .before .before .before .before .before .before .args .reading))) (length (now (c .before .before .before .before .before .before .before .args .last))) (c .before .before .before .before .before .before .before .args .out) (c .before .if2 .taken) .1
@@ -28,7 +28,7 @@ last-of-requires c κs = all-three (length (now (c .before .before .before .befo
 
 returns : tie.Need-returns
 unfolding readCall slicesOk
-returns c = simp (sym (c .before .before .before .before .before .codes-ok .ensures) ∙ c .before .before .before .before .if1 .taken, c .before .before .before .if2 .taken, c .before .before .core-of .ensures, c .before .reading-of .ensures, c .last-of .ensures)
+returns c = simp (sym (c .before .before .before .before .before .codes-ok .ensures) ∙ c .before .before .before .before .if1 .taken, c .before .before .before .if2 .taken, c .before .before .standing-of .ensures, c .before .reading-of .ensures, c .last-of .ensures)
 
 sizes-fit-requires : tie.Need-sizes-fit-requires
 sizes-fit-requires c κs = search needs
@@ -50,7 +50,7 @@ read-call-spec =
     tie.close
     (tie.spec
     codes-ok-requires
-    core-of-requires
+    standing-of-requires
     reading-of-requires
     last-of-requires
     returns
