@@ -30,6 +30,10 @@ readingAnswer xs r lengths =
     (cond (sizesOk (r .«shingle_size») (r .«base_dimension»)) (Refused Length) (Refused Range)))
     (Refused Range)
 
+-- The point has at least as many numbers as the base.
+abbrev pub pointFits : Reading → ℕ → Bool
+pointFits r point = leb (r .«base_dimension») point
+
 -- The candidate branch's two rows have at least as many numbers as the base.
 unfoldable pub rowsFit : Reading → (newest expected : ℕ) → Bool
 rowsFit r newest expected = leb (r .«base_dimension») newest && leb (r .«base_dimension») expected

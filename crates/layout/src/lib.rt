@@ -16,7 +16,6 @@ use types::TransformMethod;
 use util::minf32;
 ghost use mathlib.Core.Path.{_≡_};
 ghost use mathlib.Core.Bool.{true};
-ghost use lib.Dec.{leb};
 ghost use Prim.Native.Nat.{_+_, _*_, _≤_, _<_};
 ghost use lib.ListN.{length, replicate};
 ghost use Rattle.deviation.specs.Statistics.{reset, counted};
@@ -1069,8 +1068,8 @@ pub fn write_adjusted(
     corrected: f32,
     point: &[f32],
 ) -> Answer
-    ensures { λ a. ⌜ a ≡ InPlace.readingAnswer (now (out .entry)) r (leb (r .«base_dimension») (length (now (point .entry)))) ⌝
-        ∗ ⌜ now (out .exit) ≡ InPlace.storedBy (InPlace.readingAnswer (now (out .entry)) r (leb (r .«base_dimension») (length (now (point .entry)))))
+    ensures { λ a. ⌜ a ≡ InPlace.readingAnswer (now (out .entry)) r (InPlace.pointFits r (length (now (point .entry)))) ⌝
+        ∗ ⌜ now (out .exit) ≡ InPlace.storedBy (InPlace.readingAnswer (now (out .entry)) r (InPlace.pointFits r (length (now (point .entry)))))
         (now (out .entry)) (InPlace.adjusted (Chain.decodeState (now (out .entry))) (InPlace.scored (Chain.decodeState (now (out .entry))) r l corrected) (now (point .entry))) ⌝ }
 {
     let strategy = r.scoring_strategy;

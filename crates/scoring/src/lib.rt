@@ -6,14 +6,6 @@ use descriptor::Reading;
 use divector::Block;
 use predictorcorrector::PredictorCorrector;
 ghost use mathlib.Core.Path.{_≡_};
-ghost use mathlib.Core.Bool.{not, _&&_};
-ghost use lib.Dec.{ltb};
-ghost use lib.Ieee as Ieee;
-ghost use lib.ListN.{length};
-ghost use Rattle.basicthresholder.specs.Const.{zero32};
-ghost use Rattle.divector.specs.DiVector as DiVector;
-ghost use Rattle.uncertainty_box.specs.Box as Box;
-ghost use Rattle.corrector.specs.Corrector as Corrector;
 ghost use Rattle.predictorcorrector.specs.State.{runEnded, autoAdjusted};
 ghost use Rattle.scoring.specs.Scores as Scores;
 
@@ -32,7 +24,7 @@ fn gap_of(values_seen: usize, has_anomaly: bool, last_seen: usize) -> usize
 
 // The same of a reading.
 pub fn gap(r: Reading, l: LastDescriptor) -> usize
-    ensures { λ g. ⌜ g ≡ Scores.gapOf (r .«values_seen») (l .«has_anomaly») (l .anomaly .«values_seen») ⌝ }
+    ensures { λ g. ⌜ g ≡ Scores.gap r l ⌝ }
 {
     let anomaly = l.anomaly;
     gap_of(r.values_seen, l.has_anomaly, anomaly.values_seen)
@@ -50,14 +42,14 @@ pub fn is_recent(has_anomaly: bool, gap: usize, shingle_size: usize) -> bool
 
 // The same of a reading.
 fn recent(r: Reading, l: LastDescriptor) -> bool
-    ensures { λ b. ⌜ b ≡ Scores.isRecent (l .«has_anomaly») (Scores.gapOf (r .«values_seen») (l .«has_anomaly») (l .anomaly .«values_seen»)) (r .«shingle_size») ⌝ }
+    ensures { λ b. ⌜ b ≡ Scores.recent r l ⌝ }
 {
     is_recent(l.has_anomaly, gap(r, l), r.shingle_size)
 }
 
 // A score of 0 is skipped.
 pub fn is_skipped(score: f32) -> bool
-    ensures { λ b. ⌜ b ≡ Ieee.eq score zero32 ⌝ }
+    ensures { λ b. ⌜ b ≡ Scores.isSkipped score ⌝ }
 {
     score == 0.0
 }
@@ -138,7 +130,7 @@ pub fn after_branch(s: PredictorCorrector, r: Reading, l: LastDescriptor) -> Pre
 
 // The corrected point's grade is 0, the last anomaly being recent.
 pub fn corrected_quiet(t: BasicThresholder, r: Reading, l: LastDescriptor) -> bool
-    ensures { λ b. ⌜ b ≡ (Scores.isRecent (l .«has_anomaly») (Scores.gapOf (r .«values_seen») (l .«has_anomaly») (l .anomaly .«values_seen»)) (r .«shingle_size») && Ieee.eq (Scores.opening t r (r .«corrected_score») .grade) zero32) ⌝ }
+    ensures { λ b. ⌜ b ≡ Scores.correctedQuiet t r l ⌝ }
 {
     if recent(r, l) {
         let opened = opening(t, r, r.corrected_score);
@@ -158,7 +150,7 @@ fn block_of(block: Block) -> usize
 
 // The block that contributes most; 0 where the search refuses its slices.
 pub fn anomaly_block(r: Reading, l: LastDescriptor, high: &[f64], low: &[f64]) -> usize
-    ensures { λ k. ⌜ k ≡ Scores.blockOf (DiVector.maxGapContribution (now (high .entry)) (now (low .entry)) (r .«base_dimension») (Scores.gapOf (r .«values_seen») (l .«has_anomaly») (l .anomaly .«values_seen»))) ⌝ }
+    ensures { λ k. ⌜ k ≡ Scores.anomalyBlock r l (now (high .entry)) (now (low .entry)) ⌝ }
 {
     block_of(divector::max_gap_contribution(high, low, r.base_dimension, gap(r, l)))
 }
@@ -172,7 +164,7 @@ pub fn auto_explained(
     scale: &[f32],
     neighbours: &[f32],
 ) -> bool
-    ensures { λ r. ⌜ r ≡ («auto_adjust» && Box.explainedByConditionalField (now («uncertainty_box» .entry)) (now (point .entry)) start (now (scale .entry)) (now (neighbours .entry)) (length (now (point .entry)))) ⌝ }
+    ensures { λ r. ⌜ r ≡ Scores.autoExplained «auto_adjust» (now («uncertainty_box» .entry)) (now (point .entry)) start (now (scale .entry)) (now (neighbours .entry)) ⌝ }
 {
     if auto_adjust {
         return uncertainty_box::explained_by_conditional_field(
@@ -197,10 +189,7 @@ pub fn in_shingle(
     ideal_low: &[f64],
     threshold: f32,
 ) -> bool
-    ensures { λ b. ⌜ b ≡ (ltb (Scores.gapOf (r .«values_seen») (l .«has_anomaly») (l .anomaly .«values_seen»)) (r .«shingle_size») && not
-        (Corrector.trigger (now (high .entry)) (now (low .entry)) (Scores.gapOf (r .«values_seen») (l .«has_anomaly») (l .anomaly .«values_seen»))
-        (r .«base_dimension») (now («ideal_high» .entry)) (now («ideal_low» .entry)) (l .«has_anomaly») (l .anomaly .«has_attribution»)
-        (l .anomaly .score) threshold)) ⌝ }
+    ensures { λ b. ⌜ b ≡ Scores.inShingle r l (now (high .entry)) (now (low .entry)) (now («ideal_high» .entry)) (now («ideal_low» .entry)) threshold ⌝ }
 {
     let anomaly = l.anomaly;
     let gap = gap(r, l);
