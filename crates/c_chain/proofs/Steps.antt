@@ -1,11 +1,11 @@
 -- The shapes that the calls share. Assumes nothing.
 use mathlib.Core.Path.{_≡_, refl, sym, ap, ap₂, _∙_}
-use mathlib.Core.Bool.{Bool, true, false, cond, _&&_}
+use mathlib.Core.Bool.{Bool, true, false, cond}
 use mathlib.Core.List.{List}
 use Prim.Native.Nat.{ℕ}
 use native.Mathlib.Omega.{arith}
 use lib.Dec.{eqb, leb}
-use lib.ListN.{length, getD, replicate, length-replicate}
+use lib.ListN.{length, replicate, length-replicate}
 use lib.Ieee.{Float}
 use Rattle.types.specs.Refusals.{number, answered}
 use Rattle.types.specs.declared.Refusal.{Refusal}
@@ -24,7 +24,7 @@ use Rattle.divector.specs.declared.Block.the-variants as Places
 use Rattle.predictorcorrector.specs.declared.PredictorCorrector.{PredictorCorrector}
 use Rattle.predictorcorrector.specs.declared.Updated.{Updated}
 use Rattle.predictorcorrector.specs.State.{withThresholder, setHorizon, standing}
-use Rattle.layout.specs.Places.{stateLength, autoThresholdAt, autoAdjustAt}
+use Rattle.layout.specs.Places.{stateLength}
 use Rattle.layout.specs.Numbers.{writtenOf, f64Bytes, bytes8}
 use Rattle.layout.specs.Chain.{decodeState, encodeStateOver, stateCodesOk, readStanding}
 use Rattle.layout.specs.InPlace.{kept}
@@ -84,7 +84,7 @@ refused-number Whys.Blocks = refl
 
 -- ---- a stored state.
 -- The tests of a slice that was not read, and its refusal's number.
-refusal : (long codes : Bool) (k : Standing) (why : Refusal) → cond long (cond (cond long codes true) (Standings.Read k) (Standings.Refused Range)) (Standings.Refused Length) ≡ Standings.Refused why
+refusal : (long codes : Bool) (k : Standing) (why : Refusal) → cond long (cond codes (Standings.Read k) (Standings.Refused Range)) (Standings.Refused Length) ≡ Standings.Refused why
     → (number why ≡ cond long (cond codes 0 2) 3) × (eqb (number why) 0 ≡ false)
 refusal true true k why e = let z : _≡_ {A = ℕ} 0 1 = cc in absurd (omega arith)
 refusal true false k why e = let w : why ≡ Range = cc in (rw w, rw w)
@@ -96,8 +96,8 @@ module _ (xs : List ℕ) where
     full = standing-read xs k e .0
 
     none : chainRefusal xs ≡ 0
-    unfolding chainRefusal stateCodesOk
-    none = let codes = rw full at (standing-read xs k e .1) in rw (full, codes)
+    unfolding chainRefusal
+    none = rw (full, standing-read xs k e .1)
 
     over : (g : BasicThresholder → BasicThresholder) (t : BasicThresholder) (zs : List ℕ) → t ≡ g (k .«basic_thresholder»)
         → zs ≡ writtenOf stateLength xs (encodeStateOver xs (kept (decodeState xs) t (k .«run_length»)))
@@ -133,9 +133,9 @@ module _ (xs : List ℕ) where
 
   module _ (why : Refusal) (e : readStanding xs ≡ Standings.Refused why) (n : ℕ) (p : n ≡ number why) where
     kept-by : (n ≡ chainRefusal xs) × (eqb n 0 ≡ false)
-    unfolding chainRefusal readStanding stateCodesOk
+    unfolding chainRefusal readStanding
     kept-by =
-        let r = refusal (eqb (length xs) stateLength) (leb (getD xs autoThresholdAt 0) 1 && leb (getD xs autoAdjustAt 0) 1) (standing (decodeState xs)) why e in
+        let r = refusal (eqb (length xs) stateLength) (stateCodesOk xs) (standing (decodeState xs)) why e in
         (p ∙ r .0, ap (λ (m : ℕ). eqb m 0) p ∙ r .1)
 
     pub chain-kept : (f : PredictorCorrector → PredictorCorrector) → left n xs ≡ chainSet f xs

@@ -1,24 +1,24 @@
 -- Construction and setters of the chain's stored state over C. Of several refusals the smallest is answered; nothing inside a slice
 -- of another length is looked at.
 use Prim.Native.Nat.{ℕ}
-use mathlib.Core.Bool.{cond, _&&_}
+use mathlib.Core.Bool.{cond}
 use mathlib.Core.List.{List}
 use lib.Dec.{eqb, leb}
-use lib.ListN.{length, getD, replicate}
+use lib.ListN.{length, replicate}
 use lib.Ieee.{Float}
 use Rattle.types.specs.Refusals.{number, answered}
 use Rattle.types.specs.declared.Refusal.the-variants.{Range, Length}
 use Rattle.predictorcorrector.specs.declared.PredictorCorrector.{PredictorCorrector}
 use Rattle.predictorcorrector.specs.declared.Updated.{Updated}
 use Rattle.predictorcorrector.specs.State.{setHorizon}
-use Rattle.layout.specs.Places.{stateLength, autoThresholdAt, autoAdjustAt}
-use Rattle.layout.specs.Chain.{decodeState, encodeStateOver}
+use Rattle.layout.specs.Places.{stateLength}
+use Rattle.layout.specs.Chain.{decodeState, encodeStateOver, stateCodesOk}
 use Rattle.layout.specs.Left.{Left, left}
 
 -- 3 for a slice of another length, otherwise 2 for a yes/no byte above 1, otherwise 0.
 unfoldable pub chainRefusal : List ℕ → ℕ
 chainRefusal xs =
-    cond (eqb (length xs) stateLength) (cond (leb (getD xs autoThresholdAt 0) 1 && leb (getD xs autoAdjustAt 0) 1) 0 (number Range)) (number Length)
+    cond (eqb (length xs) stateLength) (cond (stateCodesOk xs) 0 (number Range)) (number Length)
 
 -- Set in place by f. The bytes of entries that do not exist stay.
 unfoldable pub chainSet : (PredictorCorrector → PredictorCorrector) → List ℕ → Left

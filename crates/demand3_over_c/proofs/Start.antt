@@ -30,7 +30,7 @@ use Rattle.predictorcorrector.specs.declared.Updated.{Updated}
 use Rattle.layout.specs.Places.{autoThresholdAt, stateLength, autoAdjustAt}
 use Rattle.layout.specs.Numbers.{flagByte, f32Bytes, f64Bytes, i32Bytes, flagBytes, bytes4, bytes8}
 use Rattle.layout.specs.States.{joined, encodeDeviation, encodeThresholder}
-use Rattle.layout.specs.Chain.{entries, decodeState, encodeHead, encodeStateOver}
+use Rattle.layout.specs.Chain.{entries, decodeState, encodeHead, encodeStateOver, stateCodesOk}
 use Rattle.layout.specs.Left.{Left, left}
 use Rattle.layout.specs.Fits.{DeviationFits, ThresholderFits}
 use Rattle.c_chain.specs.States.{chainRefusal, chainSet, horizonSetIn, chainMade}
@@ -171,7 +171,7 @@ new-holds d auto base adjust out xs h e =
 
 -- ---- the setters
 no-refusal : (s : PredictorCorrector) (xs : List ℕ) → Holds s xs → chainRefusal xs ≡ 0
-unfolding chainRefusal
+unfolding chainRefusal stateCodesOk
 no-refusal s xs k = rw (eq-eqb (length xs) stateLength (k .size), le-leb (getD xs autoThresholdAt 0) 1 (k .first-flag), le-leb (getD xs autoAdjustAt 0) 1 (k .second-flag))
 
 module _ (s : PredictorCorrector) (xs : List ℕ) (k : Holds s xs) where

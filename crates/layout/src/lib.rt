@@ -1,4 +1,4 @@
-// The stored state's bytes, document 02's order: the Rust's fields one after the other, little-endian, without gaps. Reading and writing are
+// The stored state's bytes, in document 02's order, and those of a reading, the last descriptor and a verdict: little-endian, without gaps. Reading and writing are
 // straight code, so that the bytes of a number become one load or one store.
 use basicthresholder::BasicThresholder;
 use basicthresholder::Graded;
