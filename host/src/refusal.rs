@@ -31,12 +31,16 @@ pub enum Refusal {
     Horizon,
     /// 8: an attribution cannot be cut into blocks. No call of this crate gives it.
     Blocks,
+    /// 9: a row of a cabinet's export without three fields, a broken quote, a wrong or missing header. No call of this crate gives it.
+    Row,
+    /// 10: a field of such a row that is no number as its column wants one. No call of this crate gives it.
+    Field,
     /// A number that has no name here.
     Other(u8),
 }
 
 /// Each named refusal with its number.
-const NUMBERED: [(u8, Refusal); 8] = [
+const NUMBERED: [(u8, Refusal); 10] = [
     (1, Refusal::Discount),
     (2, Refusal::Range),
     (3, Refusal::Length),
@@ -45,6 +49,8 @@ const NUMBERED: [(u8, Refusal); 8] = [
     (6, Refusal::Count),
     (7, Refusal::Horizon),
     (8, Refusal::Blocks),
+    (9, Refusal::Row),
+    (10, Refusal::Field),
 ];
 
 impl Refusal {
@@ -82,6 +88,8 @@ impl Refusal {
             Refusal::Count => "a count of the watch is out of its range",
             Refusal::Horizon => "the horizon is not 0 to 1",
             Refusal::Blocks => "the attribution cannot be cut into blocks",
+            Refusal::Row => "a row is not three fields, a quote is broken, or the header is wrong",
+            Refusal::Field => "a field is no number as its column wants one",
             Refusal::Other(_) => "a reason that has no name here",
         }
     }

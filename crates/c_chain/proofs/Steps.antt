@@ -81,6 +81,8 @@ refused-number Whys.ValuesSeen = refl
 refused-number Whys.Count = refl
 refused-number Whys.Horizon = refl
 refused-number Whys.Blocks = refl
+refused-number Whys.Row = refl
+refused-number Whys.Field = refl
 
 -- ---- a stored state.
 -- The tests of a slice that was not read, and its refusal's number.

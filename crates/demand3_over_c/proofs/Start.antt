@@ -137,6 +137,8 @@ number-above (Answers.Refused Refusals.ValuesSeen) e = absurd (omega arith)
 number-above (Answers.Refused Refusals.Count) e = absurd (omega arith)
 number-above (Answers.Refused Refusals.Horizon) e = absurd (omega arith)
 number-above (Answers.Refused Refusals.Blocks) e = absurd (omega arith)
+number-above (Answers.Refused Refusals.Row) e = absurd (omega arith)
+number-above (Answers.Refused Refusals.Field) e = absurd (omega arith)
 
 -- `krcf_new` answered 0.
 pub record MadeOver (made : Updated) (out xs : List ℕ) : Type 0 where

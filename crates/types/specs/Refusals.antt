@@ -1,7 +1,7 @@
--- Document 01's refusals by number.
+-- The refusals by number: document 01's 1 to 8, document 02's from 9 on.
 use Prim.Native.Nat.{ℕ}
 use Rattle.types.specs.declared.Refusal.{Refusal}
-use Rattle.types.specs.declared.Refusal.the-variants.{Discount, Range, Length, NotFinite, ValuesSeen, Count, Horizon, Blocks}
+use Rattle.types.specs.declared.Refusal.the-variants.{Discount, Range, Length, NotFinite, ValuesSeen, Count, Horizon, Blocks, Row, Field}
 use Rattle.types.specs.declared.Answer.{Answer}
 use Rattle.types.specs.declared.Answer.the-variants.{Done, Refused}
 
@@ -14,6 +14,8 @@ number ValuesSeen = 5
 number Count = 6
 number Horizon = 7
 number Blocks = 8
+number Row = 9
+number Field = 10
 
 -- 0 for a call that was carried out, else its refusal's number.
 abbrev pub answered : Answer → ℕ

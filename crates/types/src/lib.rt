@@ -1,4 +1,4 @@
-// The chain's small enums, in the order of trcf/types.rs, and document 01's eight refusals.
+// The chain's small enums, in the order of trcf/types.rs, and the refusals: document 01's eight, then document 02's.
 ghost use mathlib.Core.Path.{_≡_};
 ghost use Rattle.types.specs.Refusals as Refusals;
 ghost use Rattle.types.specs.Codes as Codes;
@@ -30,7 +30,7 @@ pub enum CorrectionMode {
     DATA_DRIFT,
 }
 
-// Why a call was refused. `number` gives document 01's number.
+// Why a call was refused. `number` gives the documents' number.
 pub enum Refusal {
     Discount,
     Range,
@@ -40,6 +40,8 @@ pub enum Refusal {
     Count,
     Horizon,
     Blocks,
+    Row,
+    Field,
 }
 
 // How a call on a state ended.
@@ -77,6 +79,8 @@ impl Refusal {
             Refusal::Count => 6,
             Refusal::Horizon => 7,
             Refusal::Blocks => 8,
+            Refusal::Row => 9,
+            Refusal::Field => 10,
         }
     }
 }
