@@ -10,15 +10,14 @@ use lib.Dec.{eqb}
 use lib.ListN.{length, take, drop, getD, length-append, take-append-drop}
 use lib.Seq.{take-suc, take-all}
 use borrow.Author.Tests.{eq-eqb, ne-eqb}
-use Rattle.basicthresholder.specs.declared.Graded.{Graded}
 use Rattle.score_lines.specs.declared.Line.{Line}
 use Rattle.score_lines.specs.declared.Line.the-variants.{Score, Fault}
 use Rattle.score_lines.specs.declared.Run.{Run}
 use Rattle.score_lines.specs.declared.Fed.{Fed}
-use Rattle.score_lines.specs.Output.{row, badLine, counts}
+use Rattle.score_rows.specs.Text.{badLine, counts, longest}
 use Rattle.score_lines.specs.Feeding.{runOf, lineNumber, pushed, lineOf, ended, lineEnded, lineSaid, saidBy, taken, takenSaid, step, said, fed, printed, totalSaid, Prints}
-use Rattle.score_lines.specs.Steps.{Put}
-use Rattle.score_lines.proofs.Bytes.{put-then, decimal-length, bits-length, cond-length}
+use Rattle.score_rows.specs.Steps.{Put}
+use Rattle.score_rows.proofs.Bytes.{put-then, row-length, bad-line-length, counts-length, cond-length}
 
 pub fed-append : (run : Run) (xs ys : List ℕ) → fed run (xs ++ ys) ≡ fed (fed run xs) ys
 unfolding fed
@@ -53,38 +52,25 @@ over-printed run (x ∷ xs) over =
     ap₂ (λ (a : List ℕ) (r : Run). a ++ printed r xs) (over-said run over x) (over-step run over x) ∙ over-printed run xs over
 
 -- What a line, a byte and the end of the input print is short.
-row-length : (n : ℕ) (g : Graded) → length (row n g) ≤ 32
-unfolding row
-row-length n g =
-    simp (length-append, bits-length) (omega (arith, decimal-length n))
-
-bad-length : (n : ℕ) → length (badLine n) ≤ 32
-unfolding badLine
-bad-length n = simp length-append (omega (arith, decimal-length n))
-
-said-by-length : (run : Run) (l : Line) → length (saidBy run l) ≤ 32
+said-by-length : (run : Run) (l : Line) → length (saidBy run l) ≤ longest
 unfolding saidBy
-said-by-length run Fault = bad-length (lineNumber run)
+said-by-length run Fault = bad-line-length (lineNumber run)
 said-by-length run (Score x) = row-length (lineNumber run) _
 
-pub line-said-length : (run : Run) → length (lineSaid run) ≤ 32
+pub line-said-length : (run : Run) → length (lineSaid run) ≤ longest
 unfolding lineSaid
 line-said-length run = said-by-length run (lineOf (run .quiet + run .raised) (run .part))
 
-pub said-length : (run : Run) (b : ℕ) → length (said run b) ≤ 32
+pub said-length : (run : Run) (b : ℕ) → length (said run b) ≤ longest
 unfolding said takenSaid
 said-length run b =
-    cond-length (run .over) 32 [] _ (omega arith)
-    (cond-length (eqb b 10) 32 (lineSaid run) _ (line-said-length run)
-    (cond-length (eqb (pushed (run .part) b) 0) 32 (badLine (lineNumber run)) [] (bad-length (lineNumber run)) (omega arith)))
+    cond-length (run .over) longest [] _ (omega arith)
+    (cond-length (eqb b 10) longest (lineSaid run) _ (line-said-length run)
+    (cond-length (eqb (pushed (run .part) b) 0) longest (badLine (lineNumber run)) [] (bad-line-length (lineNumber run)) (omega arith)))
 
-counts-length : (a b : ℕ) → length (counts a b) ≤ 36
-unfolding counts
-counts-length a b = simp length-append (omega (arith, decimal-length a, decimal-length b))
-
-pub total-length : (run : Run) → length (totalSaid run) ≤ 36
+pub total-length : (run : Run) → length (totalSaid run) ≤ longest
 unfolding totalSaid
-total-length run = cond-length (run .over) 36 [] (counts (run .quiet) (run .raised)) (omega arith) (counts-length (run .quiet) (run .raised))
+total-length run = cond-length (run .over) longest [] (counts (run .quiet) (run .raised)) (omega arith) (counts-length (run .quiet) (run .raised))
 
 -- A byte: a line end, a byte that makes the line malformed, a digit.
 module _ (run : Run) (b : ℕ) (going : run .over ≡ false) where
@@ -128,10 +114,10 @@ module _ (run : Run) (xs : List ℕ) (i : ℕ) {state : Run} (e : state ≡ fed 
       ap (printed run) (one-more h) ∙ printed-append run (take i xs) (getD xs i 0 ∷ [])
       ∙ ap (λ (l : List ℕ). printed run (take i xs) ++ l) (append-nil (said (fed run (take i xs)) (getD xs i 0)) ∙ ap (λ (r : Run). said r (getD xs i 0)) (sym e))
 
-  pub next-put : {first out out′ ys : List ℕ} {to to′ : ℕ} → i < length xs → to ≤ 32 * i → 32 * length xs ≤ length first → Put first 0 (printed run (take i xs)) to out
-      → said state (getD xs i 0) ≡ ys → Put out to ys to′ out′ → (to′ ≤ 32 * (i + 1)) × Put first 0 (printed run (take (i + 1) xs)) to′ out′
+  pub next-put : {first out out′ ys : List ℕ} {to to′ : ℕ} → i < length xs → to ≤ 56 * i → 56 * length xs ≤ length first → Put first 0 (printed run (take i xs)) to out
+      → said state (getD xs i 0) ≡ ys → Put out to ys to′ out′ → (to′ ≤ 56 * (i + 1)) × Put first 0 (printed run (take (i + 1) xs)) to′ out′
   next-put {first} {out} {out′} {ys} {to} {to′} h t room p s q =
-      let short : length ys ≤ 32 = rw s at (said-length state (getD xs i 0)) in
+      let short : length ys ≤ longest = rw s at (said-length state (getD xs i 0)) in
       (omega (arith, q .place), rw (next-printed h ∙ ap (λ (l : List ℕ). printed run (take i xs) ++ l) s) (put-then p q (omega (arith, p .place))))
 
   -- A run that is over by then has printed all that it prints.

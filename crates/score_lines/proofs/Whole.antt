@@ -10,7 +10,9 @@ use Rattle.basicthresholder.specs.declared.BasicThresholder.{BasicThresholder}
 use Rattle.score_lines.specs.declared.Line.{Line}
 use Rattle.score_lines.specs.declared.Line.the-variants.{Score, Fault}
 use Rattle.score_lines.specs.declared.Run.{Run}
-use Rattle.score_lines.specs.Output.{allDigits, number, linesFrom, shown, counted, isQuiet, row, badLine, byLine, rows, header, settings, output}
+use Rattle.score_rows.specs.Watching.{settings, shown, counted, isQuiet}
+use Rattle.score_rows.specs.Text.{header, row, badLine}
+use Rattle.score_lines.specs.Output.{allDigits, number, linesFrom, byLine, rows, output}
 use Rattle.score_lines.specs.Feeding.{runOf, begin, pushed, lineOf, judged, ended, endedBy, saidBy, lineEnded, lineSaid, step, said, fed, printed, totalSaid, closing, joined, inParts, Whole}
 use Rattle.score_lines.proofs.Parts.{fed-append, printed-append, over-fed, over-printed, line-step, line-said, bad-step, bad-said, digit-step, digit-said}
 use Rattle.score_lines.proofs.Digits.{Good, Faulty, Pushed, more, spoilt, push-one, faulty-snoc, read, read-faulty, part-begun, part-positive}

@@ -12,7 +12,9 @@ use Rattle.score_lines.specs.declared.Line.{Line}
 use Rattle.score_lines.specs.declared.Line.the-variants.{Score, Fault}
 use Rattle.score_lines.specs.declared.Run.{Run}
 use Rattle.score_lines.specs.declared.Fed.{Fed}
-use Rattle.score_lines.specs.Output.{digitOf, finiteOnly, shown, counted, isQuiet, row, badLine, counts, settings, header, output}
+use Rattle.score_rows.specs.Watching.{settings, shown, counted, isQuiet}
+use Rattle.score_rows.specs.Text.{header, row, badLine, counts}
+use Rattle.score_lines.specs.Output.{digitOf, finiteOnly, output}
 
 abbrev pub runOf : BasicThresholder → ℕ → ℕ → ℕ → Bool → Run
 runOf s quiet raised part over = record { thresholder = s; quiet = quiet; raised = raised; part = part; over = over }

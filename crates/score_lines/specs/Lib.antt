@@ -1,3 +1,2 @@
 pub mod Output
 pub mod Feeding
-pub mod Steps

@@ -1,25 +1,19 @@
 // The score watch on bytes: lines of eight hexadecimal digits in, rows of thresholds and grades out. A run is fed its input in parts, cut anywhere, and
 // hands back what it prints; a program above has only to read and to write.
 use basicthresholder::BasicThresholder;
-use basicthresholder::Graded;
+use score_rows::PART;
+use score_rows::ROOM;
 ghost use mathlib.Core.Path.{_≡_};
 ghost use mathlib.Core.List.{List, [], _∷_};
 ghost use Prim.Native.Nat.{ℕ, _+_, _*_, _≤_, _<_};
 ghost use lib.ListN.{length, take};
 ghost use Rattle.score_lines.specs.Output as Output;
 ghost use Rattle.score_lines.specs.Feeding as Feeding;
-ghost use Rattle.score_lines.specs.Steps as Steps;
-
-// A part of the input, and room for what it prints: 32 bytes for each byte of it, since a byte can end a line.
-pub const PART: usize = 4096;
-
-pub const ROOM: usize = 131072;
+ghost use Rattle.score_rows.specs.Steps as Steps;
 
 const LINE_END: u8 = b'\n';
 
 const MOST_LINES: u64 = 65536;
-
-const Z_FACTOR: f32 = 3.0;
 
 // What a line holds.
 pub enum Line {
@@ -107,30 +101,6 @@ fn finite_only(score: f32) -> Line
     Line::Fault
 }
 
-// What a row shows: threshold and opening grade before the score is counted.
-fn shown(thresholder: BasicThresholder, score: f32) -> Graded
-    ensures { λ r. ⌜ r ≡ Output.shown thresholder score ⌝ }
-{
-    if score == 0.0 {
-        return Graded {
-            threshold: 0.0,
-            grade: 0.0,
-        };
-    }
-    thresholder.primary_threshold_and_grade(score)
-}
-
-// The statistics with the score; a zero score is not counted.
-fn counted(thresholder: BasicThresholder, x: f32) -> BasicThresholder
-    ensures { λ r. ⌜ r ≡ Output.counted thresholder x ⌝ }
-{
-    if x == 0.0 {
-        return thresholder;
-    }
-    let after = thresholder.update_primary(ieee::widen(x));
-    after.thresholder
-}
-
 // The run after a sound line of that grade.
 fn judged(run: Run, thresholder: BasicThresholder, grade: f32) -> Run
     requires { ⌜ run .quiet + run .raised < 65536 ⌝ }
@@ -163,98 +133,25 @@ fn ended(run: Run) -> Run
     out
 }
 
-// Each `put` writes bytes over `out` from the place `at`, and answers the place behind them.
-fn put(out: &mut [u8], at: usize, b: u8) -> usize
-    requires { ⌜ at < length (now out) ⌝ }
-    ensures { λ r. ⌜ Steps.Put (now (out .entry)) at (b ∷ []) r (now (out .exit)) ⌝ }
-{
-    out[at] = b;
-    at + 1
-}
-
-fn put_all(out: &mut [u8], at: usize, bytes: &[u8]) -> usize
-    requires { ⌜ at + length (now bytes) ≤ length (now out) ⌝ }
-    ensures { λ r. ⌜ Steps.Put (now (out .entry)) at (now (bytes .entry)) r (now (out .exit)) ⌝ }
-{
-    let mut i = 0usize;
-    let mut to = at;
-    while i < bytes.len() {
-        out[to] = bytes[i];
-        to += 1;
-        i += 1;
-    }
-    to
-}
-
-fn put_decimal(out: &mut [u8], at: usize, n: u64) -> usize
-    requires { ⌜ n < 10000000000 ⌝ ∗ ⌜ at + 10 ≤ length (now out) ⌝ }
-    ensures { λ r. ⌜ Steps.Put (now (out .entry)) at (Output.decimal n) r (now (out .exit)) ⌝ }
-{
-    let mut text = [0u8; 20];
-    let k = io::decimal(n, &mut text);
-    put_all(out, at, &text[..k])
-}
-
-fn put_bits(out: &mut [u8], at: usize, x: f32) -> usize
-    requires { ⌜ at + 8 ≤ length (now out) ⌝ }
-    ensures { λ r. ⌜ Steps.Put (now (out .entry)) at (Output.bits x) r (now (out .exit)) ⌝ }
-{
-    let mut text = [0u8; 16];
-    let k = io::hex(ieee::f32_to_bits(x) as u64, 8, &mut text);
-    put_all(out, at, &text[..k])
-}
-
-fn put_row(out: &mut [u8], at: usize, number: u64, shown: Graded) -> usize
-    requires { ⌜ number < 10000000000 ⌝ ∗ ⌜ at + 32 ≤ length (now out) ⌝ }
-    ensures { λ r. ⌜ Steps.Put (now (out .entry)) at (Output.row number shown) r (now (out .exit)) ⌝ }
-{
-    let a = put_decimal(out, at, number);
-    let b = put(out, a, b' ');
-    let c = put_bits(out, b, shown.threshold);
-    let d = put(out, c, b' ');
-    let e = put_bits(out, d, shown.grade);
-    put(out, e, LINE_END)
-}
-
-fn put_bad(out: &mut [u8], at: usize, number: u64) -> usize
-    requires { ⌜ number < 10000000000 ⌝ ∗ ⌜ at + 32 ≤ length (now out) ⌝ }
-    ensures { λ r. ⌜ Steps.Put (now (out .entry)) at (Output.badLine number) r (now (out .exit)) ⌝ }
-{
-    let a = put_all(out, at, b"bad line ");
-    let b = put_decimal(out, a, number);
-    put(out, b, LINE_END)
-}
-
-fn put_counts(out: &mut [u8], at: usize, quiet: u64, raised: u64) -> usize
-    requires { ⌜ quiet < 10000000000 ⌝ ∗ ⌜ raised < 10000000000 ⌝ ∗ ⌜ at + 36 ≤ length (now out) ⌝ }
-    ensures { λ r. ⌜ Steps.Put (now (out .entry)) at (Output.counts quiet raised) r (now (out .exit)) ⌝ }
-{
-    let a = put_all(out, at, b"quiet ");
-    let b = put_decimal(out, a, quiet);
-    let c = put_all(out, b, b" raised ");
-    let d = put_decimal(out, c, raised);
-    put(out, d, LINE_END)
-}
-
 // The end of the line under way: its row, or that it is bad.
 fn end_line(run: Run, out: &mut [u8], at: usize) -> Fed
-    requires { ⌜ at + 32 ≤ length (now out) ⌝ }
+    requires { ⌜ at + 56 ≤ length (now out) ⌝ }
     ensures { λ r. ⌜ r .run ≡ Feeding.lineEnded run ⌝ ∗ ⌜ Steps.Put (now (out .entry)) at (Feeding.lineSaid run) (r .written) (now (out .exit)) ⌝ }
 {
     let lines = run.quiet as u64 + run.raised as u64;
     let line = line_of(lines, run.part);
     match line {
         Line::Score(score) => {
-            let next = counted(run.thresholder, score);
-            let seen = shown(run.thresholder, score);
-            let end = put_row(out, at, lines + 1, seen);
+            let next = score_rows::counted(run.thresholder, score);
+            let seen = score_rows::shown(run.thresholder, score);
+            let end = score_rows::write_row(out, at, lines + 1, seen);
             Fed {
                 run: judged(run, next, seen.grade),
                 written: end,
             }
         }
         Line::Fault => {
-            let end = put_bad(out, at, lines + 1);
+            let end = score_rows::write_bad_line(out, at, lines + 1);
             Fed {
                 run: ended(run),
                 written: end,
@@ -265,13 +162,13 @@ fn end_line(run: Run, out: &mut [u8], at: usize) -> Fed
 
 // The counts, unless the run is over.
 fn total(run: Run, out: &mut [u8], at: usize) -> Fed
-    requires { ⌜ at + 36 ≤ length (now out) ⌝ }
+    requires { ⌜ at + 56 ≤ length (now out) ⌝ }
     ensures { λ r. ⌜ r .run ≡ Feeding.totalRun run ⌝ ∗ ⌜ Steps.Put (now (out .entry)) at (Feeding.totalSaid run) (r .written) (now (out .exit)) ⌝ }
 {
     if run.over {
         return Fed { run, written: at };
     }
-    let end = put_counts(out, at, run.quiet as u64, run.raised as u64);
+    let end = score_rows::write_counts(out, at, run.quiet as u64, run.raised as u64);
     Fed {
         run: ended(run),
         written: end,
@@ -280,7 +177,7 @@ fn total(run: Run, out: &mut [u8], at: usize) -> Fed
 
 // The bytes of a part of the input, one by one.
 fn read(run: Run, input: &[u8], out: &mut [u8]) -> Fed
-    requires { ⌜ 32 * length (now input) ≤ length (now out) ⌝ }
+    requires { ⌜ 56 * length (now input) ≤ length (now out) ⌝ }
     ensures { λ r. ⌜ r .run ≡ Feeding.fed run (now (input .entry)) ⌝ ∗ ⌜ Steps.Put (now (out .entry)) 0 (Feeding.printed run (now (input .entry))) (r .written) (now (out .exit)) ⌝ }
 {
     let mut state = run;
@@ -303,7 +200,11 @@ fn read(run: Run, input: &[u8], out: &mut [u8]) -> Fed
         }
         let part = pushed(state.part, b);
         if part == 0 {
-            let end = put_bad(out, to, state.quiet as u64 + state.raised as u64 + 1);
+            let end = score_rows::write_bad_line(
+                out,
+                to,
+                state.quiet as u64 + state.raised as u64 + 1,
+            );
             return Fed {
                 run: ended(state),
                 written: end,
@@ -320,7 +221,7 @@ fn read(run: Run, input: &[u8], out: &mut [u8]) -> Fed
 
 // The end of the input: a last line without a line end is judged, then the counts.
 fn close(run: Run, out: &mut [u8]) -> Fed
-    requires { ⌜ 68 ≤ length (now out) ⌝ }
+    requires { ⌜ 112 ≤ length (now out) ⌝ }
     ensures { λ r. ⌜ r .run ≡ Feeding.closed run ⌝ ∗ ⌜ Steps.Put (now (out .entry)) 0 (Feeding.closing run) (r .written) (now (out .exit)) ⌝ }
 {
     if run.over {
@@ -337,21 +238,13 @@ fn close(run: Run, out: &mut [u8]) -> Fed
 pub fn begin() -> Run
     ensures { λ r. ⌜ r ≡ Feeding.begin ⌝ }
 {
-    let thresholder = BasicThresholder::default().set_z_factor(Z_FACTOR);
     Run {
-        thresholder,
+        thresholder: score_rows::settings(),
         quiet: 0,
         raised: 0,
         part: 1,
         over: false,
     }
-}
-
-// "line threshold grade" and a line end: what a run prints first.
-pub fn header() -> [u8; 21]
-    ensures { λ r. ⌜ r ≡ Output.header ⌝ }
-{
-    *b"line threshold grade\n"
 }
 
 // Reads the first n bytes of a part of the input, or all where n is more.

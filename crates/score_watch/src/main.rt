@@ -3,8 +3,8 @@
 use libc::STDERR_FILENO;
 use libc::STDIN_FILENO;
 use libc::STDOUT_FILENO;
-use score_lines::ROOM;
 use score_lines::Run;
+use score_rows::ROOM;
 
 // What a read came to: the run goes on, its input has ended or it is over, or a read or a write failed.
 enum Turn {
@@ -22,8 +22,8 @@ fn print(text: &[u8]) -> bool {
     false
 }
 
-// Reads once, and prints what that gives.
-fn read_some(run: Run) -> Turn {
+// Reads once, and prints what that gives. `out` is room for it.
+fn read_some(run: Run, out: &mut [u8; ROOM]) -> Turn {
     let mut input = io::buffer();
     let got = libc::read(STDIN_FILENO, &mut input);
     if got < 0 {
@@ -34,11 +34,11 @@ fn read_some(run: Run) -> Turn {
         return Turn::End(run);
     }
     let n = io::count(got, &input);
-    let mut out = [0u8; ROOM];
-    let fed = score_lines::feed(run, &input, n, &mut out);
+    let fed = score_lines::feed(run, &input, n, out);
     let written = fed.written;
     let next = fed.run;
-    if !print(&out[..written]) {
+    let text: &[u8] = out;
+    if !print(&text[..written]) {
         return Turn::Failed;
     }
     if next.over {
@@ -47,26 +47,27 @@ fn read_some(run: Run) -> Turn {
     Turn::More(next)
 }
 
-fn finish(run: Run) {
-    let mut out = [0u8; ROOM];
-    let fed = score_lines::finish(run, &mut out);
+fn finish(run: Run, out: &mut [u8; ROOM]) {
+    let fed = score_lines::finish(run, out);
     let written = fed.written;
-    print(&out[..written]);
+    let text: &[u8] = out;
+    print(&text[..written]);
 }
 
 // A failed read or write ends the run without counts. A proved loop has to end, and nothing says that the input does: so it counts its turns down,
 // from a number that no run uses up.
 fn watch() {
+    let mut out = [0u8; ROOM];
     let mut run = score_lines::begin();
     let mut turns = u64::MAX;
     while turns > 0 {
-        let turn = read_some(run);
+        let turn = read_some(run, &mut out);
         match turn {
             Turn::More(next) => {
                 run = next;
             }
             Turn::End(last) => {
-                finish(last);
+                finish(last, &mut out);
                 return;
             }
             Turn::Failed => {
@@ -78,7 +79,7 @@ fn watch() {
 }
 
 fn main() {
-    if print(&score_lines::header()) {
+    if print(&score_rows::header()) {
         watch();
     }
 }

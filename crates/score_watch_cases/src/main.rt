@@ -2,9 +2,9 @@
 // output. Every case is run once for each place at which its input can be cut in two. Then the run's limit of 65,536 lines is tried.
 use libc::STDIN_FILENO;
 use libc::STDOUT_FILENO;
-use score_lines::PART;
-use score_lines::ROOM;
 use score_lines::Run;
+use score_rows::PART;
+use score_rows::ROOM;
 
 // A run, and how far it has printed what is expected.
 struct Going {
@@ -50,12 +50,7 @@ fn begun(expected: &[u8]) -> Going {
         at: 0,
         ok: true,
     };
-    held(
-        score_lines::begin(),
-        start,
-        expected,
-        &score_lines::header(),
-    )
+    held(score_lines::begin(), start, expected, &score_rows::header())
 }
 
 // Feeds a text that is no longer than a part of the input.

@@ -4,7 +4,7 @@ use native.Mathlib.Omega.{arith}
 use denote.Ref.{now}
 use borrow.Author.Tests.{eq-eqb, ne-eqb}
 use Rattle.score_lines.proofs.Parts.{line-said-length, total-length}
-use Rattle.score_lines.proofs.Bytes.{put-none, put-then}
+use Rattle.score_rows.proofs.Bytes.{put-none, put-then}
 use Rattle.score_lines.specs.Feeding.{closed, closing}
 use borrow.Author.Needs.{needs}
 use Rattle.score_lines.proofs.close.Statement.{statement}

@@ -1,4 +1,5 @@
 use mathlib.Core.Path.{_∙_, sym}
+use Rattle.score_rows.proofs.Bytes.{with-room}
 use borrow.Author.Needs.{needs}
 use Rattle.score_lines.proofs.Reading.{few}
 use Rattle.score_lines.specs.Feeding.{lineEnded, lineSaid, endedBy, saidBy}
@@ -26,11 +27,11 @@ counted-requires c κs = search needs
 shown-requires : tie.Need-shown-requires
 shown-requires c κs = search needs
 
-add-put-row : tie.Need-add-put-row
-add-put-row c = search needs
+add-write-row : tie.Need-add-write-row
+add-write-row c = search needs
 
-put-row-requires : tie.Need-put-row-requires
-put-row-requires c κs = search needs
+write-row-requires : tie.Need-write-row-requires
+write-row-requires c κs = search needs
 
 judged-requires : tie.Need-judged-requires
 judged-requires c κs = few _ (c .before .before .before .before .before .before .before .before .before .before .before .before .before .args .run .part) _ (sym (c .before .before .before .before .before .before .before .before .before .line-of .ensures) ∙ c .before .before .before .before .before .before .before .line .given .1)
@@ -38,11 +39,11 @@ judged-requires c κs = few _ (c .before .before .before .before .before .before
 enum-told : tie.Need-enum-told
 enum-told c = search needs
 
-add-put-bad : tie.Need-add-put-bad
-add-put-bad c = search needs
+add-write-bad-line : tie.Need-add-write-bad-line
+add-write-bad-line c = search needs
 
-put-bad-requires : tie.Need-put-bad-requires
-put-bad-requires c κs = search needs
+write-bad-line-requires : tie.Need-write-bad-line-requires
+write-bad-line-requires c κs = search needs
 
 ended-requires : tie.Need-ended-requires
 ended-requires c κs = search needs
@@ -54,7 +55,7 @@ returns : tie.Need-returns
 unfolding lineEnded lineSaid endedBy saidBy
 returns c =
     let q = sym (c .before .before .before .before .before .before .before .before .before .before .line-of .ensures) ∙ c .before .before .before .before .before .before .before .before .line .given .1 in
-    (rw (q, sym (c .before .before .before .before .before .shown .ensures), sym (c .before .before .before .before .before .before .counted .ensures)) (c .judged .ensures), rw (q, sym (c .before .before .before .before .before .shown .ensures)) (c .before .before .before .put-row .ensures))
+    (rw (q, sym (c .before .before .before .before .before .shown .ensures), sym (c .before .before .before .before .before .before .counted .ensures)) (c .judged .ensures), rw (q, sym (c .before .before .before .before .before .shown .ensures)) (with-room (c .before .before .before .write-row .ensures) (c .before .before .before .before .before .before .before .before .before .before .before .before .before .before .pre)))
 
 same-length-2 : tie.Need-same-length-2
 same-length-2 c = search needs
@@ -63,7 +64,7 @@ returns-2 : tie.Need-returns-2
 unfolding lineEnded lineSaid endedBy saidBy
 returns-2 c =
     let q = sym (c .before .before .before .before .before .before .before .line-of .ensures) ∙ c .before .before .before .before .before .enum-told .given .1 in
-    (rw q (c .ended .ensures), rw q (c .before .before .before .put-bad .ensures))
+    (rw q (c .ended .ensures), rw q (with-room (c .before .before .before .write-bad-line .ensures) (c .before .before .before .before .before .before .before .before .before .before .before .pre)))
 
 pub end-line-spec : {M : Type 1} → statement M
 end-line-spec =
@@ -76,12 +77,12 @@ end-line-spec =
     enum-known-line
     counted-requires
     shown-requires
-    add-put-row
-    put-row-requires
+    add-write-row
+    write-row-requires
     judged-requires
     enum-told
-    add-put-bad
-    put-bad-requires
+    add-write-bad-line
+    write-bad-line-requires
     ended-requires
     same-length
     returns

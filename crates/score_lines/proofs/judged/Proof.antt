@@ -1,5 +1,5 @@
 use borrow.Author.Needs.{needs}
-use Rattle.score_lines.specs.Output.{isQuiet}
+use Rattle.score_rows.specs.Watching.{isQuiet}
 use Rattle.score_lines.specs.Feeding.{judged}
 use Rattle.score_lines.proofs.judged.Statement.{statement}
 use Rattle.score_lines.proofs.judged.Tie as tie

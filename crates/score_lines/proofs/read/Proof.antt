@@ -8,16 +8,16 @@ use lib.Seq.{take-all}
 use lib.ListN.{length, take, getD}
 use denote.Ref.{now}
 use Rattle.score_lines.proofs.Parts.{next-run, next-put, line-step, line-said, bad-step, bad-said, digit-step, digit-said, over-run, over-all}
-use Rattle.score_lines.proofs.Bytes.{put-none}
+use Rattle.score_rows.proofs.Bytes.{with-room, put-none}
 use Rattle.score_lines.specs.declared.Run.{Run}
 use Rattle.score_lines.specs.Feeding.{runOf, pushed, fed, printed, ended}
-use Rattle.score_lines.specs.Steps.{Put}
+use Rattle.score_rows.specs.Steps.{Put}
 use Rattle.score_lines.proofs.read.Statement.{statement}
 use Rattle.score_lines.proofs.read.Tie as tie
 
 abbrev Inv-loop : tie.InvT-loop
 Inv-loop input out₀ state₀ i₀ to₀ out state i to =
-    (i ≤ length input) × (length out ≡ length out₀) × (state ≡ fed state₀ (take i input)) × (to ≤ 32 * i) × Put out₀ 0 (printed state₀ (take i input)) to out
+    (i ≤ length input) × (length out ≡ length out₀) × (state ≡ fed state₀ (take i input)) × (to ≤ 56 * i) × Put out₀ 0 (printed state₀ (take i input)) to out
 
 abbrev μ-loop : tie.MeasureT-loop
 μ-loop input out₀ state₀ i₀ to₀ out state i to = length input - i
@@ -71,26 +71,26 @@ loop-again c =
 pushed-requires : tie.Need-pushed-requires Inv-loop μ-loop
 pushed-requires c κs = search needs
 
-cast-put-bad : tie.Need-cast-put-bad Inv-loop μ-loop
-cast-put-bad c = search needs
+cast-write-bad-line : tie.Need-cast-write-bad-line Inv-loop μ-loop
+cast-write-bad-line c = search needs
 
-cast-put-bad-2 : tie.Need-cast-put-bad-2 Inv-loop μ-loop
-cast-put-bad-2 c = search needs
+cast-write-bad-line-2 : tie.Need-cast-write-bad-line-2 Inv-loop μ-loop
+cast-write-bad-line-2 c = search needs
 
-add-put-bad : tie.Need-add-put-bad Inv-loop μ-loop
-add-put-bad c = search needs
+add-write-bad-line : tie.Need-add-write-bad-line Inv-loop μ-loop
+add-write-bad-line c = search needs
 
-add-put-bad-2 : tie.Need-add-put-bad-2 Inv-loop μ-loop
-add-put-bad-2 c = search needs
+add-write-bad-line-2 : tie.Need-add-write-bad-line-2 Inv-loop μ-loop
+add-write-bad-line-2 c = search needs
 
-put-bad-requires : tie.Need-put-bad-requires Inv-loop μ-loop
-put-bad-requires c κs = search needs
+write-bad-line-requires : tie.Need-write-bad-line-requires Inv-loop μ-loop
+write-bad-line-requires c κs = search needs
 
 ended-requires : tie.Need-ended-requires Inv-loop μ-loop
 ended-requires c κs = search needs
 
 same-length-2 : tie.Need-same-length-2 Inv-loop μ-loop
-same-length-2 c = c .before .before .before .put-bad .kept .0 ∙ c .before .before .before .before .before .before .before .before .before .before .before .before .before .loop .inv .1
+same-length-2 c = c .before .before .before .write-bad-line .kept .0 ∙ c .before .before .before .before .before .before .before .before .before .before .before .before .before .loop .inv .1
 
 returns-2 : tie.Need-returns-2 Inv-loop μ-loop
 unfolding ended
@@ -106,7 +106,7 @@ returns-2 c =
     let inside = c .before .before .before .before .before .before .before .before .before .if2 .left in
     let h : pushed (s .part) b ≡ 0 = sym (c .before .before .before .before .before .before .before .before .pushed .ensures) ∙ c .before .before .before .before .before .before .before .if3 .taken in
     let n = next-run run xs i e t (c .ended .ensures ∙ sym (bad-step s b going inside h)) in
-    let p = next-put run xs i e t (c .before .before .before .before .before .before .before .before .before .before .before .before .before .loop .inv .3) (omega (arith, c .before .before .before .before .before .before .before .before .before .before .before .before .before .before .before .before .pre)) (c .before .before .before .before .before .before .before .before .before .before .before .before .before .loop .inv .4) (bad-said s b going inside h) (c .before .before .before .put-bad .ensures) in
+    let p = next-put run xs i e t (c .before .before .before .before .before .before .before .before .before .before .before .before .before .loop .inv .3) (omega (arith, c .before .before .before .before .before .before .before .before .before .before .before .before .before .before .before .before .pre)) (c .before .before .before .before .before .before .before .before .before .before .before .before .before .loop .inv .4) (bad-said s b going inside h) (with-room (c .before .before .before .write-bad-line .ensures) (omega (arith, c .before .before .before .before .before .before .before .before .before .before .before .before .before .loop .inv .1, c .before .before .before .before .before .before .before .before .before .before .before .before .before .loop .inv .3, c .before .before .before .before .before .before .before .before .before .before .before .before .loop-test .taken, c .before .before .before .before .before .before .before .before .before .before .before .before .before .before .before .before .pre))) in
     let o : c .ended .result .over ≡ true = ap (λ (r : Run). r .over) (c .ended .ensures) in
     rw (over-run run xs (i + 1) n o, over-all run xs (i + 1) n o) (refl, p .1)
 
@@ -159,11 +159,11 @@ read-spec =
     loop-less
     loop-again
     pushed-requires
-    cast-put-bad
-    cast-put-bad-2
-    add-put-bad
-    add-put-bad-2
-    put-bad-requires
+    cast-write-bad-line
+    cast-write-bad-line-2
+    add-write-bad-line
+    add-write-bad-line-2
+    write-bad-line-requires
     ended-requires
     same-length-2
     returns-2

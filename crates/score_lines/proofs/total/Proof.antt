@@ -1,7 +1,7 @@
 use mathlib.Core.List.{[]}
 use mathlib.Core.Path.{refl}
 use denote.Ref.{now}
-use Rattle.score_lines.proofs.Bytes.{put-none}
+use Rattle.score_rows.proofs.Bytes.{put-none, with-room}
 use Rattle.score_lines.specs.Feeding.{totalRun, totalSaid}
 use borrow.Author.Needs.{needs}
 use Rattle.score_lines.proofs.total.Statement.{statement}
@@ -12,14 +12,14 @@ returns : tie.Need-returns
 unfolding totalRun totalSaid
 returns c = simp (c .if1 .taken) (refl, put-none (now (c .before .before .args .out)) (c .before .before .args .at) [])
 
-cast-put-counts : tie.Need-cast-put-counts
-cast-put-counts c = search needs
+cast-write-counts : tie.Need-cast-write-counts
+cast-write-counts c = search needs
 
-cast-put-counts-2 : tie.Need-cast-put-counts-2
-cast-put-counts-2 c = search needs
+cast-write-counts-2 : tie.Need-cast-write-counts-2
+cast-write-counts-2 c = search needs
 
-put-counts-requires : tie.Need-put-counts-requires
-put-counts-requires c κs = search needs
+write-counts-requires : tie.Need-write-counts-requires
+write-counts-requires c κs = search needs
 
 ended-requires : tie.Need-ended-requires
 ended-requires c κs = search needs
@@ -29,16 +29,16 @@ same-length c = search needs
 
 returns-2 : tie.Need-returns-2
 unfolding totalRun totalSaid
-returns-2 c = simp (c .before .before .before .before .before .before .before .if1 .left) (c .ended .ensures, c .before .before .before .put-counts .ensures)
+returns-2 c = simp (c .before .before .before .before .before .before .before .if1 .left) (c .ended .ensures, with-room (c .before .before .before .write-counts .ensures) (c .before .before .before .before .before .before .before .before .before .pre))
 
 pub total-spec : {M : Type 1} → statement M
 total-spec =
     tie.close
     (tie.spec
     returns
-    cast-put-counts
-    cast-put-counts-2
-    put-counts-requires
+    cast-write-counts
+    cast-write-counts-2
+    write-counts-requires
     ended-requires
     same-length
     returns-2)

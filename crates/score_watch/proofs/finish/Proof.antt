@@ -4,16 +4,12 @@ use Rattle.score_lines.proofs.Parts.{within}
 use borrow.Author.Needs.{needs}
 use Rattle.score_watch.proofs.finish.Statement.{statement}
 use Rattle.score_watch.proofs.finish.Tie as tie
-use Rattle.score_watch.proofs.finish.Reads as reads
 
 finish-requires : tie.Need-finish-requires
 finish-requires c κs = search needs
 
-array-share-prefix-out : tie.Need-array-share-prefix-out
-array-share-prefix-out c = within (c .finish .ensures)
-
 slice-aggregate-print : tie.Need-slice-aggregate-print
-slice-aggregate-print c = sym (length-take-le _ _ (within (c .before .finish .ensures)))
+slice-aggregate-print c = sym (length-take-le _ _ (within (c .before .before .before .finish .ensures)))
 
 print-requires : tie.Need-print-requires
 print-requires c κs = search needs
@@ -22,6 +18,4 @@ returns : tie.Need-returns
 returns c = search needs
 
 pub finish-spec : {M : Type 1} → statement M
-finish-spec =
-    tie.close
-    (tie.spec finish-requires array-share-prefix-out slice-aggregate-print print-requires returns)
+finish-spec = tie.close (tie.spec finish-requires slice-aggregate-print print-requires returns)

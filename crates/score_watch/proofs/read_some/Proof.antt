@@ -4,7 +4,6 @@ use Rattle.score_lines.proofs.Parts.{within}
 use borrow.Author.Needs.{needs}
 use Rattle.score_watch.proofs.read_some.Statement.{statement}
 use Rattle.score_watch.proofs.read_some.Tie as tie
-use Rattle.score_watch.proofs.read_some.Reads as reads
 
 buffer-requires : tie.Need-buffer-requires
 buffer-requires c κs = search needs
@@ -36,11 +35,8 @@ count-requires c κs = search needs
 feed-requires : tie.Need-feed-requires
 feed-requires c κs = search needs
 
-array-share-prefix-out : tie.Need-array-share-prefix-out
-array-share-prefix-out c = within (c .before .feed .ensures)
-
 slice-aggregate-print : tie.Need-slice-aggregate-print
-slice-aggregate-print c = sym (length-take-le _ _ (within (c .before .before .feed .ensures)))
+slice-aggregate-print c = sym (length-take-le _ _ (within (c .before .before .before .before .feed .ensures)))
 
 print-requires : tie.Need-print-requires
 print-requires c κs = search needs
@@ -68,7 +64,6 @@ read-some-spec =
     slice-aggregate-count
     count-requires
     feed-requires
-    array-share-prefix-out
     slice-aggregate-print
     print-requires
     returns-3

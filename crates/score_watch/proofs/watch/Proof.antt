@@ -1,13 +1,12 @@
 use borrow.Author.Needs.{needs}
 use Rattle.score_watch.proofs.watch.Statement.{statement}
 use Rattle.score_watch.proofs.watch.Tie as tie
-use Rattle.score_watch.proofs.watch.Reads as reads
 
 abbrev Inv-loop : tie.InvT-loop
-Inv-loop run₀ turns₀ run turns = Unit {0}
+Inv-loop out₀ run₀ turns₀ out run turns = Unit {0}
 
 abbrev μ-loop : tie.MeasureT-loop
-μ-loop run₀ turns₀ run turns = turns
+μ-loop out₀ run₀ turns₀ out run turns = turns
 
 begin-requires : tie.Need-begin-requires Inv-loop μ-loop
 begin-requires c κs = search needs

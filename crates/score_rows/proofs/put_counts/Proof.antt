@@ -1,11 +1,11 @@
 use native.Mathlib.Omega.{arith}
 use lib.ListN.{length-append}
-use Rattle.score_lines.proofs.Bytes.{put-then, decimal-length}
-use Rattle.score_lines.specs.Output.{counts}
+use Rattle.score_rows.proofs.Bytes.{put-then, decimal-length}
+use Rattle.score_rows.specs.Text.{counts}
 use borrow.Author.Needs.{needs}
-use Rattle.score_lines.proofs.put_counts.Statement.{statement}
-use Rattle.score_lines.proofs.put_counts.Tie as tie
-use Rattle.score_lines.proofs.put_counts.Reads as reads
+use Rattle.score_rows.proofs.put_counts.Statement.{statement}
+use Rattle.score_rows.proofs.put_counts.Tie as tie
+use Rattle.score_rows.proofs.put_counts.Reads as reads
 
 slice-aggregate-put-all : tie.Need-slice-aggregate-put-all
 slice-aggregate-put-all c = search needs
@@ -23,10 +23,10 @@ put-all-requires-2 : tie.Need-put-all-requires-2
 put-all-requires-2 c κs = omega (arith, decimal-length (c .before .before .before .before .before .before .before .before .before .before .before .before .args .quiet))
 
 put-decimal-requires-2 : tie.Need-put-decimal-requires-2
-put-decimal-requires-2 c κs = (c .before .before .before .before .before .before .before .before .before .before .before .before .before .before .before .before .pre .1 .0, omega (arith, decimal-length (c .before .before .before .before .before .before .before .before .before .before .before .before .before .before .before .before .args .quiet), c .before .before .before .before .before .before .before .before .before .before .before .before .put-all .ensures .place, c .before .before .before .before .before .before .before .before .before .before .before .before .put-all .kept .0, c .before .before .before .before .before .before .before .before .put-decimal .ensures .place, c .before .before .before .before .before .before .before .before .put-decimal .kept .0, c .before .before .before .before .before .before .before .before .before .before .before .before .before .before .before .before .pre .1 .1))
+put-decimal-requires-2 c κs = omega (arith, decimal-length (c .before .before .before .before .before .before .before .before .before .before .before .before .before .before .before .before .args .quiet), c .before .before .before .before .before .before .before .before .before .before .before .before .put-all .ensures .place, c .before .before .before .before .before .before .before .before .before .before .before .before .put-all .kept .0, c .before .before .before .before .before .before .before .before .put-decimal .ensures .place, c .before .before .before .before .before .before .before .before .put-decimal .kept .0, c .before .before .before .before .before .before .before .before .before .before .before .before .before .before .before .before .pre)
 
 put-requires : tie.Need-put-requires
-put-requires c κs = omega (arith, decimal-length (c .before .before .before .before .before .before .before .before .before .before .before .before .before .before .before .before .before .before .before .before .args .quiet), decimal-length (c .before .before .before .before .before .before .before .before .before .before .before .before .before .before .before .before .before .before .before .before .args .raised), c .before .before .before .before .before .before .before .before .before .before .before .before .before .before .before .before .put-all .ensures .place, c .before .before .before .before .before .before .before .before .before .before .before .before .before .before .before .before .put-all .kept .0, c .before .before .before .before .before .before .before .before .before .before .before .before .put-decimal .ensures .place, c .before .before .before .before .before .before .before .before .before .before .before .before .put-decimal .kept .0, c .before .before .before .before .before .before .before .before .before .before .before .before .before .before .before .before .before .before .before .before .pre .1 .1)
+put-requires c κs = omega (arith, decimal-length (c .before .before .before .before .before .before .before .before .before .before .before .before .before .before .before .before .before .before .before .before .args .quiet), decimal-length (c .before .before .before .before .before .before .before .before .before .before .before .before .before .before .before .before .before .before .before .before .args .raised), c .before .before .before .before .before .before .before .before .before .before .before .before .before .before .before .before .put-all .ensures .place, c .before .before .before .before .before .before .before .before .before .before .before .before .before .before .before .before .put-all .kept .0, c .before .before .before .before .before .before .before .before .before .before .before .before .put-decimal .ensures .place, c .before .before .before .before .before .before .before .before .before .before .before .before .put-decimal .kept .0, c .before .before .before .before .before .before .before .before .before .before .before .before .before .before .before .before .before .before .before .before .pre)
 
 same-length : tie.Need-same-length
 same-length c = search needs
@@ -36,7 +36,7 @@ unfolding counts
 returns c =
     let q = decimal-length (c .before .before .before .before .before .before .before .before .before .before .before .before .before .before .before .before .before .before .before .before .before .before .before .args .quiet) in
     let r = decimal-length (c .before .before .before .before .before .before .before .before .before .before .before .before .before .before .before .before .before .before .before .before .before .before .before .args .raised) in
-    let room = c .before .before .before .before .before .before .before .before .before .before .before .before .before .before .before .before .before .before .before .before .before .before .before .pre .1 .1 in
+    let room = c .before .before .before .before .before .before .before .before .before .before .before .before .before .before .before .before .before .before .before .before .before .before .before .pre in
     put-then (c .before .before .before .before .before .before .before .before .before .before .before .before .before .before .before .before .before .before .before .put-all .ensures)
     (put-then (c .before .before .before .before .before .before .before .before .before .before .before .before .before .before .before .put-decimal .ensures)
     (put-then (c .before .before .before .before .before .before .before .before .before .before .put-all2 .ensures)

@@ -1,4 +1,4 @@
--- What this crate's private functions promise each other. A reader need not read it: no public contract mentions it.
+-- What the private functions promise each other that write lines. A reader need not read it: no public contract mentions it.
 use Prim.Native.Nat.{ℕ, _+_}
 use mathlib.Core.Path.{_≡_}
 use mathlib.Core.List.{List}

@@ -1,7 +1,7 @@
 use borrow.Author.Needs.{needs}
-use Rattle.score_lines.specs.Output.{shown}
-use Rattle.score_lines.proofs.shown.Statement.{statement}
-use Rattle.score_lines.proofs.shown.Tie as tie
+use Rattle.score_rows.specs.Watching.{shown}
+use Rattle.score_rows.proofs.shown.Statement.{statement}
+use Rattle.score_rows.proofs.shown.Tie as tie
 
 returns : tie.Need-returns
 unfolding shown

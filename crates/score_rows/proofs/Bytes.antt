@@ -6,14 +6,17 @@ use Prim.Native.Nat.{ℕ, zero, suc, _+_, _-_, _/_, _%_, _^_, _≤_, _<_}
 use native.Mathlib.Nat.{le-refl, le-trans, lt-of-not-le, add-assoc, mod-eq-of-lt, le-div-iff-mul-le, div-lt-iff-lt-mul, pow-suc, pow-le-pow-right}
 use native.Mathlib.Numerals.{add-one}
 use native.Mathlib.Omega.{arith}
-use lib.Dec.{ltb}
+use lib.Dec.{leb, ltb}
 use lib.Ieee.{Float}
 use lib.ListN.{length, take, drop, set, getD, length-append}
 use lib.Seq.{paste, paste-zero, length-paste, take-paste, drop-paste, take-suc, take-all, drop-drop, set-split, length-take-le}
-use borrow.Author.Tests.{lt-ltb, le-ltb}
+use borrow.Author.Tests.{lt-ltb, le-ltb, le-leb, lt-leb, leb-true, leb-false}
 use Rattle.io.specs.Digits.{glyph, digits, Fewest}
-use Rattle.score_lines.specs.Output.{decimalBy, decimal, bits}
-use Rattle.score_lines.specs.Steps.{Put}
+use Rattle.types.specs.Refusals as Refusals
+use Rattle.types.specs.declared.Refusal.{Refusal}
+use Rattle.basicthresholder.specs.declared.Graded.{Graded}
+use Rattle.score_rows.specs.Text.{decimalBy, decimal, bits, row, bad, badLine, badRow, counts, longest, hasRoom, Written}
+use Rattle.score_rows.specs.Steps.{Put}
 
 -- all of ys over xs from the place `at`, and then zs behind them
 all-of : (ys : List ℕ) → take (length ys) ys ≡ ys
@@ -72,9 +75,9 @@ by-fewest zero (suc (suc k)) n h f = absurd (let l : n < 10 = h in omega (arith,
 by-fewest (suc m) (suc (suc k)) n h f =
     simp (le-ltb n 10 (two-digits k n f .0)) (ap (λ (l : List ℕ). l ++ (glyph (n % 10) ∷ [])) (by-fewest m (suc k) (n / 10) (tenth n (suc m) h) (two-digits k n f .1)))
 
-pub decimal-is : (n k : ℕ) → n < 10000000000 → Fewest 10 1 n k → decimal n ≡ digits 10 k n
+pub decimal-is : (n k : ℕ) → n < 2 ^ 64 → Fewest 10 1 n k → decimal n ≡ digits 10 k n
 unfolding decimal
-decimal-is n k h f = by-fewest 9 k n h f
+decimal-is n k h f = by-fewest 19 k n (omega arith) f
 
 pub eight : (n k : ℕ) → n < 2 ^ 32 → Fewest 16 8 n k → k ≡ 8
 eight n k h f = let l : k < 9 = lt-of-not-le more in omega (arith, f .0)
@@ -95,9 +98,9 @@ by-length (suc k) n =
     cond-length (ltb n 10) (suc k) (glyph n ∷ []) (decimalBy k (n / 10) ++ (glyph (n % 10) ∷ [])) (omega arith)
     (simp length-append (omega (arith, by-length k (n / 10))))
 
-pub decimal-length : (n : ℕ) → length (decimal n) ≤ 10
+pub decimal-length : (n : ℕ) → length (decimal n) ≤ 20
 unfolding decimal
-decimal-length n = by-length 10 n
+decimal-length n = by-length 20 n
 
 pub bits-length : (x : Float) → length (bits x) ≡ 8
 unfolding bits
@@ -115,3 +118,50 @@ put-next xs bytes out at i to p h fits =
 
 pub put-last : (bytes : List ℕ) (i : ℕ) {xs out : List ℕ} {at to : ℕ} → Put xs at (take i bytes) to out → length bytes ≤ i → Put xs at bytes to out
 put-last bytes i p h = rw (take-all i bytes h) at p
+
+-- Room for b bytes behind the place a.
+pub same-room : (a b n : ℕ) → a ≤ n → leb b (n - a) ≡ leb (a + b) n
+same-room a b n h = go (leb b (n - a)) refl
+  where
+    go : (t : Bool) → leb b (n - a) ≡ t → t ≡ leb (a + b) n
+    go true e = sym (le-leb (a + b) n (omega (arith, leb-true b (n - a) e)))
+    go false e = sym (lt-leb (a + b) n (omega (arith, leb-false b (n - a) e)))
+
+pub no-room : (a b n : ℕ) → n < a → false ≡ leb (a + b) n
+no-room a b n h = sym (lt-leb (a + b) n (omega arith))
+
+pub room-true : (xs : List ℕ) (at : ℕ) → hasRoom xs at ≡ true → at + longest ≤ length xs
+room-true xs at h = leb-true (at + longest) (length xs) h
+
+-- A line that was written where there is room for it, and one that was not.
+pub written : (xs : List ℕ) (at : ℕ) (ys : List ℕ) (end : ℕ) (after : List ℕ) → hasRoom xs at ≡ true → Put xs at ys end after → Written xs at ys end after
+written xs at ys end after h p = record { place = simp h (p .place); bytes = simp h (p .bytes) }
+
+pub unwritten : (xs : List ℕ) (at : ℕ) (ys : List ℕ) → hasRoom xs at ≡ false → Written xs at ys at xs
+unwritten xs at ys h = record { place = simp h; bytes = simp h }
+
+pub with-room : {xs ys after : List ℕ} {at end : ℕ} → Written xs at ys end after → at + longest ≤ length xs → Put xs at ys end after
+with-room {xs} {ys} {after} {at} w h =
+    let r : hasRoom xs at ≡ true = le-leb (at + longest) (length xs) h in
+    record { place = simp r at (w .place); bytes = simp r at (w .bytes) }
+
+-- No line is longer than the longest.
+pub row-length : (n : ℕ) (g : Graded) → length (row n g) ≤ longest
+unfolding row
+row-length n g = simp (length-append, bits-length) (omega (arith, decimal-length n))
+
+pub bad-length : (n : ℕ) → length (bad n) ≤ 29
+unfolding bad
+bad-length n = simp length-append (omega (arith, decimal-length n))
+
+pub bad-line-length : (n : ℕ) → length (badLine n) ≤ longest
+unfolding badLine
+bad-line-length n = simp length-append (omega (arith, bad-length n))
+
+pub bad-row-length : (n : ℕ) (why : Refusal) → length (badRow n why) ≤ longest
+unfolding badRow
+bad-row-length n why = simp length-append (omega (arith, bad-length n, decimal-length (Refusals.number why)))
+
+pub counts-length : (a b : ℕ) → length (counts a b) ≤ longest
+unfolding counts
+counts-length a b = simp length-append (omega (arith, decimal-length a, decimal-length b))

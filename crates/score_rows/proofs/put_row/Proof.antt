@@ -1,11 +1,11 @@
 use native.Mathlib.Omega.{arith}
 use lib.ListN.{length-append}
-use Rattle.score_lines.proofs.Bytes.{put-then, decimal-length, bits-length}
-use Rattle.score_lines.specs.Output.{row}
+use Rattle.score_rows.proofs.Bytes.{put-then, decimal-length, bits-length}
+use Rattle.score_rows.specs.Text.{row}
 use borrow.Author.Needs.{needs}
-use Rattle.score_lines.proofs.put_row.Statement.{statement}
-use Rattle.score_lines.proofs.put_row.Tie as tie
-use Rattle.score_lines.proofs.put_row.Reads as reads
+use Rattle.score_rows.proofs.put_row.Statement.{statement}
+use Rattle.score_rows.proofs.put_row.Tie as tie
+use Rattle.score_rows.proofs.put_row.Reads as reads
 
 put-decimal-requires : tie.Need-put-decimal-requires
 put-decimal-requires c κs = search needs
@@ -34,7 +34,7 @@ returns c =
     let n = decimal-length (c .before .before .before .before .before .before .before .before .before .before .before .before .before .before .before .before .before .before .before .before .before .before .before .before .before .args .number) in
     let t = bits-length (c .before .before .before .before .before .before .before .before .before .before .before .before .before .before .before .before .before .before .before .before .before .before .before .before .before .args .shown .threshold) in
     let g = bits-length (c .before .before .before .before .before .before .before .before .before .before .before .before .before .before .before .before .before .before .before .before .before .before .before .before .before .args .shown .grade) in
-    let room = c .before .before .before .before .before .before .before .before .before .before .before .before .before .before .before .before .before .before .before .before .before .before .before .before .before .pre .1 in
+    let room = c .before .before .before .before .before .before .before .before .before .before .before .before .before .before .before .before .before .before .before .before .before .before .before .before .before .pre in
     put-then (c .before .before .before .before .before .before .before .before .before .before .before .before .before .before .before .before .before .before .before .before .before .before .put-decimal .ensures)
     (put-then (c .before .before .before .before .before .before .before .before .before .before .before .before .before .before .before .before .before .before .put .ensures)
     (put-then (c .before .before .before .before .before .before .before .before .before .before .before .before .before .before .put-bits .ensures)

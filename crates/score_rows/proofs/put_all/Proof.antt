@@ -3,10 +3,10 @@ use mathlib.Core.Path.{_≡_}
 use lib.ListN.{length, take}
 use denote.Ref.{now}
 use borrow.Author.Needs.{needs}
-use Rattle.score_lines.proofs.Bytes.{put-none, put-next, put-last}
-use Rattle.score_lines.specs.Steps.{Put}
-use Rattle.score_lines.proofs.put_all.Statement.{statement}
-use Rattle.score_lines.proofs.put_all.Tie as tie
+use Rattle.score_rows.proofs.Bytes.{put-none, put-next, put-last}
+use Rattle.score_rows.specs.Steps.{Put}
+use Rattle.score_rows.proofs.put_all.Statement.{statement}
+use Rattle.score_rows.proofs.put_all.Tie as tie
 
 abbrev Inv-loop : tie.InvT-loop
 Inv-loop out₀ at bytes i₀ to₀ out i to = (i ≤ length bytes) × (length out ≡ length out₀) × (to ≡ at + i) × Put out₀ at (take i bytes) to out

@@ -1,12 +1,12 @@
 use mathlib.Core.Path.{ap₂, _∙_}
 use native.Mathlib.Omega.{arith}
 use Rattle.io.specs.Digits.{digits}
-use Rattle.score_lines.proofs.Bytes.{eight}
-use Rattle.score_lines.specs.Output.{bits}
+use Rattle.score_rows.proofs.Bytes.{eight}
+use Rattle.score_rows.specs.Text.{bits}
 use borrow.Author.Needs.{needs}
-use Rattle.score_lines.proofs.put_bits.Statement.{statement}
-use Rattle.score_lines.proofs.put_bits.Tie as tie
-use Rattle.score_lines.proofs.put_bits.Reads as reads
+use Rattle.score_rows.proofs.put_bits.Statement.{statement}
+use Rattle.score_rows.proofs.put_bits.Tie as tie
+use Rattle.score_rows.proofs.put_bits.Reads as reads
 
 f32-to-bits-requires : tie.Need-f32-to-bits-requires
 f32-to-bits-requires c κs = search needs

@@ -1,8 +1,8 @@
 use denote.Ref.{now}
 use borrow.Author.Needs.{needs}
-use Rattle.score_lines.proofs.Bytes.{put-one}
-use Rattle.score_lines.proofs.put.Statement.{statement}
-use Rattle.score_lines.proofs.put.Tie as tie
+use Rattle.score_rows.proofs.Bytes.{put-one}
+use Rattle.score_rows.proofs.put.Statement.{statement}
+use Rattle.score_rows.proofs.put.Tie as tie
 
 slice-write-out : tie.Need-slice-write-out
 slice-write-out c = search needs

@@ -1,0 +1,3 @@
+pub mod Watching
+pub mod Text
+pub mod Steps

@@ -1,0 +1,63 @@
+-- The lines that a watch of scores prints, as lists of bytes.
+use Prim.Native.Nat.{ℕ, zero, suc, _+_, _/_, _%_}
+use Prim.Native.Char.{code}
+use Prim.Native.String.{String, [] as end, _∷_ as _then_}
+use mathlib.Core.Path.{_≡_}
+use mathlib.Core.Bool.{Bool, cond}
+use mathlib.Core.List.{List, [], _∷_, _++_}
+use lib.Dec.{leb, ltb}
+use lib.ListN.{length}
+use lib.Seq.{paste}
+use lib.Ieee.{Float, toBits, binary32}
+use Rattle.io.specs.Digits.{glyph, digits}
+use Rattle.types.specs.Refusals as Refusals
+use Rattle.types.specs.declared.Refusal.{Refusal}
+use Rattle.basicthresholder.specs.declared.Graded.{Graded}
+
+-- The bytes of a text.
+abbrev pub bytes : String → List ℕ
+bytes end = []
+bytes (c then text) = code c ∷ bytes text
+
+-- n in decimal digits, at most k of them.
+unfoldable pub decimalBy : ℕ → ℕ → List ℕ
+decimalBy zero n = []
+decimalBy (suc k) n = cond (ltb n 10) (glyph n ∷ []) (decimalBy k (n / 10) ++ (glyph (n % 10) ∷ []))
+
+-- Twenty digits write every number below 2 ^ 64.
+unfoldable pub decimal : ℕ → List ℕ
+decimal n = decimalBy 20 n
+
+-- The eight hexadecimal digits of a float's bits.
+unfoldable pub bits : Float → List ℕ
+bits x = digits 16 8 (toBits binary32 x)
+
+unfoldable pub header : List ℕ
+header = bytes "line threshold grade\n"
+
+unfoldable pub row : ℕ → Graded → List ℕ
+row n g = decimal n ++ (bytes " " ++ (bits (g .threshold) ++ (bytes " " ++ (bits (g .grade) ++ bytes "\n"))))
+
+-- A bad line by its number, and with the error of a row.
+unfoldable pub bad : ℕ → List ℕ
+bad n = bytes "bad line " ++ decimal n
+
+unfoldable pub badLine : ℕ → List ℕ
+badLine n = bad n ++ bytes "\n"
+
+unfoldable pub badRow : ℕ → Refusal → List ℕ
+badRow n why = bad n ++ (bytes " " ++ (decimal (Refusals.number why) ++ bytes "\n"))
+
+unfoldable pub counts : ℕ → ℕ → List ℕ
+counts quiet raised = bytes "quiet " ++ (decimal quiet ++ (bytes " raised " ++ (decimal raised ++ bytes "\n")))
+
+-- A text is written over `out` from the place `at` where that leaves room for the longest line, else nothing is. `end` is the place behind it.
+abbrev pub longest : ℕ
+longest = 56
+
+abbrev pub hasRoom : List ℕ → ℕ → Bool
+hasRoom out at = leb (at + longest) (length out)
+
+pub record Written (out : List ℕ) (at : ℕ) (text : List ℕ) (end : ℕ) (after : List ℕ) : Type 0 where
+  pub place : end ≡ cond (hasRoom out at) (at + length text) at
+  pub bytes : after ≡ cond (hasRoom out at) (paste out at text (length text)) out
