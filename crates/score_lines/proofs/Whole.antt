@@ -1,7 +1,7 @@
 -- A run that is fed its input, in whatever parts, prints `output` of it. Assumes nothing.
 use mathlib.Core.Path.{_≡_, refl, sym, ap, ap₂, _∙_}
 use mathlib.Core.Bool.{Bool, true, false, cond}
-use mathlib.Core.List.{List, [], _∷_, _++_, append-assoc, append-nil}
+use mathlib.Core.List.{List, [], _∷_, _++_, append-nil}
 use Prim.Native.Nat.{ℕ, _+_, _≤_}
 use native.Mathlib.Omega.{arith}
 use lib.Dec.{eqb}
@@ -13,22 +13,23 @@ use Rattle.score_lines.specs.declared.Run.{Run}
 use Rattle.score_rows.specs.Watching.{settings, shown, counted, isQuiet}
 use Rattle.score_rows.specs.Text.{header, row, badLine}
 use Rattle.score_lines.specs.Output.{allDigits, number, linesFrom, byLine, rows, output}
-use Rattle.score_lines.specs.Feeding.{runOf, begin, pushed, lineOf, judged, ended, endedBy, saidBy, lineEnded, lineSaid, step, said, fed, printed, totalSaid, closing, joined, inParts, Whole}
-use Rattle.score_lines.proofs.Parts.{fed-append, printed-append, over-fed, over-printed, line-step, line-said, bad-step, bad-said, digit-step, digit-said}
+use Rattle.score_lines.specs.Feeding.{runOf, begin, pushed, lineOf, judged, ended, endedBy, saidBy, lineEnded, lineSaid, step, said, totalSaid, closing, Whole}
+use Rattle.score_rows.specs.Feeding as Feeding
+use Rattle.score_rows.specs.Feeding.{joined}
+use Rattle.score_rows.proofs.Feeding as Feeds
+use Rattle.score_lines.proofs.Parts.{over-step, over-said, line-step, line-said, bad-step, bad-said, digit-step, digit-said}
 use Rattle.score_lines.proofs.Digits.{Good, Faulty, Pushed, more, spoilt, push-one, faulty-snoc, read, read-faulty, part-begun, part-positive}
 
 -- All that a run prints from here on, the rest of its input being bs.
-unfoldable coming : Run → List ℕ → List ℕ
-coming run bs = printed run bs ++ closing (fed run bs)
+abbrev coming : Run → List ℕ → List ℕ
+coming run bs = Feeds.coming step said closing run bs
 
 coming-step : (run : Run) (b : ℕ) (bs : List ℕ) → coming run (b ∷ bs) ≡ said run b ++ coming (step run b) bs
-unfolding coming fed printed
-coming-step run b bs = append-assoc (said run b) (printed (step run b) bs) (closing (fed (step run b) bs))
+coming-step run b bs = Feeds.coming-step step said closing run b bs
 
 coming-over : (run : Run) (bs : List ℕ) → coming (ended run) bs ≡ []
-unfolding coming ended closing
-coming-over run bs =
-    ap₂ (λ (l : List ℕ) (r : Run). l ++ closing r) (over-printed (ended run) bs refl) (over-fed (ended run) bs refl)
+unfolding ended closing
+coming-over run bs = Feeds.still-coming step said closing (ended run) bs (over-step (ended run) refl) (over-said (ended run) refl) refl
 
 -- What `rows` makes of a line, by what it holds.
 abbrev rowsBy : Line → BasicThresholder → ℕ → ℕ → List (List ℕ) → List ℕ
@@ -64,7 +65,7 @@ module _ (bs : List ℕ) (later : Between bs) where
 
 -- The end of the input.
 last-total : (s : BasicThresholder) (q r part : ℕ) (l : Line) → totalSaid (endedBy (runOf s q r part false) l) ≡ coming (endedBy (runOf s q r part false) l) []
-unfolding endedBy judged ended totalSaid coming closing fed printed
+unfolding endedBy judged ended totalSaid Feeds.coming closing Feeding.fed Feeding.printed
 last-total s q r part Fault = refl
 last-total s q r part (Score x) = pick (isQuiet (shown s x .grade))
   where
@@ -74,12 +75,12 @@ last-total s q r part (Score x) = pick (isQuiet (shown s x .grade))
     pick false = refl
 
 nothing-left : Between []
-unfolding coming closing totalSaid fed printed linesFrom rows
+unfolding Feeds.coming closing totalSaid Feeding.fed Feeding.printed linesFrom rows
 nothing-left s q r = refl
 
 last-open : (s : BasicThresholder) (q r part : ℕ) → 16 ≤ part
     → coming (runOf s q r part false) [] ≡ lineSaid (runOf s q r part false) ++ totalSaid (lineEnded (runOf s q r part false))
-unfolding coming closing fed printed
+unfolding Feeds.coming closing Feeding.fed Feeding.printed
 last-open s q r part h = simp (ne-eqb part 1 (λ e. omega arith))
 
 last-line : (a : ℕ) (line : List ℕ) (s : BasicThresholder) (q r : ℕ) → Good (a ∷ line)
@@ -156,16 +157,7 @@ follows [] (a ∷ line) s q r good = last-line a line s q r good
 follows (b ∷ bs) line s q r good =
     by-byte (eqb b 10) bs line b s q r refl good (λ s′ q′ r′. follows bs [] s′ q′ r′ nothing-yet) (λ g. follows bs (line ++ (b ∷ [])) s q r g)
 
--- Parts that are fed one after the other print what they print in one piece.
-in-one : (run : Run) (parts : List (List ℕ)) → inParts run parts ≡ coming run (joined parts)
-unfolding inParts joined coming fed printed
-in-one run [] = refl
-in-one run (p ∷ ps) =
-    ap (λ (l : List ℕ). printed run p ++ l) (in-one (fed run p) ps)
-    ∙ sym (append-assoc (printed run p) (printed (fed run p) (joined ps)) (closing (fed (fed run p) (joined ps))))
-    ∙ ap₂ (λ (l : List ℕ) (r : Run). l ++ closing r) (sym (printed-append run p (joined ps))) (sym (fed-append run p (joined ps)))
-
 -- The whole: however the input is cut, header, parts and end together print its output.
 pub whole : Whole
 unfolding output begin number
-whole parts = ap (λ (l : List ℕ). header ++ l) (in-one begin parts ∙ follows (joined parts) [] settings 0 0 nothing-yet)
+whole parts = ap (λ (l : List ℕ). header ++ l) (Feeds.in-one step said closing begin parts ∙ follows (joined parts) [] settings 0 0 nothing-yet)

@@ -3,7 +3,7 @@ use Prim.Native.Nat.{ℕ, _+_, _-_, _*_}
 use Prim.Native.Char.{code}
 use mathlib.Core.Path.{_≡_}
 use mathlib.Core.Bool.{Bool, true, false, cond, _&&_}
-use mathlib.Core.List.{List, [], _∷_, _++_}
+use mathlib.Core.List.{List, [], _++_}
 use lib.Dec.{leb, ltb, eqb}
 use lib.ListN.{length, drop}
 use lib.Ieee.{Float, ofBits, binary32}
@@ -14,6 +14,7 @@ use Rattle.score_lines.specs.declared.Run.{Run}
 use Rattle.score_lines.specs.declared.Fed.{Fed}
 use Rattle.score_rows.specs.Watching.{settings, shown, counted, isQuiet}
 use Rattle.score_rows.specs.Text.{header, row, badLine, counts}
+use Rattle.score_rows.specs.Feeding as Feeding
 use Rattle.score_lines.specs.Output.{digitOf, finiteOnly, output}
 
 abbrev pub runOf : BasicThresholder → ℕ → ℕ → ℕ → Bool → Run
@@ -74,13 +75,11 @@ unfoldable pub said : Run → ℕ → List ℕ
 said run b = cond (run .over) [] (cond (eqb b (code "\n")) (lineSaid run) (takenSaid run (pushed (run .part) b)))
 
 -- A part of the input, byte by byte.
-unfoldable pub fed : Run → List ℕ → Run
-fed run [] = run
-fed run (b ∷ bs) = fed (step run b) bs
+abbrev pub fed : Run → List ℕ → Run
+fed run bs = Feeding.fed step run bs
 
-unfoldable pub printed : Run → List ℕ → List ℕ
-printed run [] = []
-printed run (b ∷ bs) = said run b ++ printed (step run b) bs
+abbrev pub printed : Run → List ℕ → List ℕ
+printed run bs = Feeding.printed step said run bs
 
 -- The counts, unless the run is over.
 unfoldable pub totalRun : Run → Run
@@ -96,18 +95,9 @@ closed run = cond (run .over) run (cond (eqb (run .part) 1) (totalRun run) (tota
 unfoldable pub closing : Run → List ℕ
 closing run = cond (run .over) [] (cond (eqb (run .part) 1) (totalSaid run) (lineSaid run ++ totalSaid (lineEnded run)))
 
--- An input that comes in parts, and what a run prints that is fed one after the other and then finished.
-unfoldable pub joined : List (List ℕ) → List ℕ
-joined [] = []
-joined (p ∷ ps) = p ++ joined ps
-
-unfoldable pub inParts : Run → List (List ℕ) → List ℕ
-inParts run [] = closing run
-inParts run (p ∷ ps) = printed run p ++ inParts (fed run p) ps
-
 -- The whole: however the input is cut, header, parts and end together print its output.
 abbrev pub Whole : Type 0
-Whole = (parts : List (List ℕ)) → header ++ inParts begin parts ≡ output (joined parts)
+Whole = (parts : List (List ℕ)) → header ++ Feeding.inParts step said closing begin parts ≡ output (Feeding.joined parts)
 
 -- A call that leaves the run `next` and prints `text` at the front of the buffer. What is behind it stays.
 pub record Prints (next : Run) (text out : List ℕ) (r : Fed) (after : List ℕ) : Type 0 where

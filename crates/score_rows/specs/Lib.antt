@@ -1,3 +1,4 @@
 pub mod Watching
 pub mod Text
+pub mod Feeding
 pub mod Steps

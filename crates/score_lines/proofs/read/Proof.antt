@@ -7,10 +7,12 @@ use native.Mathlib.Omega.{arith}
 use lib.Seq.{take-all}
 use lib.ListN.{length, take, getD}
 use denote.Ref.{now}
-use Rattle.score_lines.proofs.Parts.{next-run, next-put, line-step, line-said, bad-step, bad-said, digit-step, digit-said, over-run, over-all}
+use Rattle.score_lines.proofs.Parts.{over-step, over-said, said-length, line-step, line-said, bad-step, bad-said, digit-step, digit-said}
 use Rattle.score_rows.proofs.Bytes.{with-room, put-none}
 use Rattle.score_lines.specs.declared.Run.{Run}
-use Rattle.score_lines.specs.Feeding.{runOf, pushed, fed, printed, ended}
+use Rattle.score_rows.specs.Feeding as Feeding
+use Rattle.score_rows.proofs.Feeding.{next-run, next-put, still-run, still-all}
+use Rattle.score_lines.specs.Feeding.{runOf, pushed, step, said, fed, printed, ended}
 use Rattle.score_rows.specs.Steps.{Put}
 use Rattle.score_lines.proofs.read.Statement.{statement}
 use Rattle.score_lines.proofs.read.Tie as tie
@@ -23,7 +25,7 @@ abbrev μ-loop : tie.MeasureT-loop
 μ-loop input out₀ state₀ i₀ to₀ out state i to = length input - i
 
 loop-holds : tie.Need-loop-holds Inv-loop μ-loop
-unfolding fed printed
+unfolding Feeding.fed Feeding.printed
 loop-holds c = (search needs, refl, refl, search needs, put-none _ _ [])
 
 same-length : tie.Need-same-length Inv-loop μ-loop
@@ -36,7 +38,7 @@ returns c =
     let i = c .before .before .loop .i in
     let e = c .before .before .loop .inv .2 in
     let o = c .if1 .taken in
-    rw (over-run run xs i e o, over-all run xs i e o) (refl, c .before .before .loop .inv .4)
+    rw (still-run step run xs i e (over-step _ o), still-all step said run xs i e (over-step _ o) (over-said _ o)) (refl, c .before .before .loop .inv .4)
 
 shared-slice-read-b : tie.Need-shared-slice-read-b Inv-loop μ-loop
 shared-slice-read-b c = search needs
@@ -60,10 +62,10 @@ loop-again c =
     let h = c .before .before .before .before .before .before .before .before .loop-test .taken in
     let going = c .before .before .before .before .before .before .before .if1 .left in
     let newline = c .before .before .before .before .before .if2 .taken in
-    let p = next-put (c .before .before .before .before .before .before .before .before .before .before .before .before .args .run) xs i e h (c .before .before .before .before .before .before .before .before .before .loop .inv .3) (omega (arith, c .before .before .before .before .before .before .before .before .before .before .before .before .pre)) (c .before .before .before .before .before .before .before .before .before .loop .inv .4) (line-said s b going newline) (c .before .before .before .end-line .ensures .1) in (
+    let p = next-put step said (c .before .before .before .before .before .before .before .before .before .before .before .before .args .run) xs i e said-length h (c .before .before .before .before .before .before .before .before .before .loop .inv .3) (omega (arith, c .before .before .before .before .before .before .before .before .before .before .before .before .pre)) (c .before .before .before .before .before .before .before .before .before .loop .inv .4) (line-said s b going newline) (c .before .before .before .end-line .ensures .1) in (
       search needs,
       c .before .before .before .end-line .kept .1 .0 ∙ c .before .before .before .before .before .before .before .before .before .loop .inv .1,
-      next-run (c .before .before .before .before .before .before .before .before .before .before .before .before .args .run) xs i e h (c .before .before .before .end-line .ensures .0 ∙ sym (line-step s b going newline)),
+      next-run step (c .before .before .before .before .before .before .before .before .before .before .before .before .args .run) xs i e h (c .before .before .before .end-line .ensures .0 ∙ sym (line-step s b going newline)),
       p .0,
       p .1,
     )
@@ -105,10 +107,10 @@ returns-2 c =
     let going = c .before .before .before .before .before .before .before .before .before .before .before .if1 .left in
     let inside = c .before .before .before .before .before .before .before .before .before .if2 .left in
     let h : pushed (s .part) b ≡ 0 = sym (c .before .before .before .before .before .before .before .before .pushed .ensures) ∙ c .before .before .before .before .before .before .before .if3 .taken in
-    let n = next-run run xs i e t (c .ended .ensures ∙ sym (bad-step s b going inside h)) in
-    let p = next-put run xs i e t (c .before .before .before .before .before .before .before .before .before .before .before .before .before .loop .inv .3) (omega (arith, c .before .before .before .before .before .before .before .before .before .before .before .before .before .before .before .before .pre)) (c .before .before .before .before .before .before .before .before .before .before .before .before .before .loop .inv .4) (bad-said s b going inside h) (with-room (c .before .before .before .write-bad-line .ensures) (omega (arith, c .before .before .before .before .before .before .before .before .before .before .before .before .before .loop .inv .1, c .before .before .before .before .before .before .before .before .before .before .before .before .before .loop .inv .3, c .before .before .before .before .before .before .before .before .before .before .before .before .loop-test .taken, c .before .before .before .before .before .before .before .before .before .before .before .before .before .before .before .before .pre))) in
+    let n = next-run step run xs i e t (c .ended .ensures ∙ sym (bad-step s b going inside h)) in
+    let p = next-put step said run xs i e said-length t (c .before .before .before .before .before .before .before .before .before .before .before .before .before .loop .inv .3) (omega (arith, c .before .before .before .before .before .before .before .before .before .before .before .before .before .before .before .before .pre)) (c .before .before .before .before .before .before .before .before .before .before .before .before .before .loop .inv .4) (bad-said s b going inside h) (with-room (c .before .before .before .write-bad-line .ensures) (omega (arith, c .before .before .before .before .before .before .before .before .before .before .before .before .before .loop .inv .1, c .before .before .before .before .before .before .before .before .before .before .before .before .before .loop .inv .3, c .before .before .before .before .before .before .before .before .before .before .before .before .loop-test .taken, c .before .before .before .before .before .before .before .before .before .before .before .before .before .before .before .before .pre))) in
     let o : c .ended .result .over ≡ true = ap (λ (r : Run). r .over) (c .ended .ensures) in
-    rw (over-run run xs (i + 1) n o, over-all run xs (i + 1) n o) (refl, p .1)
+    rw (still-run step run xs (i + 1) n (over-step _ o), still-all step said run xs (i + 1) n (over-step _ o) (over-said _ o)) (refl, p .1)
 
 add-i-2 : tie.Need-add-i-2 Inv-loop μ-loop
 add-i-2 c = search needs
@@ -128,10 +130,10 @@ loop-again-2 c =
     let going = c .before .before .before .before .if1 .left in
     let inside = c .before .before .if2 .left in
     let h : pushed (s .part) b ≡ 0 → ⊥ = λ z. c .if3 .left (c .before .pushed .ensures ∙ z) in
-    let p = next-put run xs i e t (c .before .before .before .before .before .before .loop .inv .3) (omega (arith, c .before .before .before .before .before .before .before .before .before .pre)) (c .before .before .before .before .before .before .loop .inv .4) (digit-said s b going inside h) (put-none (c .before .before .before .before .before .before .loop .out) (c .before .before .before .before .before .before .loop .to) []) in (
+    let p = next-put step said run xs i e said-length t (c .before .before .before .before .before .before .loop .inv .3) (omega (arith, c .before .before .before .before .before .before .before .before .before .pre)) (c .before .before .before .before .before .before .loop .inv .4) (digit-said s b going inside h) (put-none (c .before .before .before .before .before .before .loop .out) (c .before .before .before .before .before .before .loop .to) []) in (
       search needs,
       c .before .before .before .before .before .before .loop .inv .1,
-      next-run run xs i e t (ap (λ (p : ℕ). runOf (s .thresholder) (s .quiet) (s .raised) p (s .over)) (c .before .pushed .ensures) ∙ sym (digit-step s b going inside h)),
+      next-run step run xs i e t (ap (λ (p : ℕ). runOf (s .thresholder) (s .quiet) (s .raised) p (s .over)) (c .before .pushed .ensures) ∙ sym (digit-step s b going inside h)),
       p .0,
       p .1,
     )

@@ -1,4 +1,3 @@
-use Prim.Native.Nat.{_≤_}
 use Rattle.score_rows.proofs.Bytes.{same-room, no-room}
 use Rattle.score_rows.proofs.has_room.Statement.{statement}
 use Rattle.score_rows.proofs.has_room.Tie as tie
