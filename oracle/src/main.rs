@@ -5,9 +5,11 @@ mod big;
 mod buffers;
 mod bytes;
 mod chain;
+mod exports;
 mod ledger;
 mod ours;
 mod parts;
+mod process;
 mod random;
 mod readings;
 mod refusals;
@@ -72,6 +74,7 @@ fn run(name: &str, seed: u64) -> u64 {
         buffers::sample::write(&mut Random::new(seed)).expect("calls on buffers written");
         parts::exits::write().expect("readings written");
         bench::score_watch::write(&mut Random::new(seed)).expect("scores written");
+        bench::export_watch::write(&mut Random::new(seed)).expect("an export written");
         return 0;
     }
     let part = PARTS.iter().find(|p| p.name == name).expect("a known part");
@@ -81,8 +84,13 @@ fn run(name: &str, seed: u64) -> u64 {
 }
 
 fn main() -> ExitCode {
-    if std::env::args().nth(1).as_deref() == Some(bench::score_watch::PLAIN) {
+    let word = std::env::args().nth(1).unwrap_or_default();
+    if word == bench::score_watch::PLAIN {
         bench::score_watch::plain().expect("sound lines");
+        return ExitCode::SUCCESS;
+    }
+    if word == exports::plain::PLAIN {
+        exports::plain::plain().expect("an export read");
         return ExitCode::SUCCESS;
     }
     let wanted = match wanted() {

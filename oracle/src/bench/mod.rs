@@ -1,5 +1,6 @@
 //! Times ours against the Rust, in one run and on the same inputs.
 
+pub mod export_watch;
 mod judging;
 mod numbers;
 mod peer;
@@ -13,4 +14,5 @@ pub fn run(random: &mut Random) {
     numbers::run(random);
     judging::run(random);
     score_watch::run(random).expect("both score watches run");
+    export_watch::run(random).expect("both export watches run");
 }

@@ -3,14 +3,13 @@
 //! 1,000 lines, more than the score watch reads at once, is kept as its stdin and stdout.
 
 use std::error::Error;
-use std::fs::{self, File};
+use std::fs;
 use std::io::{self, BufRead, BufWriter, Write};
-use std::path::Path;
-use std::process::{Command, Stdio};
-use std::time::Instant;
+use std::process::Command;
 
 use rcflib::trcf::basicthresholder::BasicThresholder;
 
+use crate::process::once;
 use crate::random::Random;
 
 /// The word that makes this program the plain one.
@@ -73,18 +72,6 @@ pub fn write(random: &mut Random) -> Result<(), Box<dyn Error>> {
     fs::write(PATH, input)?;
     fs::write(SAYS, says)?;
     Ok(())
-}
-
-/// One run: what it printed, and how long it took in ns.
-fn once(mut program: Command, input: &Path) -> Result<(Vec<u8>, f64), Box<dyn Error>> {
-    let input = File::open(input)?;
-    let start = Instant::now();
-    let run = program.stdin(Stdio::from(input)).output()?;
-    let took = start.elapsed().as_nanos() as f64;
-    if !run.status.success() {
-        return Err("a score watch that failed".into());
-    }
-    Ok((run.stdout, took))
 }
 
 pub fn run(random: &mut Random) -> Result<(), Box<dyn Error>> {

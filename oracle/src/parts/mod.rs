@@ -8,6 +8,7 @@ mod deviation;
 mod drawer;
 mod drill;
 pub mod exits;
+mod exports;
 mod floor;
 mod judging;
 mod narrow;
@@ -52,4 +53,5 @@ pub const PARTS: &[Part] = &[
     part("missing", buffers::missing),
     part("asked", buffers::asked),
     part("demand3", demand3::compare),
+    part("exports", exports::compare),
 ];

@@ -1,0 +1,11 @@
+use mathlib.Core.Path.{refl}
+use Rattle.csv_fields.specs.Contents.{isDigit}
+use Rattle.csv_fields.proofs.is_digit.Statement.{statement}
+use Rattle.csv_fields.proofs.is_digit.Tie as tie
+
+returns : tie.Need-returns
+unfolding isDigit
+returns c = refl
+
+pub is-digit-spec : {M : Type 1} → statement M
+is-digit-spec = tie.close (tie.spec returns)

@@ -1,0 +1,4 @@
+mod Walking
+mod Fields
+pub mod Whole
+pub mod Sizes

@@ -1,0 +1,74 @@
+use borrow.Author.Tests.{eq-eqb, ne-eqb}
+use Rattle.csv_rows.specs.Scanning.{endTurn}
+use borrow.Author.Needs.{needs}
+use Rattle.csv_rows.proofs.end_turn.Statement.{statement}
+use Rattle.csv_rows.proofs.end_turn.Tie as tie
+
+enum-told : tie.Need-enum-told
+enum-told c = search needs
+
+enum-told-2 : tie.Need-enum-told-2
+enum-told-2 c = search needs
+
+enum-told-3 : tie.Need-enum-told-3
+enum-told-3 c = search needs
+
+enum-told-4 : tie.Need-enum-told-4
+enum-told-4 c = search needs
+
+enum-told-5 : tie.Need-enum-told-5
+enum-told-5 c = search needs
+
+enum-told-6 : tie.Need-enum-told-6
+enum-told-6 c = search needs
+
+returns : tie.Need-returns
+unfolding endTurn
+returns c = simp (c .before .before .enum-told .given .1, eq-eqb _ _ (c .before .if1 .taken), c .if2 .taken)
+
+returns-2 : tie.Need-returns-2
+unfolding endTurn
+returns-2 c = simp (c .before .before .enum-told .given .1, eq-eqb _ _ (c .before .if1 .taken), c .if2 .left)
+
+returns-3 : tie.Need-returns-3
+unfolding endTurn
+returns-3 c = simp (c .before .enum-told .given .1, ne-eqb _ _ (c .if1 .left))
+
+returns-4 : tie.Need-returns-4
+unfolding endTurn
+returns-4 c = simp (c .enum-told2 .given .1)
+
+returns-5 : tie.Need-returns-5
+unfolding endTurn
+returns-5 c = simp (c .enum-told3 .given .1)
+
+returns-6 : tie.Need-returns-6
+unfolding endTurn
+returns-6 c = simp (c .enum-told4 .given .1)
+
+returns-7 : tie.Need-returns-7
+unfolding endTurn
+returns-7 c = simp (c .enum-told5 .given .1)
+
+returns-8 : tie.Need-returns-8
+unfolding endTurn
+returns-8 c = simp (c .enum-told6 .given .1)
+
+pub end-turn-spec : {M : Type 1} → statement M
+end-turn-spec =
+    tie.close
+    (tie.spec
+    enum-told
+    enum-told-2
+    enum-told-3
+    enum-told-4
+    enum-told-5
+    enum-told-6
+    returns
+    returns-2
+    returns-3
+    returns-4
+    returns-5
+    returns-6
+    returns-7
+    returns-8)

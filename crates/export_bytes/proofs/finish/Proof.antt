@@ -1,0 +1,13 @@
+use Rattle.export_bytes.proofs.Parts.{prints}
+use borrow.Author.Needs.{needs}
+use Rattle.export_bytes.proofs.finish.Statement.{statement}
+use Rattle.export_bytes.proofs.finish.Tie as tie
+
+close-requires : tie.Need-close-requires
+close-requires c κs = search needs
+
+returns : tie.Need-returns
+returns c = prints (c .close .ensures .0) (c .close .ensures .1)
+
+pub finish-spec : {M : Type 1} → statement M
+finish-spec = tie.close (tie.spec close-requires returns)

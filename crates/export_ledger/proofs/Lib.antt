@@ -1,0 +1,4 @@
+mod Printed
+mod Bounds
+mod Counting
+pub mod Demand3

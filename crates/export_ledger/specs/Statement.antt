@@ -1,0 +1,63 @@
+-- "The ledger comparison covers CSV-fed drawers, every score read being of its sizes": demand 3's statement for every input of the export watch, without a premise on it.
+use mathlib.Core.Path.{_≡_}
+use mathlib.Core.Bool.{false, cond, _||_}
+use mathlib.Core.List.{List, [], _∷_, _++_}
+use Prim.Native.Nat.{ℕ, zero, suc, _+_}
+use lib.Dec.{eqb}
+use lib.Ieee.{Float, ofBits, binary64}
+use Rattle.basicthresholder.specs.declared.BasicThresholder.{BasicThresholder}
+use Rattle.csv_rows.specs.declared.Row.{Row}
+use Rattle.csv_rows.specs.declared.Row.the-variants.{Nothing, Header, Sound, Faulty}
+use Rattle.csv_rows.specs.Rows.{readingsOf}
+use Rattle.score_rows.specs.Watching.{settings, three32, shown, counted}
+use Rattle.score_rows.specs.Text.{header, row}
+use Rattle.export_rows.specs.Output.{output}
+use Rattle.ledger.specs.Statement.{Judge, told, showed, mostReadings, Demand3}
+
+-- A row that is judged: its number in the input, and its score.
+pub record Reading : Type 0 where
+  pub number : ℕ
+  pub score : Float
+
+-- The rows of the watched drawer that are judged, of the rows from number n on: at most so many, and none behind a faulty row. The drawer is 0 before the first row below
+-- the header, whose drawer is the watched one.
+unfoldable pub judgedFrom : ℕ → ℕ → ℕ → List Row → List Reading
+judgedFrom n drawer most [] = []
+judgedFrom n drawer most (Nothing ∷ rest) = judgedFrom n drawer most rest
+judgedFrom n drawer most (Header ∷ rest) = judgedFrom (n + 1) drawer most rest
+judgedFrom n drawer most (Faulty why ∷ rest) = []
+judgedFrom n drawer zero (Sound e ∷ rest) =
+    cond (eqb drawer 0 || eqb drawer (e .drawer)) [] (judgedFrom (n + 1) drawer zero rest)
+judgedFrom n drawer (suc most) (Sound e ∷ rest) =
+    cond (eqb drawer 0 || eqb drawer (e .drawer))
+    (record { number = n; score = e .score } ∷ judgedFrom (n + 1) (e .drawer) most rest)
+    (judgedFrom (n + 1) drawer (suc most) rest)
+
+unfoldable pub judged : List ℕ → List Reading
+judged input = judgedFrom 1 0 mostReadings (readingsOf input)
+
+-- The export watch as a judge: no reading is refused, and a row prints its threshold and its grade, which is the opening grade and the one that the reading ends with.
+abbrev pub watch : Judge
+watch = record {
+  State = BasicThresholder;
+  Reading = Reading;
+  refused = λ s r. false;
+  score = λ r. r .score;
+  next = λ s r. counted s (r .score);
+  shown = λ s r. record { threshold = shown s (r .score) .threshold; opening = shown s (r .score) .grade; ends = shown s (r .score) .grade };
+}
+
+-- The lines of judged rows: each with its number, and what the watch shows of its score.
+unfoldable pub lines : BasicThresholder → List Reading → List ℕ
+lines s [] = []
+lines s (r ∷ rs) = row (r .number) (shown s (r .score)) ++ lines (counted s (r .score)) rs
+
+-- Of an input: the output is the header, a line for each judged row, and an end (the counts, or the line of a bad row); and what these lines show agrees with the ledger
+-- of the scores read.
+pub record OfExport (input : List ℕ) : Type 0 where
+  pub end : List ℕ
+  pub printed : output input ≡ header ++ (lines settings (judged input) ++ end)
+  pub agree : Demand3 (ofBits binary64 0) three32 (told watch settings (judged input)) (showed watch settings (judged input))
+
+abbrev pub Demand3OfExports : Type 0
+Demand3OfExports = (input : List ℕ) → OfExport input

@@ -1,0 +1,73 @@
+-- The run as it meets one row after the other.
+use Prim.Native.Nat.{ℕ, _+_, _-_, _^_, min}
+use mathlib.Core.Bool.{Bool, true, false, cond}
+use mathlib.Core.List.{List, []}
+use Rattle.csv_rows.specs.declared.Entry.{Entry}
+use Rattle.csv_rows.specs.declared.Row.{Row}
+use Rattle.csv_rows.specs.declared.Row.the-variants as Rows
+use Rattle.score_rows.specs.Watching.{shown}
+use Rattle.score_rows.specs.Text.{row, badLine, badRow}
+use Rattle.export_rows.specs.declared.Watch.{Watch}
+use Rattle.export_rows.specs.declared.Ending.{Ending}
+use Rattle.export_rows.specs.declared.Ending.the-variants as Endings
+use Rattle.export_rows.specs.declared.Course.{Course}
+use Rattle.export_rows.specs.declared.Line.{Line}
+use Rattle.export_rows.specs.declared.Line.the-variants as Lines
+use Rattle.export_rows.specs.declared.Taken.{Taken}
+use Rattle.export_rows.specs.Output.{unwatched, isWatched, judgedAt, goesOn}
+
+abbrev pub courseOf : Watch → ℕ → Ending → Course
+courseOf watch row ending = record { watch = watch; row = row; ending = ending }
+
+abbrev pub takenOf : Course → Line → Taken
+takenOf course line = record { course = course; line = line }
+
+-- A run that has read nothing.
+unfoldable pub begin : Course
+unfolding unwatched
+begin = courseOf unwatched 1 Endings.Open
+
+unfoldable pub isOpen : Ending → Bool
+isOpen Endings.Open = true
+isOpen (Endings.Refused why) = false
+isOpen Endings.Full = false
+isOpen Endings.Counted = false
+
+unfoldable pub ended : Course → Ending → Course
+ended c ending = courseOf (c .watch) (c .row) ending
+
+-- The run after a row that does not end it. Row numbers stop at the largest of 64 bits.
+unfoldable pub passed : Course → Watch → Course
+passed c w = courseOf w (min (c .row + 1) (2 ^ 64 - 1)) Endings.Open
+
+-- A sound row: judged where it is the watched drawer's, else passed over.
+unfoldable pub sound : Course → Entry → Taken
+sound c e =
+    cond (isWatched (c .watch) (e .drawer))
+    (cond (goesOn (c .watch))
+    (let g = shown (c .watch .thresholder) (e .score) in
+    takenOf (passed c (judgedAt (c .watch) e (g .grade))) (Lines.Shown g))
+    (takenOf (ended c Endings.Full) Lines.Full))
+    (takenOf (passed c (c .watch)) Lines.Nothing)
+
+-- A row that an open run meets.
+unfoldable pub met : Course → Row → Taken
+met c Rows.Nothing = takenOf c Lines.Nothing
+met c Rows.Header = takenOf (passed c (c .watch)) Lines.Nothing
+met c (Rows.Sound e) = sound c e
+met c (Rows.Faulty why) = takenOf (ended c (Endings.Refused why)) (Lines.Faulty why)
+
+-- A run that has ended stays as it is.
+unfoldable pub taken : Course → Row → Taken
+taken c r = cond (isOpen (c .ending)) (met c r) (takenOf c Lines.Nothing)
+
+-- The input has ended, and the counts are given.
+unfoldable pub totalled : Course → Course
+totalled c = cond (isOpen (c .ending)) (ended c Endings.Counted) c
+
+-- What the row with the number n prints.
+unfoldable pub text : ℕ → Line → List ℕ
+text n Lines.Nothing = []
+text n (Lines.Shown g) = row n g
+text n Lines.Full = badLine n
+text n (Lines.Faulty why) = badRow n why

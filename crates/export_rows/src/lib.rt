@@ -1,0 +1,214 @@
+// The export watch row by row: what a row of a cabinet's export does to the run, and what it prints. Bytes are read below, in `csv_rows`, and written above.
+use basicthresholder::BasicThresholder;
+use basicthresholder::Graded;
+use csv_rows::Entry;
+use csv_rows::Row;
+use types::Refusal;
+ghost use mathlib.Core.Path.{_≡_};
+ghost use Prim.Native.Nat.{_+_, _<_};
+ghost use Rattle.export_rows.specs.Output as Output;
+ghost use Rattle.export_rows.specs.Taking as Taking;
+
+// The drawer's 65,537th sound row ends a run.
+const MOST_ROWS: u64 = 65536;
+
+// What a run knows of the drawer that it watches: its number, or 0 before the first row; its statistics; how many of its rows were quiet and raised.
+pub struct Watch {
+    pub thresholder: BasicThresholder,
+    pub drawer: u32,
+    pub quiet: u32,
+    pub raised: u32,
+}
+
+// How a run ended: it goes on; a row was faulty; the drawer has too many rows; the input ended and the counts were given.
+pub enum Ending {
+    Open,
+    Refused(Refusal),
+    Full,
+    Counted,
+}
+
+// A run between two rows: `row` is the number of the row to come, the header's being 1.
+pub struct Course {
+    pub watch: Watch,
+    pub row: u64,
+    pub ending: Ending,
+}
+
+// What a row prints behind its number.
+pub enum Line {
+    Nothing,
+    Shown(Graded),
+    Full,
+    Faulty(Refusal),
+}
+
+// The run after a row, and what the row prints.
+pub struct Taken {
+    pub course: Course,
+    pub line: Line,
+}
+
+// A run that has read nothing.
+pub fn begin() -> Course
+    ensures { λ r. ⌜ r ≡ Taking.begin ⌝ }
+{
+    Course {
+        watch: Watch {
+            thresholder: score_rows::settings(),
+            drawer: 0,
+            quiet: 0,
+            raised: 0,
+        },
+        row: 1,
+        ending: Ending::Open,
+    }
+}
+
+// Whether the run goes on.
+pub fn is_open(course: Course) -> bool
+    ensures { λ r. ⌜ r ≡ Taking.isOpen (course .ending) ⌝ }
+{
+    let ending = course.ending;
+    match ending {
+        Ending::Open => true,
+        Ending::Refused(_) => false,
+        Ending::Full => false,
+        Ending::Counted => false,
+    }
+}
+
+// The run that has ended so.
+fn ended(course: Course, ending: Ending) -> Course
+    ensures { λ r. ⌜ r ≡ Taking.ended course ending ⌝ }
+{
+    let watch = course.watch;
+    Course {
+        watch,
+        row: course.row,
+        ending,
+    }
+}
+
+// The run after a row that does not end it. Row numbers stop at the largest that there is.
+fn passed(course: Course, watch: Watch) -> Course
+    ensures { λ r. ⌜ r ≡ Taking.passed course watch ⌝ }
+{
+    let row = course.row;
+    if row < u64::MAX {
+        return Course {
+            watch,
+            row: row + 1,
+            ending: Ending::Open,
+        };
+    }
+    Course {
+        watch,
+        row,
+        ending: Ending::Open,
+    }
+}
+
+// Whether the run watches that drawer: it is the watched one, or none is watched yet.
+fn is_watched(watch: Watch, drawer: u32) -> bool
+    ensures { λ r. ⌜ r ≡ Output.isWatched watch drawer ⌝ }
+{
+    if watch.drawer == 0 {
+        return true;
+    }
+    watch.drawer == drawer
+}
+
+// The watch after a row of its drawer that shows that grade.
+fn judged(watch: Watch, entry: Entry, grade: f32) -> Watch
+    requires { ⌜ watch .quiet + watch .raised < 65536 ⌝ }
+    ensures { λ r. ⌜ r ≡ Output.judgedAt watch entry grade ⌝ }
+{
+    let thresholder = score_rows::counted(watch.thresholder, entry.score);
+    if grade == 0.0 {
+        return Watch {
+            thresholder,
+            drawer: entry.drawer,
+            quiet: watch.quiet + 1,
+            raised: watch.raised,
+        };
+    }
+    Watch {
+        thresholder,
+        drawer: entry.drawer,
+        quiet: watch.quiet,
+        raised: watch.raised + 1,
+    }
+}
+
+// A sound row: judged where it is the watched drawer's, else passed over.
+fn sound(course: Course, entry: Entry) -> Taken
+    ensures { λ r. ⌜ r ≡ Taking.sound course entry ⌝ }
+{
+    let watch = course.watch;
+    if is_watched(watch, entry.drawer) {
+        let rows = watch.quiet as u64 + watch.raised as u64;
+        if rows < MOST_ROWS {
+            let shown = score_rows::shown(watch.thresholder, entry.score);
+            return Taken {
+                course: passed(course, judged(watch, entry, shown.grade)),
+                line: Line::Shown(shown),
+            };
+        }
+        return Taken {
+            course: ended(course, Ending::Full),
+            line: Line::Full,
+        };
+    }
+    Taken {
+        course: passed(course, watch),
+        line: Line::Nothing,
+    }
+}
+
+// A row that an open run meets.
+fn met(course: Course, row: Row) -> Taken
+    ensures { λ r. ⌜ r ≡ Taking.met course row ⌝ }
+{
+    match row {
+        Row::Nothing => Taken {
+            course,
+            line: Line::Nothing,
+        },
+        Row::Header => {
+            let watch = course.watch;
+            Taken {
+                course: passed(course, watch),
+                line: Line::Nothing,
+            }
+        }
+        Row::Sound(entry) => sound(course, entry),
+        Row::Faulty(why) => Taken {
+            course: ended(course, Ending::Refused(why)),
+            line: Line::Faulty(why),
+        },
+    }
+}
+
+// A row of the input; a run that has ended stays as it is.
+pub fn take(course: Course, row: Row) -> Taken
+    ensures { λ r. ⌜ r ≡ Taking.taken course row ⌝ }
+{
+    if is_open(course) {
+        return met(course, row);
+    }
+    Taken {
+        course,
+        line: Line::Nothing,
+    }
+}
+
+// The run whose input has ended, its counts given.
+pub fn total(course: Course) -> Course
+    ensures { λ r. ⌜ r ≡ Taking.totalled course ⌝ }
+{
+    if is_open(course) {
+        return ended(course, Ending::Counted);
+    }
+    course
+}
