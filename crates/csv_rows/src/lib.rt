@@ -18,19 +18,19 @@ pub enum Place {
 
 // A field under way.
 pub struct Token {
-    pub place: Place,
     pub content: Content,
+    pub place: Place,
 }
 
-// A scan between two bytes. It is `over` once a row was faulty. It is in the header's row or below it, in the field of that number from 0 on, 3 standing for all
-// from the fourth on. `good` says that the row's earlier fields are what they should be, and `drawer` is the first of them.
+// A scan between two bytes, in the field of that number from 0 on; 3 stands for all from the fourth on. `drawer` is the row's first field, `good` says that its earlier
+// fields are what they should be, `header` that it is the header's row. The scan is `over` once a row was faulty.
 pub struct Scan {
-    pub over: bool,
-    pub header: bool,
-    pub field: u32,
-    pub good: bool,
-    pub drawer: u32,
     pub token: Token,
+    pub field: u32,
+    pub drawer: u32,
+    pub good: bool,
+    pub header: bool,
+    pub over: bool,
 }
 
 // What a byte does to a field: it is one of the content, and the field goes on at that place; it is none, and the field goes on; it ends the field, and another
@@ -67,8 +67,8 @@ fn start() -> Token
     ensures { λ r. ⌜ r ≡ Scanning.start ⌝ }
 {
     Token {
-        place: Place::Start,
         content: csv_fields::fresh(),
+        place: Place::Start,
     }
 }
 
@@ -76,12 +76,12 @@ fn begin_row(header: bool) -> Scan
     ensures { λ r. ⌜ r ≡ Scanning.beginRow header ⌝ }
 {
     Scan {
-        over: false,
-        header,
-        field: 0,
-        good: true,
-        drawer: 0,
         token: start(),
+        field: 0,
+        drawer: 0,
+        good: true,
+        header,
+        over: false,
     }
 }
 
@@ -273,8 +273,8 @@ fn taken(s: Scan, turn: Turn, c: Content, b: u8) -> Stepped
     match turn {
         Turn::Reads(place) => {
             let token = Token {
-                place,
                 content: csv_fields::push(s.header, s.field, c, b),
+                place,
             };
             scan.token = token;
             Stepped {
@@ -283,7 +283,7 @@ fn taken(s: Scan, turn: Turn, c: Content, b: u8) -> Stepped
             }
         }
         Turn::Waits(place) => {
-            let token = Token { place, content: c };
+            let token = Token { content: c, place };
             scan.token = token;
             Stepped {
                 scan,
