@@ -13,7 +13,7 @@ use Rattle.types.specs.declared.ScoringStrategy.the-variants.{DISTANCE}
 use Rattle.basicthresholder.specs.Const.{zero32, zFactorDefault}
 use Rattle.basicthresholder.specs.declared.Graded.{Graded}
 use Rattle.ledger.specs.Statement.{Told, Shown}
-use Rattle.descriptor.specs.Checks.{answerOf, lengthsOf}
+use Rattle.descriptor.specs.Checks.{answerOf}
 use Rattle.descriptor.specs.Lent.{Lent}
 use Rattle.descriptor.specs.declared.Reading.{Reading}
 use Rattle.descriptor.specs.declared.LastDescriptor.{LastDescriptor}
@@ -104,7 +104,7 @@ zOf cs = zAfter zFactorDefault cs
 -- The refusal table's answer to it, and whether that is a refusal.
 abbrev pub answerAt : PredictorCorrector → Judging → Answer
 answerAt s c =
-    answerOf (c .reading) (c .last) (c .lent) (lengthsOf (c .lent) (length (c .expected)) (length (c .high)) (length (c .low))) (s .«base_dimension») (stateCountsOk s)
+    answerOf (c .reading) (c .last) (c .lent) (length (c .expected)) (length (c .high)) (length (c .low)) (s .«base_dimension») (stateCountsOk s)
 
 abbrev pub isRefusal : Answer → Bool
 isRefusal Answers.Done = false

@@ -111,7 +111,7 @@ module _ (xs : List ℕ) (c : Judging) where
   byValue = outcome stateOf readingOf lastOf (c .lent) (length (c .expected)) (length (c .high)) (length (c .low))
 
   abbrev pub answerBy : Answer
-  answerBy = answerOf readingOf lastOf (c .lent) (lengthsOf (c .lent) (length (c .expected)) (length (c .high)) (length (c .low))) (stateOf .«base_dimension») (stateCountsOk stateOf)
+  answerBy = answerOf readingOf lastOf (c .lent) (length (c .expected)) (length (c .high)) (length (c .low)) (stateOf .«base_dimension») (stateCountsOk stateOf)
 
   abbrev pub slices : Bool
   slices = slicesOk (length xs) (length (c .reading)) (length (c .last)) (eqb (length (c .verdict)) verdictLength)

@@ -73,7 +73,7 @@ in-turn (suc n) xs = (
 
 -- ---- by value
 abbrev answerFrom : PredictorCorrector → Answer
-answerFrom s = answerOf (decodeReading reading) (decodeLast last) buffers (lengthsOf buffers 1 1 1) (s .«base_dimension») (stateCountsOk s)
+answerFrom s = answerOf (decodeReading reading) (decodeLast last) buffers 1 1 1 (s .«base_dimension») (stateCountsOk s)
 
 abbrev nextFrom : PredictorCorrector → PredictorCorrector
 nextFrom s = after (decodeReading reading) (decodeLast last) buffers s (verdict (decodeReading reading) (decodeLast last) buffers s)

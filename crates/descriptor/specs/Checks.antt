@@ -115,11 +115,12 @@ isLater seen hasAnomaly lastSeen = cond hasAnomaly (ltb lastSeen seen) true
 unfoldable pub seenOk : ℕ → Bool → ℕ → Bool
 seenOk seen hasAnomaly lastSeen = leb 1 seen && (leb seen 16777216 && isLater seen hasAnomaly lastSeen)
 
--- The answer to a reading: the smallest number of the table that applies. n has the lengths; countsOk is refusal 6's test, of the state.
-unfoldable pub answerOf : Reading → LastDescriptor → Lent → Lengths → ℕ → Bool → Answer
-answerOf r l b n stateBase countsOk =
+-- The answer to a reading: the smallest number of the table that applies. Of the three buffers that are written only the lengths are looked at; countsOk is
+-- refusal 6's test, of the state.
+unfoldable pub answerOf : Reading → LastDescriptor → Lent → (expected outHigh outLow stateBase : ℕ) → Bool → Answer
+answerOf r l b expected outHigh outLow stateBase countsOk =
     cond (rangeOk (r .«shingle_size») (r .«base_dimension») stateBase)
-    (cond (lengthsOk r l n)
+    (cond (lengthsOk r l (lengthsOf b expected outHigh outLow))
     (cond (finiteOk r l b)
     (cond (seenOk (r .«values_seen») (l .«has_anomaly») (l .anomaly .«values_seen»))
     (cond countsOk Done (Refused Count))

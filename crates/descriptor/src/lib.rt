@@ -323,12 +323,11 @@ fn finite_ok(
                         & all_finite_f32(neighbours)))))
 }
 
-// The answer to a reading: the smallest refusal of document 01's table that applies. The lengths are handed over beside the slices, since those to be written are
-// not lent here; `counts_ok` is refusal 6's test, which the state's owner makes.
+// The answer to a reading: the smallest refusal of document 01's table that applies. Of the three slices to be written, which are not lent here, the lengths are
+// handed over; `counts_ok` is refusal 6's test, which the state's owner makes.
 pub fn answer(
     r: Reading,
     l: LastDescriptor,
-    n: Lengths,
     point: &[f32],
     scale: &[f32],
     shift: &[f32],
@@ -341,15 +340,35 @@ pub fn answer(
     ideal_high: &[f64],
     ideal_low: &[f64],
     neighbours: &[f32],
+    expected: usize,
+    out_high: usize,
+    out_low: usize,
     state_base: usize,
     counts_ok: bool,
 ) -> Answer
     ensures { λ a. ⌜ a ≡ Checks.answerOf r l (lent
         (now (point .entry)) (now (scale .entry)) (now (shift .entry)) (now («difference_deviations» .entry))
         (now («last_expected» .entry)) (now («last_anomalous» .entry)) (now (high .entry)) (now (low .entry))
-        (now (median .entry)) (now («ideal_high» .entry)) (now («ideal_low» .entry)) (now (neighbours .entry))) n «state_base» «counts_ok» ⌝ }
+        (now (median .entry)) (now («ideal_high» .entry)) (now («ideal_low» .entry)) (now (neighbours .entry))) expected «out_high» «out_low» «state_base» «counts_ok» ⌝ }
 {
     let anomaly = l.anomaly;
+    let n = Lengths {
+        point: point.len(),
+        scale: scale.len(),
+        shift: shift.len(),
+        difference_deviations: difference_deviations.len(),
+        last_expected: last_expected.len(),
+        last_anomalous: last_anomalous.len(),
+        high: high.len(),
+        low: low.len(),
+        median: median.len(),
+        ideal_high: ideal_high.len(),
+        ideal_low: ideal_low.len(),
+        neighbours: neighbours.len(),
+        expected,
+        out_high,
+        out_low,
+    };
     if range_ok(r.shingle_size, r.base_dimension, state_base) {
         if lengths_ok(r, l, n) {
             if finite_ok(

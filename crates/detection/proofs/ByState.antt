@@ -15,7 +15,7 @@ use Rattle.attributors.proofs.Laws.{take-padded}
 use Rattle.deviation.specs.Const.{zero64}
 use Rattle.deviation.specs.Statistics.{fresh}
 use Rattle.corrector.proofs.Kept.{expected-length}
-use Rattle.descriptor.specs.Checks.{answerOf, lengthsOf, rangeOk}
+use Rattle.descriptor.specs.Checks.{answerOf, rangeOk}
 use Rattle.descriptor.specs.Lent.{Lent}
 use Rattle.descriptor.specs.declared.Reading.{Reading}
 use Rattle.descriptor.specs.declared.LastDescriptor.{LastDescriptor}
@@ -79,7 +79,7 @@ module _ (r : Reading) (l : LastDescriptor) (b : Lent) where
 
     module _ (e h w : ℕ) where
       answer : Answer
-      answer = answerOf r l b (lengthsOf b e h w) (s .«base_dimension») (stateCountsOk s)
+      answer = answerOf r l b e h w (s .«base_dimension») (stateCountsOk s)
 
       outcome-by : (a : Answer) → answer ≡ a
           → outcomeOf (decided r l b (s .«basic_thresholder») (s .«auto_adjust») (driftOf r l b (standing s) (opening (s .«basic_thresholder») r (r .score) .threshold))) a ≡ outcomeOf (verdict r l b s) a
@@ -97,7 +97,7 @@ module _ (r : Reading) (l : LastDescriptor) (b : Lent) where
 
   -- ---- the state after it
   module _ (k : Standing) (e h w : ℕ) where
-    fitting-by : (v : Verdict) (a : Answer) → answerOf r l b (lengthsOf b e h w) (k .«base_dimension») (k .«counts_ok») ≡ a → Fitting r (length (b .point)) (outcomeOf v a)
+    fitting-by : (v : Verdict) (a : Answer) → answerOf r l b e h w (k .«base_dimension») (k .«counts_ok») ≡ a → Fitting r (length (b .point)) (outcomeOf v a)
     unfolding outcomeOf
     fitting-by v Answers.Done q =
         let f = branching r l b (k .«base_dimension») e h w (k .«counts_ok») q in
@@ -107,9 +107,9 @@ module _ (r : Reading) (l : LastDescriptor) (b : Lent) where
     -- What an outcome gives the change of the state.
     pub fitting : (o : Outcome) → o ≡ decision r l b k e h w → Fitting r (length (b .point)) o
     unfolding decision
-    fitting o q = subst (Fitting r (length (b .point))) (sym q) (fitting-by _ (answerOf r l b (lengthsOf b e h w) (k .«base_dimension») (k .«counts_ok»)) refl)
+    fitting o q = subst (Fitting r (length (b .point))) (sym q) (fitting-by _ (answerOf r l b e h w (k .«base_dimension») (k .«counts_ok»)) refl)
 
-    accepted-by : (v x : Verdict) (a : Answer) → answerOf r l b (lengthsOf b e h w) (k .«base_dimension») (k .«counts_ok») ≡ a → outcomeOf v a ≡ Accepted x
+    accepted-by : (v x : Verdict) (a : Answer) → answerOf r l b e h w (k .«base_dimension») (k .«counts_ok») ≡ a → outcomeOf v a ≡ Accepted x
         → (rangeOk (r .«shingle_size») (r .«base_dimension») (k .«base_dimension») ≡ true) × (k .«counts_ok» ≡ true)
     unfolding outcomeOf
     accepted-by v x Answers.Done q o = (in-range r l b (k .«base_dimension») e h w (k .«counts_ok») q, counts-ok r l b (k .«base_dimension») e h w (k .«counts_ok») q)
@@ -118,7 +118,7 @@ module _ (r : Reading) (l : LastDescriptor) (b : Lent) where
     -- What an accepted reading gives the change of a stored state.
     pub accepted : (o : Outcome) (x : Verdict) → o ≡ decision r l b k e h w → o ≡ Accepted x → (rangeOk (r .«shingle_size») (r .«base_dimension») (k .«base_dimension») ≡ true) × (k .«counts_ok» ≡ true)
     unfolding decision
-    accepted o x q p = accepted-by _ x (answerOf r l b (lengthsOf b e h w) (k .«base_dimension») (k .«counts_ok»)) refl (sym q ∙ p)
+    accepted o x q p = accepted-by _ x (answerOf r l b e h w (k .«base_dimension») (k .«counts_ok»)) refl (sym q ∙ p)
 
     module _ (s : PredictorCorrector) (row : List Float) where
       counted-is : Branching r l b → row ≡ newestExpected r l b → (t : Float) → rowsCounted s r l t (b .point) row ≡ candidateState r l b s t
@@ -136,7 +136,7 @@ module _ (r : Reading) (l : LastDescriptor) (b : Lent) where
       after-is f (Raised t g) q = ap (λ (x : PredictorCorrector). entered (runGrown x) r l (correctedScore r l)) (counted-is f q t)
       after-is f Skipped q = refl
 
-      state-by : (v : Verdict) (a : Answer) → answerOf r l b (lengthsOf b e h w) (k .«base_dimension») (k .«counts_ok») ≡ a → row ≡ rowAfter r l b (outcomeOf v a)
+      state-by : (v : Verdict) (a : Answer) → answerOf r l b e h w (k .«base_dimension») (k .«counts_ok») ≡ a → row ≡ rowAfter r l b (outcomeOf v a)
           → stateRows s r l (b .point) row (outcomeOf v a) ≡ stateAfter s r l b (outcomeOf v a)
       unfolding outcomeOf stateRows stateAfter
       state-by v Answers.Done q p = after-is (branching r l b (k .«base_dimension») e h w (k .«counts_ok») q) v p
@@ -144,7 +144,7 @@ module _ (r : Reading) (l : LastDescriptor) (b : Lent) where
 
       state-is : row ≡ rowAfter r l b (decision r l b k e h w) → stateRows s r l (b .point) row (decision r l b k e h w) ≡ stateAfter s r l b (decision r l b k e h w)
       unfolding decision
-      state-is p = state-by _ (answerOf r l b (lengthsOf b e h w) (k .«base_dimension») (k .«counts_ok»)) refl p
+      state-is p = state-by _ (answerOf r l b e h w (k .«base_dimension») (k .«counts_ok»)) refl p
 
 -- ---- the contract of a judgment
 module _ (s : PredictorCorrector) (long : length (s .«deviations_actual») ≡ 16) (long′ : length (s .«deviations_expected») ≡ 16) (r : Reading) (l : LastDescriptor) (b : Lent) where

@@ -108,7 +108,7 @@ row-apart k shingle base h = go (eq-or-lt-of-le h)
     go (inl e) = let p : (k + 1) * base ≡ shingle * base = ap (λ (n : ℕ). n * base) (let q : k + 1 ≡ shingle = omega arith in q) in inl (omega arith)
     go (inr i) = let p : (k + 2) * base ≤ shingle * base = mul-le-mul-right base (let q : k + 2 ≤ shingle = omega arith in q) in inr (omega arith)
 
-module _ (r : Reading) (l : LastDescriptor) (b : Lent) (stateBase e h w : ℕ) (ok : Bool) (accepted : answerOf r l b (lengthsOf b e h w) stateBase ok ≡ Done) where
+module _ (r : Reading) (l : LastDescriptor) (b : Lent) (stateBase e h w : ℕ) (ok : Bool) (accepted : answerOf r l b e h w stateBase ok ≡ Done) where
   tests : Passed (rangeOk (r .«shingle_size») (r .«base_dimension») stateBase) (lengthsOk r l (lengthsOf b e h w)) (finiteOk r l b) (seenOk (r .«values_seen») (l .«has_anomaly») (l .anomaly .«values_seen»)) ok
   unfolding answerOf
   tests = passed _ _ _ _ _ accepted
@@ -246,7 +246,7 @@ module _ (r : Reading) (l : LastDescriptor) (b : Lent) (stateBase e h w : ℕ) (
       }
 
 -- What the way up to the noise pass asks, by the answer.
-pub accepting : (r : Reading) (l : LastDescriptor) (b : Lent) (stateBase e h w : ℕ) (ok : Bool) (a : Answer) → a ≡ answerOf r l b (lengthsOf b e h w) stateBase ok
+pub accepting : (r : Reading) (l : LastDescriptor) (b : Lent) (stateBase e h w : ℕ) (ok : Bool) (a : Answer) → a ≡ answerOf r l b e h w stateBase ok
     → Accepting r l (passing (b .point) (b .scale) (b .shift) (b .«difference_deviations») (b .«last_expected») (b .«last_anomalous»)) a
 accepting r l b stateBase e h w ok Done said = for-noise r l b stateBase e h w ok (sym said)
 accepting r l b stateBase e h w ok (Refused why) said = tt

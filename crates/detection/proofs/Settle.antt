@@ -18,7 +18,7 @@ use Rattle.divector.proofs.Laws.{one-length-true}
 use Rattle.corrector.specs.Corrector.{expectedRow, writeRow}
 use Rattle.corrector.specs.Steps.{Expecting}
 use Rattle.corrector.proofs.Rows.{written-row}
-use Rattle.descriptor.specs.Checks.{answerOf, lengthsOf}
+use Rattle.descriptor.specs.Checks.{answerOf}
 use Rattle.descriptor.specs.Lent.{Lent}
 use Rattle.descriptor.specs.declared.Reading.{Reading}
 use Rattle.descriptor.specs.declared.LastDescriptor.{LastDescriptor}
@@ -102,7 +102,7 @@ module _ (k : Standing) (r : Reading) (l : LastDescriptor) (b : Lent) where
   way-ended (Answers.Refused why) = refl
 
   -- ---- from what a way left to the contract
-  pub way-decided : (j : Decision) (e h w e′ h′ w′ : List Float) (a : Answer) → a ≡ answerOf r l b (lengthsOf b (length e) (length h) (length w)) (k .«base_dimension») (k .«counts_ok»)
+  pub way-decided : (j : Decision) (e h w e′ h′ w′ : List Float) (a : Answer) → a ≡ answerOf r l b (length e) (length h) (length w) (k .«base_dimension») (k .«counts_ok»)
       → (y z : Way) → y ≡ way r l b (k .«basic_thresholder») a → y ≡ z
       → Decided r l b (ended z) j e h w e′ h′ w′ → Decided r l b (decision r l b k (length e) (length h) (length w)) j e h w e′ h′ w′
   unfolding decision
@@ -153,7 +153,7 @@ module _ (k : Standing) (r : Reading) (l : LastDescriptor) (b : Lent) where
   past-done t g Answers.Done h = refl
   past-done t g (Answers.Refused why) h = absurd (let z : _≡_ {A = ℕ} 0 1 = cc in omega arith)
 
-  pub past-fits : (e h w : ℕ) (a : Answer) → a ≡ answerOf r l b (lengthsOf b e h w) (k .«base_dimension») (k .«counts_ok»)
+  pub past-fits : (e h w : ℕ) (a : Answer) → a ≡ answerOf r l b e h w (k .«base_dimension») (k .«counts_ok»)
       → (y : Way) (t g : Float) → y ≡ way r l b (k .«basic_thresholder») a → y ≡ Ways.Past t g
       → Branching r l (late (b .point) (b .scale) (b .shift) (b .«difference_deviations») (b .high) (b .low) (b .median) (b .«ideal_high») (b .«ideal_low») (b .neighbours))
       × Writing (late (b .point) (b .scale) (b .shift) (b .«difference_deviations») (b .high) (b .low) (b .median) (b .«ideal_high») (b .«ideal_low») (b .neighbours)) e h w

@@ -9,7 +9,7 @@ use Rattle.attributors.specs.Attributors.{padded}
 use Rattle.deviation.specs.Const.{zero64}
 use Rattle.deviation.specs.Statistics.{fresh}
 use Rattle.divector.specs.DiVector.{normalized}
-use Rattle.descriptor.specs.Checks.{answerOf, lengthsOf}
+use Rattle.descriptor.specs.Checks.{answerOf}
 use Rattle.descriptor.specs.Lent.{Lent}
 use Rattle.descriptor.specs.declared.Reading.{Reading}
 use Rattle.descriptor.specs.declared.LastDescriptor.{LastDescriptor}
@@ -54,7 +54,7 @@ module _ (r : Reading) (l : LastDescriptor) (b : Lent) where
     unfoldable pub decision : ℕ → ℕ → ℕ → Outcome
     decision e h w =
         outcomeOf (decided r l b (k .«basic_thresholder») (k .«auto_adjust») (driftOf (opening (k .«basic_thresholder») r (r .score) .threshold)))
-        (answerOf r l b (lengthsOf b e h w) (k .«base_dimension») (k .«counts_ok»))
+        (answerOf r l b e h w (k .«base_dimension») (k .«counts_ok»))
 
   -- What judging leaves for the outcome o: the buffers e (expected point), h and w (normalised attribution) at entry, e′, h′ and w′ at exit.
   pub record Decided (o : Outcome) (j : Decision) (e h w e′ h′ w′ : List Float) : Type 0 where

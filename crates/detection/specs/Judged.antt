@@ -9,7 +9,7 @@ use Rattle.types.specs.Refusals.{number}
 use Rattle.types.specs.declared.Answer.{Answer}
 use Rattle.types.specs.declared.Answer.the-variants as Answers
 use Rattle.divector.specs.DiVector.{normalized}
-use Rattle.descriptor.specs.Checks.{answerOf, lengthsOf}
+use Rattle.descriptor.specs.Checks.{answerOf}
 use Rattle.descriptor.specs.Lent.{Lent}
 use Rattle.descriptor.specs.declared.Reading.{Reading}
 use Rattle.descriptor.specs.declared.LastDescriptor.{LastDescriptor}
@@ -34,7 +34,7 @@ outcomeOf v (Answers.Refused why) = Refused why
 module _ (s : PredictorCorrector) (r : Reading) (l : LastDescriptor) (b : Lent) where
   -- The three numbers are the lengths of the buffers that may be written.
   unfoldable pub outcome : ℕ → ℕ → ℕ → Outcome
-  outcome e h w = outcomeOf (verdict r l b s) (answerOf r l b (lengthsOf b e h w) (s .«base_dimension») (stateCountsOk s))
+  outcome e h w = outcomeOf (verdict r l b s) (answerOf r l b e h w (s .«base_dimension») (stateCountsOk s))
 
   -- A refusal leaves state and buffers as they came.
   unfoldable pub stateAfter : Outcome → PredictorCorrector

@@ -2,7 +2,6 @@
 use basicthresholder::BasicThresholder;
 use basicthresholder::Graded;
 use descriptor::LastDescriptor;
-use descriptor::Lengths;
 use descriptor::Reading;
 use predictorcorrector::PredictorCorrector;
 use predictorcorrector::Standing;
@@ -470,27 +469,9 @@ pub fn judge(
         (length (now («out_low» .entry)))) j (now (expected .entry)) (now («out_high» .entry)) (now («out_low» .entry)) (now (expected .exit))
         (now («out_high» .exit)) (now («out_low» .exit)) ⌝ }
 {
-    let lengths = Lengths {
-        point: point.len(),
-        scale: scale.len(),
-        shift: shift.len(),
-        difference_deviations: difference_deviations.len(),
-        last_expected: last_expected.len(),
-        last_anomalous: last_anomalous.len(),
-        high: high.len(),
-        low: low.len(),
-        median: median.len(),
-        ideal_high: ideal_high.len(),
-        ideal_low: ideal_low.len(),
-        neighbours: neighbours.len(),
-        expected: expected.len(),
-        out_high: out_high.len(),
-        out_low: out_low.len(),
-    };
     let answer = descriptor::answer(
         r,
         l,
-        lengths,
         point,
         scale,
         shift,
@@ -503,6 +484,9 @@ pub fn judge(
         ideal_high,
         ideal_low,
         neighbours,
+        expected.len(),
+        out_high.len(),
+        out_low.len(),
         k.base_dimension,
         k.counts_ok,
     );

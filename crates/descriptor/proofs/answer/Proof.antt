@@ -1,5 +1,5 @@
 use mathlib.Core.Path.{_∙_, sym}
-use Rattle.descriptor.specs.Checks.{answerOf}
+use Rattle.descriptor.specs.Checks.{answerOf, lengthsOf}
 use borrow.Author.Needs.{needs}
 use Rattle.descriptor.proofs.answer.Statement.{statement}
 use Rattle.descriptor.proofs.answer.Tie as tie
@@ -17,27 +17,27 @@ seen-ok-requires : tie.Need-seen-ok-requires
 seen-ok-requires c κs = search needs
 
 returns : tie.Need-returns
-unfolding answerOf
+unfolding answerOf lengthsOf
 returns c = simp (sym (c .before .before .before .before .before .before .before .before .range-ok .ensures) ∙ c .before .before .before .before .before .before .before .if1 .taken, sym (c .before .before .before .before .before .before .lengths-ok .ensures) ∙ c .before .before .before .before .before .if2 .taken, sym (c .before .before .before .before .finite-ok .ensures) ∙ c .before .before .before .if3 .taken, sym (c .before .before .seen-ok .ensures) ∙ c .before .if4 .taken, c .if5 .taken)
 
 returns-2 : tie.Need-returns-2
-unfolding answerOf
+unfolding answerOf lengthsOf
 returns-2 c = simp (sym (c .before .before .before .before .before .before .before .before .range-ok .ensures) ∙ c .before .before .before .before .before .before .before .if1 .taken, sym (c .before .before .before .before .before .before .lengths-ok .ensures) ∙ c .before .before .before .before .before .if2 .taken, sym (c .before .before .before .before .finite-ok .ensures) ∙ c .before .before .before .if3 .taken, sym (c .before .before .seen-ok .ensures) ∙ c .before .if4 .taken, c .if5 .left)
 
 returns-3 : tie.Need-returns-3
-unfolding answerOf
+unfolding answerOf lengthsOf
 returns-3 c = simp (sym (c .before .before .before .before .before .before .before .range-ok .ensures) ∙ c .before .before .before .before .before .before .if1 .taken, sym (c .before .before .before .before .before .lengths-ok .ensures) ∙ c .before .before .before .before .if2 .taken, sym (c .before .before .before .finite-ok .ensures) ∙ c .before .before .if3 .taken, sym (c .before .seen-ok .ensures) ∙ c .if4 .left)
 
 returns-4 : tie.Need-returns-4
-unfolding answerOf
+unfolding answerOf lengthsOf
 returns-4 c = simp (sym (c .before .before .before .before .before .range-ok .ensures) ∙ c .before .before .before .before .if1 .taken, sym (c .before .before .before .lengths-ok .ensures) ∙ c .before .before .if2 .taken, sym (c .before .finite-ok .ensures) ∙ c .if3 .left)
 
 returns-5 : tie.Need-returns-5
-unfolding answerOf
+unfolding answerOf lengthsOf
 returns-5 c = simp (sym (c .before .before .before .range-ok .ensures) ∙ c .before .before .if1 .taken, sym (c .before .lengths-ok .ensures) ∙ c .if2 .left)
 
 returns-6 : tie.Need-returns-6
-unfolding answerOf
+unfolding answerOf lengthsOf
 returns-6 c = simp (sym (c .before .range-ok .ensures) ∙ c .if1 .left)
 
 pub answer-spec : {M : Type 1} → statement M

@@ -1,7 +1,6 @@
 use mathlib.Core.Path.{_∙_}
 use denote.Ref.{now}
 use lib.ListN.{length}
-use Rattle.descriptor.specs.Checks.{lengthsOf}
 use Rattle.descriptor.specs.Lent.{lent}
 use Rattle.detection.proofs.Entry.{accepting}
 use Rattle.detection.proofs.Modes.{not-drift}
@@ -23,7 +22,6 @@ answer-requires : tie.Need-answer-requires
 answer-requires c κs = search needs
 
 find-way-requires : tie.Need-find-way-requires
-unfolding lengthsOf
 find-way-requires c κs =
     let a = c .before .before .before .before .before .before .before .before .before .before .before .before .before .before .before .before .args in
     let b = lent (now (a .point)) (now (a .scale)) (now (a .shift)) (now (a .difference-deviations)) (now (a .last-expected)) (now (a .last-anomalous)) (now (a .high)) (now (a .low)) (now (a .median)) (now (a .ideal-high)) (now (a .ideal-low)) (now (a .neighbours)) in
@@ -57,14 +55,13 @@ enum-known-way-4 : tie.Need-enum-known-way-4
 enum-known-way-4 c = search needs
 
 past-noise-requires : tie.Need-past-noise-requires
-unfolding lengthsOf
 past-noise-requires c κs =
     let a = c .before .before .before .before .before .before .before .before .before .before .before .before .before .before .before .before .before .before .before .before .before .before .before .args in
     let b = lent (now (a .point)) (now (a .scale)) (now (a .shift)) (now (a .difference-deviations)) (now (a .last-expected)) (now (a .last-anomalous)) (now (a .high)) (now (a .low)) (now (a .median)) (now (a .ideal-high)) (now (a .ideal-low)) (now (a .neighbours)) in
     past-fits (a .k) (a .r) (a .l) b (length (now (a .expected))) (length (now (a .out-high))) (length (now (a .out-low))) (c .before .before .before .before .before .before .before .answer .result) (c .before .before .before .before .before .before .before .answer .ensures) (c .before .before .before .before .before .before .find-way .result) _ _ (c .before .before .before .before .before .before .find-way .ensures ∙ way-lent (a .r) (a .l) b (a .k .«basic_thresholder») (c .before .before .before .before .before .before .before .answer .result)) (c .before .before .before .before .way4 .given .1)
 
 returns : tie.Need-returns
-unfolding lengthsOf ended
+unfolding ended
 returns c =
     let a = c .before .before .before .before .before .before .before .before .before .before .before .before .before .before .before .before .before .before .before .before .before .args in
     let b = lent (now (a .point)) (now (a .scale)) (now (a .shift)) (now (a .difference-deviations)) (now (a .last-expected)) (now (a .last-anomalous)) (now (a .high)) (now (a .low)) (now (a .median)) (now (a .ideal-high)) (now (a .ideal-low)) (now (a .neighbours)) in
@@ -72,7 +69,7 @@ returns c =
     (calm-left (a .r) (a .l) b (now (a .expected)) (now (a .out-high)) (now (a .out-low)) (Refused _) _ tt (c .without-row .ensures))
 
 returns-2 : tie.Need-returns-2
-unfolding lengthsOf ended
+unfolding ended
 returns-2 c =
     let a = c .before .before .before .before .before .before .before .before .before .before .before .before .before .before .before .before .before .before .before .before .args in
     let b = lent (now (a .point)) (now (a .scale)) (now (a .shift)) (now (a .difference-deviations)) (now (a .last-expected)) (now (a .last-anomalous)) (now (a .high)) (now (a .low)) (now (a .median)) (now (a .ideal-high)) (now (a .ideal-low)) (now (a .neighbours)) in
@@ -80,7 +77,7 @@ returns-2 c =
     (calm-left (a .r) (a .l) b (now (a .expected)) (now (a .out-high)) (now (a .out-low)) (Accepted Skipped) _ tt (c .without-row2 .ensures))
 
 returns-3 : tie.Need-returns-3
-unfolding lengthsOf ended
+unfolding ended
 returns-3 c =
     let a = c .before .before .before .before .before .before .before .before .before .before .before .before .before .before .before .before .before .before .before .before .before .args in
     let b = lent (now (a .point)) (now (a .scale)) (now (a .shift)) (now (a .difference-deviations)) (now (a .last-expected)) (now (a .last-anomalous)) (now (a .high)) (now (a .low)) (now (a .median)) (now (a .ideal-high)) (now (a .ideal-low)) (now (a .neighbours)) in
@@ -88,7 +85,7 @@ returns-3 c =
     (calm-left (a .r) (a .l) b (now (a .expected)) (now (a .out-high)) (now (a .out-low)) (Accepted (Quiet _)) _ tt (c .without-row3 .ensures))
 
 returns-4 : tie.Need-returns-4
-unfolding lengthsOf ended
+unfolding ended
 returns-4 c =
     let a = c .before .before .before .before .before .before .before .before .before .before .before .before .before .before .before .before .before .before .before .before .before .args in
     let b = lent (now (a .point)) (now (a .scale)) (now (a .shift)) (now (a .difference-deviations)) (now (a .last-expected)) (now (a .last-anomalous)) (now (a .high)) (now (a .low)) (now (a .median)) (now (a .ideal-high)) (now (a .ideal-low)) (now (a .neighbours)) in
@@ -105,7 +102,6 @@ same-length-3 : tie.Need-same-length-3
 same-length-3 c = search needs
 
 returns-5 : tie.Need-returns-5
-unfolding lengthsOf
 returns-5 c =
     let a = c .before .before .before .before .before .before .before .before .before .before .before .before .before .before .before .before .before .before .before .before .before .before .before .before .before .before .before .before .before .before .args in
     let b = lent (now (a .point)) (now (a .scale)) (now (a .shift)) (now (a .difference-deviations)) (now (a .last-expected)) (now (a .last-anomalous)) (now (a .high)) (now (a .low)) (now (a .median)) (now (a .ideal-high)) (now (a .ideal-low)) (now (a .neighbours)) in
