@@ -41,7 +41,7 @@ module _ (s : PredictorCorrector) (r : Reading) (l : LastDescriptor) (b : Lent) 
       (λ c. either drift _ _ (λ c. corrected o _ e) (λ c. raised o g e k))))
 
   past-opening : eq (opened s r .grade) zero32 ≡ false → Shows (opened s r) (gradedVerdict r l b (s .«basic_thresholder») (s .«auto_adjust») (isDataDrift r l b s (opened s r .threshold)) (opened s r .threshold) (opened s r .grade))
-  unfolding gradedVerdict
+  unfolding gradedVerdict recent
   past-opening e =
       let o = opened s r in
       either (recent r l b && eq (opening (s .«basic_thresholder») r (r .«corrected_score») .grade) zero32) _ _ (λ c. corrected o _ e)

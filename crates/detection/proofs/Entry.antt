@@ -168,7 +168,7 @@ module _ (r : Reading) (l : LastDescriptor) (b : Lent) (stateBase e h w : ℕ) (
   gapped = gap-above (r .«values_seen») (l .«has_anomaly») (l .anomaly .«values_seen») (tests .seen)
 
   block-below : block r l b < r .«shingle_size»
-  unfolding block
+  unfolding block gap
   block-below =
       let z = sizes (r .«shingle_size») (r .«base_dimension») sized in
       let n = fits in

@@ -94,7 +94,7 @@ module _ (k : Standing) (r : Reading) (l : LastDescriptor) (b : Lent) where
   verdictBy = decided r l b (k .«basic_thresholder») (k .«auto_adjust») (driftOf r l b k (opening (k .«basic_thresholder») r (r .score) .threshold))
 
   way-ended : (a : Answer) → ended (way r l b (k .«basic_thresholder») a) ≡ outcomeOf verdictBy a
-  unfolding way acceptedWay decided gradedVerdict ended lateOutcome outcomeOf
+  unfolding way acceptedWay decided gradedVerdict ended lateOutcome outcomeOf recent
   way-ended Answers.Done =
       let g = opening (k .«basic_thresholder») r (r .score) in
       picks (Ieee.eq (r .score) zero32) (Ieee.eq (g .grade) zero32) _ _ _ _ _ _ refl refl

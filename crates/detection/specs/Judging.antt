@@ -12,7 +12,6 @@ use Rattle.types.specs.Codes.{isDifferenced}
 use Rattle.types.specs.declared.CorrectionMode.{CorrectionMode}
 use Rattle.types.specs.declared.CorrectionMode.the-variants.{NONE, NOISE, «MULTI_MODE», «ANOMALY_IN_SHINGLE», «CONDITIONAL_FORECAST», FORECAST, «DATA_DRIFT»}
 use Rattle.basicthresholder.specs.declared.BasicThresholder.{BasicThresholder}
-use Rattle.divector.specs.DiVector.{maxGapContribution}
 use Rattle.uncertainty_box.specs.Box.{uncertaintyBox, withinUnertaintyBox, explainedByConditionalField}
 use Rattle.uncertainty_box.specs.Pass.{centeredTransformPass}
 use Rattle.corrector.specs.Corrector.{applyBasicCorrector, expectedPoint, trigger}
@@ -21,6 +20,7 @@ use Rattle.descriptor.specs.declared.Reading.{Reading}
 use Rattle.descriptor.specs.declared.LastDescriptor.{LastDescriptor}
 use Rattle.predictorcorrector.specs.State.{runEnded, autoAdjusted, runGrown}
 use Rattle.predictorcorrector.specs.declared.PredictorCorrector.{PredictorCorrector}
+use Rattle.scoring.specs.Scores as Scores
 unfoldable pub use Rattle.scoring.specs.Scores.{gapOf, isRecent, opening, correctedScore, updateScore, entered, blockOf}
 unfoldable pub use Rattle.candidate.specs.Candidate.{isCandidate, candidateWith, isDrift}
 use Rattle.detection.specs.Const.{zero32}
@@ -39,10 +39,10 @@ isDriftMode «DATA_DRIFT» = true
 
 module _ (r : Reading) (l : LastDescriptor) (b : Lent) where
   unfoldable pub gap : ℕ
-  gap = gapOf (r .«values_seen») (l .«has_anomaly») (l .anomaly .«values_seen»)
+  gap = Scores.gap r l
 
   unfoldable pub recent : Bool
-  recent = isRecent (l .«has_anomaly») gap (r .«shingle_size»)
+  recent = Scores.recent r l
 
   -- The point with the last anomaly's effect taken out.
   unfoldable pub correctedPoint : List Float
@@ -56,7 +56,7 @@ module _ (r : Reading) (l : LastDescriptor) (b : Lent) where
 
   -- The block that contributes most, and where it starts.
   unfoldable pub block : ℕ
-  block = blockOf (maxGapContribution (b .high) (b .low) (r .«base_dimension») gap)
+  block = Scores.anomalyBlock r l (b .high) (b .low)
 
   unfoldable pub start : ℕ
   start = block * r .«base_dimension»
@@ -105,14 +105,14 @@ module _ (r : Reading) (l : LastDescriptor) (b : Lent) where
   unfoldable pub gradedVerdict : BasicThresholder → (auto drift : Bool) → Float → Float → Verdict
   gradedVerdict t auto drift threshold grade =
       let working = Ieee.mul binary32 grade noisePass in
-      cond (recent && Ieee.eq (opening t r (r .«corrected_score») .grade) zero32) (Corrected threshold «ANOMALY_IN_SHINGLE»)
+      cond (Scores.correctedQuiet t r l) (Corrected threshold «ANOMALY_IN_SHINGLE»)
       (cond (Ieee.eq working zero32) (Corrected threshold NOISE) (lateVerdict auto drift threshold working))
 
   -- The way of an accepted reading.
   unfoldable pub decided : BasicThresholder → (auto drift : Bool) → Verdict
   decided t auto drift =
       let opened = opening t r (r .score) in
-      cond (Ieee.eq (r .score) zero32) Skipped
+      cond (Scores.isSkipped (r .score)) Skipped
       (cond (Ieee.eq (opened .grade) zero32) (Quiet (opened .threshold)) (gradedVerdict t auto drift (opened .threshold) (opened .grade)))
 
   -- What the watch says of it.
