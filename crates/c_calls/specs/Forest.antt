@@ -18,7 +18,7 @@ use Rattle.calls.specs.declared.Asked.{Asked}
 
 -- What is asked for by what was read.
 unfoldable pub askedBy : CallRead → Asked
-askedBy (Read core r l) = Calls.askedOfForest (core .«auto_adjust») (core .«base_dimension») r l
+askedBy (Read k r l) = Calls.askedOfForest (k .«auto_adjust») (k .«base_dimension») r l
 askedBy (Refused why) = unasked why
 
 -- What is answered; out is the length of the slice that takes the five numbers.

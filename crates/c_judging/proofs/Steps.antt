@@ -23,8 +23,8 @@ use Rattle.divector.specs.DiVector.{normalized}
 use Rattle.detection.specs.Judging.{expected}
 use Rattle.detection.specs.Judged.{Judged, outcome, outcomeOf, outcomeNumber, stateAfter, indexAfter, written}
 use Rattle.detection.specs.Decided.{Decided, decision}
-use Rattle.detection.specs.Steps.{Counting, Fitting}
-use Rattle.detection.specs.Decided.{afterRows, stateRows}
+use Rattle.detection.specs.Steps.{Counting, Fitting, stateRows}
+use Rattle.detection.specs.Decided.{afterRows}
 use Rattle.detection.specs.declared.Decision.{Decision}
 use Rattle.predictorcorrector.specs.declared.Standing.{Standing}
 use Rattle.detection.specs.declared.Verdict.{Verdict}

@@ -3,17 +3,15 @@ use Prim.Native.Nat.{ℕ, _-_}
 use mathlib.Core.Path.{_≡_}
 use mathlib.Core.Bool.{Bool, cond}
 use mathlib.Core.List.{List}
-use lib.ListN.{length, getD, replicate, take, drop}
+use lib.ListN.{length, replicate, take, drop}
 use lib.Ieee.{Float}
 use Rattle.attributors.specs.Attributors.{padded}
-use Rattle.deviation.specs.Const.{zero64}
-use Rattle.deviation.specs.Statistics.{fresh}
 use Rattle.divector.specs.DiVector.{normalized}
 use Rattle.descriptor.specs.Checks.{answerOf}
 use Rattle.descriptor.specs.Lent.{Lent}
 use Rattle.descriptor.specs.declared.Reading.{Reading}
 use Rattle.descriptor.specs.declared.LastDescriptor.{LastDescriptor}
-use Rattle.predictorcorrector.specs.State.{stateCountsOk, runEnded, autoAdjusted, runGrown}
+use Rattle.predictorcorrector.specs.State.{runEnded, autoAdjusted, runGrown}
 use Rattle.predictorcorrector.specs.declared.PredictorCorrector.{PredictorCorrector}
 use Rattle.candidate.specs.Candidate.{isCandidate, candidateWith, driftAt}
 use Rattle.detection.specs.Const.{zero32}
@@ -77,7 +75,3 @@ module _ (s : PredictorCorrector) (r : Reading) (l : LastDescriptor) where
     afterRows (Corrected t m) = entered (cond (isDriftMode m) (rowsCounted t point row) (autoAdjusted s point)) r l (correctedScore r l)
     afterRows (Raised t g) = entered (runGrown (rowsCounted t point row)) r l (correctedScore r l)
     afterRows Skipped = s
-
-    unfoldable pub stateRows : Outcome → PredictorCorrector
-    stateRows (Accepted v) = afterRows v
-    stateRows (Refused why) = s

@@ -21,12 +21,13 @@ use Rattle.candidate.specs.Candidate.{isCandidate, driftAt}
 use Rattle.detection.specs.Const.{zero32}
 use Rattle.detection.specs.Judging.{gapOf, recent, opening, noisePass, start, block, expected, lateVerdict}
 use Rattle.detection.specs.Decided.{noRow, driftOf}
-unfoldable pub use Rattle.detection.specs.Decided.{rowsCounted, afterRows, stateRows}
+unfoldable pub use Rattle.detection.specs.Decided.{rowsCounted, afterRows}
 use Rattle.detection.specs.declared.Way.{Way}
 use Rattle.detection.specs.declared.Way.the-variants as Ways
 use Rattle.detection.specs.declared.Verdict.the-variants.{Quiet, Corrected, Raised, Skipped}
 use Rattle.detection.specs.declared.Outcome.{Outcome}
 use Rattle.detection.specs.declared.Outcome.the-variants.{Accepted, Refused}
+use Rattle.predictorcorrector.specs.declared.PredictorCorrector.{PredictorCorrector}
 use Rattle.predictorcorrector.specs.declared.Standing.{Standing}
 use Rattle.detection.specs.declared.Decision.{Decision}
 
@@ -99,6 +100,11 @@ module _ (k : Standing) (r : Reading) (l : LastDescriptor) (b : Lent) where
 -- ---- an outcome short of the candidate branch
 unfoldable pub withoutRow : Outcome → Decision
 withoutRow o = record { outcome = o; «relative_index» = pos 0; «newest_expected» = noRow }
+
+-- ---- what an outcome does to the state, by the point and the row that it hands on
+unfoldable pub stateRows : PredictorCorrector → Reading → LastDescriptor → (point row : List Float) → Outcome → PredictorCorrector
+stateRows s r l point row (Accepted v) = afterRows s r l point row v
+stateRows s r l point row (Refused why) = s
 
 -- ---- what a verdict does to the state asks of a reading
 pub record Counting (r : Reading) (point : ℕ) : Type 0 where

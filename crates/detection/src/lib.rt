@@ -144,7 +144,7 @@ fn box_of(
 }
 
 // The block that contributes most: its place among the blocks, where it starts, and the uncertainty box there in the first `base` places.
-struct Block {
+struct Place {
     index: usize,
     start: usize,
     edges: [f32; 16],
@@ -301,7 +301,7 @@ fn expected_exits(
     k: Standing,
     r: Reading,
     l: LastDescriptor,
-    block: Block,
+    block: Place,
     working: Graded,
     point: &[f32],
     scale: &[f32],
@@ -409,7 +409,7 @@ fn past_noise(
             CorrectionMode::CONDITIONAL_FORECAST,
         )));
     }
-    if scoring::in_shingle(r, l, high, low, ideal_high, ideal_low, threshold) {
+    if scoring::explained_by_last(r, l, high, low, ideal_high, ideal_low, threshold) {
         return without_row(Outcome::Accepted(Verdict::Corrected(
             threshold,
             CorrectionMode::ANOMALY_IN_SHINGLE,
@@ -419,7 +419,7 @@ fn past_noise(
         k,
         r,
         l,
-        Block {
+        Place {
             index,
             start,
             edges,
@@ -439,7 +439,7 @@ fn past_noise(
 
 // Decides on a reading: document 01's entry checks (6 by `counts_ok`, as the caller has it), then the exits of the Rust's `detect_and_modify`. The expected point and the normalised
 // attribution are written to the last three buffers where the reading is raised, and left alone otherwise. What a verdict does to the
-// state is left to the caller, who has it as a struct (`after`) or in bytes.
+// state is left to the caller, who has it as a struct (`judging::after`) or in bytes.
 pub fn judge(
     k: Standing,
     r: Reading,

@@ -1,6 +1,6 @@
 -- The chain's stored state: the thresholder, auto adjust in 1 byte, run length and base dimension in 4 each, then the two lists of statistics with room for 16.
 -- Of a list only the entries that exist are read and written.
-use Prim.Native.Nat.{ℕ, zero, suc, _+_, _-_, _*_}
+use Prim.Native.Nat.{ℕ, zero, suc, _+_, _*_}
 use mathlib.Core.Bool.{Bool, true, false, cond, _&&_}
 use mathlib.Core.List.{List, [], _∷_}
 use lib.Dec.{eqb, leb}
@@ -14,7 +14,6 @@ use Rattle.deviation.specs.Const.{zero64}
 use Rattle.predictorcorrector.specs.declared.PredictorCorrector.{PredictorCorrector}
 use Rattle.predictorcorrector.specs.State.{state, new, standing}
 use Rattle.layout.specs.Places.{deviationLength, autoThresholdAt, stateLength, autoAdjustAt, runLengthAt, baseDimensionAt, actualAt, expectedAt}
-use Rattle.predictorcorrector.specs.declared.Standing.{Standing}
 use Rattle.layout.specs.declared.StateRead.{StateRead}
 use Rattle.layout.specs.declared.StandingRead.{StandingRead}
 use Rattle.layout.specs.declared.StandingRead.the-variants.{Read, Refused}

@@ -31,8 +31,8 @@ readingAnswer xs r lengths =
     (Refused Range)
 
 -- The point has at least as many numbers as the base.
-abbrev pub pointFits : Reading → ℕ → Bool
-pointFits r point = leb (r .«base_dimension») point
+abbrev pub rowInPoint : Reading → ℕ → Bool
+rowInPoint r point = leb (r .«base_dimension») point
 
 -- The candidate branch's two rows have at least as many numbers as the base.
 unfoldable pub rowsFit : Reading → (newest expected : ℕ) → Bool

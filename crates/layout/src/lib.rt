@@ -617,7 +617,7 @@ pub fn read_state(bytes: &[u8]) -> StateRead
     unread(Refusal::Length)
 }
 
-// The same without its lists.
+// How it stands, refused likewise.
 pub fn read_standing(bytes: &[u8]) -> StandingRead
     ensures { λ r. ⌜ r ≡ Chain.readStanding (now (bytes .entry)) ⌝ }
 {
@@ -1068,8 +1068,8 @@ pub fn write_adjusted(
     corrected: f32,
     point: &[f32],
 ) -> Answer
-    ensures { λ a. ⌜ a ≡ InPlace.readingAnswer (now (out .entry)) r (InPlace.pointFits r (length (now (point .entry)))) ⌝
-        ∗ ⌜ now (out .exit) ≡ InPlace.storedBy (InPlace.readingAnswer (now (out .entry)) r (InPlace.pointFits r (length (now (point .entry)))))
+    ensures { λ a. ⌜ a ≡ InPlace.readingAnswer (now (out .entry)) r (InPlace.rowInPoint r (length (now (point .entry)))) ⌝
+        ∗ ⌜ now (out .exit) ≡ InPlace.storedBy (InPlace.readingAnswer (now (out .entry)) r (InPlace.rowInPoint r (length (now (point .entry)))))
         (now (out .entry)) (InPlace.adjusted (Chain.decodeState (now (out .entry))) (InPlace.scored (Chain.decodeState (now (out .entry))) r l corrected) (now (point .entry))) ⌝ }
 {
     let strategy = r.scoring_strategy;

@@ -93,7 +93,8 @@ stateCountsOk s =
     && (listCountable (existing (s .«auto_adjust») (s .«base_dimension»)) (s .«deviations_actual»)
     && listCountable (existing (s .«auto_adjust») (s .«base_dimension»)) (s .«deviations_expected»)))
 
--- How a state stands: without its lists, but for the last of the entries that exist; a new one where none does.
+-- How a state stands: without its lists, but for the entry at base - 1 of each, which is the last that exists with auto adjust and is not looked at without it;
+-- a new one past the end.
 unfoldable pub standing : PredictorCorrector → Standing
 standing s = record {
   «basic_thresholder» = s .«basic_thresholder»;

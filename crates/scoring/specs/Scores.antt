@@ -30,7 +30,7 @@ gapOf seen hasAnomaly lastSeen = seen - cond hasAnomaly lastSeen 0
 abbrev pub gap : Reading → LastDescriptor → ℕ
 gap r l = gapOf (r .«values_seen») (l .«has_anomaly») (l .anomaly .«values_seen»)
 
--- The last anomaly is still in the shingle. The Rust asks for a gap above 0 besides, which every accepted reading has.
+-- The last anomaly is at most a shingle of readings back: in the shingle, or just out of it. The Rust asks for a gap above 0 besides, which every accepted reading has.
 unfoldable pub isRecent : Bool → ℕ → ℕ → Bool
 isRecent hasAnomaly gap shingle = hasAnomaly && leb gap shingle
 
@@ -82,8 +82,8 @@ abbrev pub autoExplained : Bool → (box point : List Float) → ℕ → (scale 
 autoExplained auto box point start scale neighbours = auto && explainedByConditionalField box point start scale neighbours (length point)
 
 -- The last anomaly is in the shingle, and the reading does not trigger anew.
-abbrev pub inShingle : Reading → LastDescriptor → (high low idealHigh idealLow : List Float) → Float → Bool
-inShingle r l high low idealHigh idealLow threshold =
+abbrev pub explainedByLast : Reading → LastDescriptor → (high low idealHigh idealLow : List Float) → Float → Bool
+explainedByLast r l high low idealHigh idealLow threshold =
     ltb (gap r l) (r .«shingle_size»)
     && not (trigger high low (gap r l) (r .«base_dimension») idealHigh idealLow (l .«has_anomaly») (l .anomaly .«has_attribution») (l .anomaly .score) threshold)
 

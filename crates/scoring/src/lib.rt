@@ -30,7 +30,7 @@ pub fn gap(r: Reading, l: LastDescriptor) -> usize
     gap_of(r.values_seen, l.has_anomaly, anomaly.values_seen)
 }
 
-// The last anomaly is still in the shingle.
+// The last anomaly is at most a shingle of readings back: in the shingle, or just out of it.
 pub fn is_recent(has_anomaly: bool, gap: usize, shingle_size: usize) -> bool
     ensures { λ r. ⌜ r ≡ Scores.isRecent «has_anomaly» gap «shingle_size» ⌝ }
 {
@@ -180,7 +180,7 @@ pub fn auto_explained(
 }
 
 // The last anomaly is in the shingle, and the reading does not trigger anew, by slices that may be of any length.
-pub fn in_shingle(
+pub fn explained_by_last(
     r: Reading,
     l: LastDescriptor,
     high: &[f64],
@@ -189,7 +189,7 @@ pub fn in_shingle(
     ideal_low: &[f64],
     threshold: f32,
 ) -> bool
-    ensures { λ b. ⌜ b ≡ Scores.inShingle r l (now (high .entry)) (now (low .entry)) (now («ideal_high» .entry)) (now («ideal_low» .entry)) threshold ⌝ }
+    ensures { λ b. ⌜ b ≡ Scores.explainedByLast r l (now (high .entry)) (now (low .entry)) (now («ideal_high» .entry)) (now («ideal_low» .entry)) threshold ⌝ }
 {
     let anomaly = l.anomaly;
     let gap = gap(r, l);

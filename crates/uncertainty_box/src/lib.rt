@@ -1,7 +1,7 @@
 // predictorcorrector.rs: the uncertainty box around a point, and what lies within it.
 ghost use mathlib.Core.Path.{_≡_};
 ghost use mathlib.Core.Bool.{cond};
-ghost use Prim.Native.Nat.{ℕ, _+_, _-_, _≤_, _<_, _%_};
+ghost use Prim.Native.Nat.{_+_, _-_, _≤_, _<_, _%_};
 ghost use Rattle.uncertainty_box.specs.Box as Box;
 ghost use Rattle.uncertainty_box.specs.Pass as Pass;
 

@@ -15,12 +15,12 @@ use Rattle.detection.specs.declared.Verdict.{Verdict}
 use Rattle.detection.specs.declared.Outcome.{Outcome}
 use Rattle.layout.specs.Places.{verdictLength}
 use Rattle.layout.specs.Chain.{decodeState}
-use Rattle.layout.specs.InPlace.{readingAnswer, pointFits}
+use Rattle.layout.specs.InPlace.{readingAnswer, rowInPoint}
 use Rattle.verdict_bytes.specs.Bytes.{stateLeft, verdictLeft}
 
 -- The verdict, or the smallest refusal of the reading that the stored state and the slices meet: 2, 3 or 6.
 unfoldable pub putOutcome : List ℕ → Reading → Verdict → (point verdict : ℕ) → Outcome
-putOutcome state r v point verdict = outcomeOf v (readingAnswer state r (eqb verdict verdictLength && pointFits r point))
+putOutcome state r v point verdict = outcomeOf v (readingAnswer state r (eqb verdict verdictLength && rowInPoint r point))
 
 -- row has the newest row of the expected point in front.
 module _ (r : Reading) (l : LastDescriptor) (v : Verdict) (index : ℤ) (point row : List Float) where

@@ -20,7 +20,7 @@ use Rattle.detection.proofs.expected_exits.Reads as expected-exits-read
 use Rattle.detection.proofs.without_row.Reads as without-row-reads
 use Rattle.scoring.proofs.anomaly_block.Reads as anomaly-block-reads
 use Rattle.scoring.proofs.auto_explained.Reads as auto-explained-reads
-use Rattle.scoring.proofs.in_shingle.Reads as in-shingle-reads
+use Rattle.scoring.proofs.explained_by_last.Reads as explained-by-last-reads
 
 anomaly-block-requires : tie.Need-anomaly-block-requires
 anomaly-block-requires c κs = search needs
@@ -64,8 +64,8 @@ returns c =
     let x = explained-is r l b (k₀ .«auto_adjust») (c .before .before .auto-explained .result) u (c .before .before .before .before .before .block-start .result) bx st (c .before .before .auto-explained .ensures) in
     at-explained k₀ r l b (c .before .before .before .before .before .before .before .before .before .before .before .before .before .before .before .before .before .before .before .before .args .working .threshold) (c .before .before .before .before .before .before .before .before .before .before .before .before .before .before .before .before .before .before .before .before .args .working .grade) _ (now (c .before .before .before .before .before .before .before .before .before .before .before .before .before .before .before .before .before .before .before .before .args .expected)) (now (c .before .before .before .before .before .before .before .before .before .before .before .before .before .before .before .before .before .before .before .before .args .out-high)) (now (c .before .before .before .before .before .before .before .before .before .before .before .before .before .before .before .before .before .before .before .before .args .out-low)) _ _ _ (sym x ∙ c .before .if1 .taken) (calm-left r l b (now (c .before .before .before .before .before .before .before .before .before .before .before .before .before .before .before .before .before .before .before .before .args .expected)) (now (c .before .before .before .before .before .before .before .before .before .before .before .before .before .before .before .before .before .before .before .before .args .out-high)) (now (c .before .before .before .before .before .before .before .before .before .before .before .before .before .before .before .before .before .before .before .before .args .out-low)) (Accepted (Corrected (c .before .before .before .before .before .before .before .before .before .before .before .before .before .before .before .before .before .before .before .before .args .working .threshold) «CONDITIONAL_FORECAST»)) _ refl (c .without-row .ensures))
 
-in-shingle-requires : tie.Need-in-shingle-requires
-in-shingle-requires c κs = search needs
+explained-by-last-requires : tie.Need-explained-by-last-requires
+explained-by-last-requires c κs = search needs
 
 without-row-requires-2 : tie.Need-without-row-requires-2
 without-row-requires-2 c κs = search needs
@@ -81,7 +81,7 @@ returns-2 c =
     let st = start-by r l b (c .before .before .before .before .before .before .before .before .anomaly-block .result) (c .before .before .before .before .before .before .before .block-start .result) k (c .before .before .before .before .before .before .before .block-start .ensures) in
     let bx = box-is r l b (c .before .before .before .before .before .before .before .block-start .result) u st (c .before .before .before .before .before .before .box-of .ensures) in
     let x = explained-is r l b (k₀ .«auto_adjust») (c .before .before .before .before .auto-explained .result) u (c .before .before .before .before .before .before .before .block-start .result) bx st (c .before .before .before .before .auto-explained .ensures) in
-    let y = shingle-is r l b (c .before .before .in-shingle .result) (c .before .before .before .before .before .before .before .before .before .before .before .before .before .before .before .before .before .before .before .before .before .before .args .working .threshold) (c .before .before .in-shingle .ensures) in
+    let y = shingle-is r l b (c .before .before .explained-by-last .result) (c .before .before .before .before .before .before .before .before .before .before .before .before .before .before .before .before .before .before .before .before .before .before .args .working .threshold) (c .before .before .explained-by-last .ensures) in
     at-shingle k₀ r l b (c .before .before .before .before .before .before .before .before .before .before .before .before .before .before .before .before .before .before .before .before .before .before .args .working .threshold) (c .before .before .before .before .before .before .before .before .before .before .before .before .before .before .before .before .before .before .before .before .before .before .args .working .grade) _ (now (c .before .before .before .before .before .before .before .before .before .before .before .before .before .before .before .before .before .before .before .before .before .before .args .expected)) (now (c .before .before .before .before .before .before .before .before .before .before .before .before .before .before .before .before .before .before .before .before .before .before .args .out-high)) (now (c .before .before .before .before .before .before .before .before .before .before .before .before .before .before .before .before .before .before .before .before .before .before .args .out-low)) _ _ _ (sym x ∙ c .before .before .before .if1 .left) (sym y ∙ c .before .if2 .taken) (calm-left r l b (now (c .before .before .before .before .before .before .before .before .before .before .before .before .before .before .before .before .before .before .before .before .before .before .args .expected)) (now (c .before .before .before .before .before .before .before .before .before .before .before .before .before .before .before .before .before .before .before .before .before .before .args .out-high)) (now (c .before .before .before .before .before .before .before .before .before .before .before .before .before .before .before .before .before .before .before .before .before .before .args .out-low)) (Accepted (Corrected (c .before .before .before .before .before .before .before .before .before .before .before .before .before .before .before .before .before .before .before .before .before .before .args .working .threshold) «ANOMALY_IN_SHINGLE»)) _ refl (c .without-row2 .ensures))
 
 expected-exits-requires : tie.Need-expected-exits-requires
@@ -114,7 +114,7 @@ returns-3 c =
     let st = start-by r l b (c .before .before .before .before .before .before .before .before .before .before .before .before .before .before .before .before .before .anomaly-block .result) (c .before .before .before .before .before .before .before .before .before .before .before .before .before .before .before .before .block-start .result) k (c .before .before .before .before .before .before .before .before .before .before .before .before .before .before .before .before .block-start .ensures) in
     let bx = box-is r l b (c .before .before .before .before .before .before .before .before .before .before .before .before .before .before .before .before .block-start .result) u st (c .before .before .before .before .before .before .before .before .before .before .before .before .before .before .before .box-of .ensures) in
     let x = explained-is r l b (k₀ .«auto_adjust») (c .before .before .before .before .before .before .before .before .before .before .before .before .before .auto-explained .result) u (c .before .before .before .before .before .before .before .before .before .before .before .before .before .before .before .before .block-start .result) bx st (c .before .before .before .before .before .before .before .before .before .before .before .before .before .auto-explained .ensures) in
-    let y = shingle-is r l b (c .before .before .before .before .before .before .before .before .before .before .before .in-shingle .result) (c .before .before .before .before .before .before .before .before .before .before .before .before .before .before .before .before .before .before .before .before .before .before .before .before .before .before .before .before .before .before .before .args .working .threshold) (c .before .before .before .before .before .before .before .before .before .before .before .in-shingle .ensures) in
+    let y = shingle-is r l b (c .before .before .before .before .before .before .before .before .before .before .before .explained-by-last .result) (c .before .before .before .before .before .before .before .before .before .before .before .before .before .before .before .before .before .before .before .before .before .before .before .before .before .before .before .before .before .before .before .args .working .threshold) (c .before .before .before .before .before .before .before .before .before .before .before .explained-by-last .ensures) in
     at-expected k₀ r l b (c .before .before .before .before .before .before .before .before .before .before .before .before .before .before .before .before .before .before .before .before .before .before .before .before .before .before .before .before .before .before .before .args .working .threshold) (c .before .before .before .before .before .before .before .before .before .before .before .before .before .before .before .before .before .before .before .before .before .before .before .before .before .before .before .before .before .before .before .args .working .grade) _ (now (c .before .before .before .before .before .before .before .before .before .before .before .before .before .before .before .before .before .before .before .before .before .before .before .before .before .before .before .before .before .before .before .args .expected)) (now (c .before .before .before .before .before .before .before .before .before .before .before .before .before .before .before .before .before .before .before .before .before .before .before .before .before .before .before .before .before .before .before .args .out-high)) (now (c .before .before .before .before .before .before .before .before .before .before .before .before .before .before .before .before .before .before .before .before .before .before .before .before .before .before .before .before .before .before .before .args .out-low)) _ _ _ (sym x ∙ c .before .before .before .before .before .before .before .before .before .before .before .before .if1 .left) (sym y ∙ c .before .before .before .before .before .before .before .before .before .before .if2 .left) u bx (branch-lent k₀ r l b (c .before .before .before .before .before .before .before .before .before .before .before .before .before .before .before .before .before .before .before .before .before .before .before .before .before .before .before .before .before .before .before .args .working .threshold) (c .before .before .before .before .before .before .before .before .before .before .before .before .before .before .before .before .before .before .before .before .before .before .before .before .before .before .before .before .before .before .before .args .working .grade) _ (now (c .before .before .before .before .before .before .before .before .before .before .before .before .before .before .before .before .before .before .before .before .before .before .before .before .before .before .before .before .before .before .before .args .expected)) (now (c .before .before .before .before .before .before .before .before .before .before .before .before .before .before .before .before .before .before .before .before .before .before .before .before .before .before .before .before .before .before .before .args .out-high)) (now (c .before .before .before .before .before .before .before .before .before .before .before .before .before .before .before .before .before .before .before .before .before .before .before .before .before .before .before .before .before .before .before .args .out-low)) _ _ _ u (c .before .before .before .before .before .before .expected-exits .ensures))
 
 pub past-noise-spec : {M : Type 1} → statement M
@@ -129,7 +129,7 @@ past-noise-spec =
     auto-explained-requires
     without-row-requires
     returns
-    in-shingle-requires
+    explained-by-last-requires
     without-row-requires-2
     returns-2
     expected-exits-requires

@@ -1,7 +1,7 @@
 use borrow.Author.Tests.{lt-ltb, le-ltb}
 use borrow.Author.Needs.{needs}
-use Rattle.scoring.proofs.in_shingle.Statement.{statement}
-use Rattle.scoring.proofs.in_shingle.Tie as tie
+use Rattle.scoring.proofs.explained_by_last.Statement.{statement}
+use Rattle.scoring.proofs.explained_by_last.Tie as tie
 
 gap-requires : tie.Need-gap-requires
 gap-requires c κs = search needs
@@ -15,5 +15,5 @@ returns c = simp (lt-ltb _ _ (rw (c .before .before .before .gap .ensures) at (c
 returns-2 : tie.Need-returns-2
 returns-2 c = simp (le-ltb _ _ (rw (c .before .before .gap .ensures) at (c .if1 .left)))
 
-pub in-shingle-spec : {M : Type 1} → statement M
-in-shingle-spec = tie.close (tie.spec gap-requires trigger-requires returns returns-2)
+pub explained-by-last-spec : {M : Type 1} → statement M
+explained-by-last-spec = tie.close (tie.spec gap-requires trigger-requires returns returns-2)
