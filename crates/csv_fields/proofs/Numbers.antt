@@ -89,7 +89,7 @@ pub digit-from : (b : ℕ) → isDigit b ≡ true → 48 ≤ b
 unfolding isDigit
 digit-from b e = leb-true 48 b (and-left (leb 48 b) (leb b 57) e)
 
-digit-le : (b : ℕ) → isDigit b ≡ true → b ≤ 57
+pub digit-le : (b : ℕ) → isDigit b ≡ true → b ≤ 57
 unfolding isDigit
 digit-le b e = leb-true b 57 (and-right (leb 48 b) (leb b 57) e)
 

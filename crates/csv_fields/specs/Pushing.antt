@@ -7,6 +7,7 @@ use lib.Dec.{leb, ltb, eqb}
 use lib.ListN.{getD}
 use lib.Ieee.{Float, binary32, round}
 use Rattle.csv_fields.specs.declared.Content.{Content}
+use Rattle.csv_fields.specs.declared.Digits.{Digits}
 use Rattle.csv_fields.specs.Contents.{word, isDigit, mostDrawer, mostSeen}
 
 abbrev pub contentOf : Bool → ℕ → ℕ → Bool → ℕ → Content
@@ -36,6 +37,11 @@ cap = 999999999
 -- A number with one more digit, or the cap.
 unfoldable pub grown : ℕ → ℕ → ℕ
 grown n b = min (n * 10 + (b - code "0")) cap
+
+-- The digits that stand at the front of what follows, from the place i on: the number with them, and the place behind them.
+unfoldable pub digitsFrom : ℕ → ℕ → List ℕ → Digits
+digitsFrom n i [] = record { number = n; next = i }
+digitsFrom n i (b ∷ bs) = cond (isDigit b) (digitsFrom (grown n b) (i + 1) bs) (record { number = n; next = i })
 
 -- A byte of a whole number.
 unfoldable pub pushDigit : Content → ℕ → Content

@@ -3,7 +3,7 @@ ghost use mathlib.Core.Path.{_≡_};
 ghost use Prim.Native.Nat.{ℕ, _≤_, _<_};
 ghost use mathlib.Core.Bool.{true};
 ghost use lib.Dec.{eqb};
-ghost use lib.ListN.{length, getD};
+ghost use lib.ListN.{length, getD, drop};
 ghost use Rattle.csv_fields.specs.Contents as Contents;
 ghost use Rattle.csv_fields.specs.Pushing as Pushing;
 
@@ -29,6 +29,12 @@ pub struct Content {
     pub places: u32,
     pub point: bool,
     pub spoilt: bool,
+}
+
+// A number with some digits more, and the place behind them.
+pub struct Digits {
+    pub number: u32,
+    pub next: usize,
 }
 
 // Nothing read.
@@ -102,6 +108,24 @@ fn grown(n: u32, b: u8) -> u32
         return v as u32;
     }
     CAP as u32
+}
+
+// Digits that follow each other, taken in one go: the number with them, and the place behind them.
+pub fn take_digits(n: u32, input: &[u8], from: usize) -> Digits
+    ensures { λ r. ⌜ r ≡ Pushing.digitsFrom n from (drop from (now (input .entry))) ⌝ }
+{
+    let mut number = n;
+    let mut i = from;
+    while i < input.len() {
+        let b = input[i];
+        if is_digit(b) {
+            number = grown(number, b);
+            i += 1;
+            continue;
+        }
+        return Digits { number, next: i };
+    }
+    Digits { number, next: i }
 }
 
 fn push_digit(c: Content, b: u8) -> Content

@@ -1,4 +1,5 @@
 mod Walking
 mod Fields
+mod InOneGo
 pub mod Whole
 pub mod Sizes

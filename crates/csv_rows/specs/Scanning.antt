@@ -8,10 +8,12 @@ use lib.Dec.{ltb, eqb}
 use Rattle.types.specs.declared.Refusal.{Refusal}
 use Rattle.types.specs.declared.Refusal.the-variants as Why
 use Rattle.csv_fields.specs.declared.Content.{Content}
-use Rattle.csv_fields.specs.Pushing.{contentOf, fresh, push, good, score}
+use Rattle.csv_fields.specs.declared.Digits.{Digits}
+use Rattle.csv_fields.specs.Pushing.{contentOf, fresh, push, digitsFrom, good, score}
 use Rattle.csv_rows.specs.declared.Token.{Token}
 use Rattle.csv_rows.specs.declared.Scan.{Scan}
 use Rattle.csv_rows.specs.declared.Stepped.{Stepped}
+use Rattle.csv_rows.specs.declared.Reached.{Reached}
 use Rattle.csv_rows.specs.declared.Place.{Place}
 use Rattle.csv_rows.specs.declared.Place.the-variants.{Start, Plain, Return, Quoted, Closed, Ending}
 use Rattle.csv_rows.specs.declared.Turn.{Turn}
@@ -131,6 +133,41 @@ told Nothing = []
 told Header = Header ∷ []
 told (Sound e) = Sound e ∷ []
 told (Faulty why) = Faulty why ∷ []
+
+-- Reading on until a row ends, or what follows does: the scan there, the row, and the place behind the last byte read, the next one being at the place i.
+abbrev pub reachedOf : Scan → Row → ℕ → Reached
+reachedOf scan row next = record { scan = scan; row = row; next = next }
+
+unfoldable pub isNothing : Row → Bool
+isNothing Nothing = true
+isNothing Header = false
+isNothing (Sound e) = false
+isNothing (Faulty why) = false
+
+unfoldable pub readOn : Scan → ℕ → List ℕ → Reached
+readOn s i [] = reachedOf s Nothing i
+readOn s i (b ∷ bs) =
+    cond (isNothing (stepped s b .row)) (readOn (stepped s b .scan) (i + 1) bs) (reachedOf (stepped s b .scan) (stepped s b .row) (i + 1))
+
+-- Digits of a drawer or a seen number without quotes are taken in one go, which is the same.
+unfoldable pub isUnquoted : Place → Bool
+isUnquoted Start = true
+isUnquoted Plain = true
+isUnquoted Return = false
+isUnquoted Quoted = false
+isUnquoted Closed = false
+isUnquoted Ending = false
+
+unfoldable pub inNumber : Scan → Bool
+inNumber s = (not (s .over) && not (s .header)) && (ltb (s .field) 2 && isUnquoted (s .token .place))
+
+unfoldable pub digitsAt : Scan → ℕ → List ℕ → Digits
+digitsAt s i bs = cond (inNumber s) (digitsFrom (s .token .content .number) i bs) (record { number = 0; next = i })
+
+unfoldable pub withNumber : Scan → ℕ → Scan
+withNumber s n =
+    let c = s .token .content in
+    scanOf (s .over) (s .header) (s .field) (s .good) (s .drawer) (token Plain (contentOf (c .spoilt) n (c .whole) (c .point) (c .places)))
 
 -- A part of the input, byte by byte: the scan behind it, and the rows that it ends.
 unfoldable pub fed : Scan → List ℕ → Scan

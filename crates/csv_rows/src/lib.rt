@@ -1,7 +1,9 @@
-// The rows of a cabinet's export, CSV after RFC 4180, read byte by byte. Nothing of the input is kept: a scan has a fixed size.
+// The rows of a cabinet's export, CSV after RFC 4180, read in parts of any size. Nothing of the input is kept: a scan has a fixed size.
 use csv_fields::Content;
+use csv_fields::Digits;
 use types::Refusal;
 ghost use mathlib.Core.Path.{_≡_};
+ghost use lib.ListN.{drop};
 ghost use Rattle.csv_rows.specs.Scanning as Scanning;
 ghost use Rattle.csv_rows.specs.Sizes as Sizes;
 
@@ -61,6 +63,13 @@ pub enum Row {
 pub struct Stepped {
     pub scan: Scan,
     pub row: Row,
+}
+
+// The scan where reading stopped, the row that ended there, and the place behind it.
+pub struct Reached {
+    pub scan: Scan,
+    pub row: Row,
+    pub next: usize,
 }
 
 fn start() -> Token
@@ -300,7 +309,7 @@ fn taken(s: Scan, turn: Turn, c: Content, b: u8) -> Stepped
 }
 
 // One byte of the input.
-pub fn step(scan: Scan, b: u8) -> Stepped
+fn step(scan: Scan, b: u8) -> Stepped
     ensures { λ r. ⌜ r ≡ Scanning.stepped scan b ⌝ }
 {
     if scan.over {
@@ -313,6 +322,105 @@ pub fn step(scan: Scan, b: u8) -> Stepped
     let place = t.place;
     let c = t.content;
     taken(scan, byte_turn(place, b), held(spoils(place, b), c), b)
+}
+
+fn is_nothing(row: Row) -> bool
+    ensures { λ r. ⌜ r ≡ Scanning.isNothing row ⌝ }
+{
+    match row {
+        Row::Nothing => true,
+        Row::Header => false,
+        Row::Sound(_) => false,
+        Row::Faulty(_) => false,
+    }
+}
+
+fn is_unquoted(place: Place) -> bool
+    ensures { λ r. ⌜ r ≡ Scanning.isUnquoted place ⌝ }
+{
+    match place {
+        Place::Start => true,
+        Place::Plain => true,
+        Place::Return => false,
+        Place::Quoted => false,
+        Place::Closed => false,
+        Place::Ending => false,
+    }
+}
+
+// Whether the scan is in a drawer or a seen number that is not quoted.
+fn in_number(s: Scan) -> bool
+    ensures { λ r. ⌜ r ≡ Scanning.inNumber s ⌝ }
+{
+    let t = s.token;
+    let place = t.place;
+    (!s.over & !s.header) & ((s.field < 2) & is_unquoted(place))
+}
+
+// The digits of such a number that stand at the place i, in one go; elsewhere none.
+fn digits_at(s: Scan, input: &[u8], i: usize) -> Digits
+    ensures { λ r. ⌜ r ≡ Scanning.digitsAt s i (drop i (now (input .entry))) ⌝ }
+{
+    if in_number(s) {
+        let t = s.token;
+        let c = t.content;
+        return csv_fields::take_digits(c.number, input, i);
+    }
+    Digits { number: 0, next: i }
+}
+
+fn with_number(s: Scan, n: u32) -> Scan
+    ensures { λ r. ⌜ r ≡ Scanning.withNumber s n ⌝ }
+{
+    let t = s.token;
+    let c = t.content;
+    let content = Content {
+        number: n,
+        whole: c.whole,
+        places: c.places,
+        spoilt: c.spoilt,
+        point: c.point,
+    };
+    let token = Token {
+        place: Place::Plain,
+        content,
+    };
+    let mut out = s;
+    out.token = token;
+    out
+}
+
+// Reads on from that place until a row ends or the input does.
+pub fn read(scan: Scan, input: &[u8], from: usize) -> Reached
+    ensures { λ r. ⌜ r ≡ Scanning.readOn scan from (drop from (now (input .entry))) ⌝ }
+{
+    let mut s = scan;
+    let mut i = from;
+    while i < input.len() {
+        let digits = digits_at(s, input, i);
+        if i < digits.next {
+            s = with_number(s, digits.number);
+            i = digits.next;
+            continue;
+        }
+        let stepped = step(s, input[i]);
+        let row = stepped.row;
+        s = stepped.scan;
+        i += 1;
+        if is_nothing(row) {
+            continue;
+        }
+        return Reached {
+            scan: s,
+            row,
+            next: i,
+        };
+    }
+    Reached {
+        scan: s,
+        row: Row::Nothing,
+        next: i,
+    }
 }
 
 // The end of the input. What it does to a content is what a comma does.

@@ -4,8 +4,6 @@ use mathlib.Core.Path.{_≡_}
 use mathlib.Core.Bool.{Bool, true, false, cond}
 use mathlib.Core.List.{List, [], _++_}
 use lib.ListN.{length, drop}
-use Rattle.csv_rows.specs.declared.Row.{Row}
-use Rattle.csv_rows.specs.declared.Row.the-variants as Rows
 use Rattle.csv_rows.specs.declared.Scan.{Scan}
 use Rattle.csv_rows.specs.declared.Stepped.{Stepped}
 use Rattle.csv_rows.specs.Scanning as Scanning
@@ -23,12 +21,6 @@ runOf scan course = record { scan = scan; course = course }
 -- A run that has read nothing.
 unfoldable pub begin : Run
 begin = runOf Scanning.begin Taking.begin
-
-unfoldable pub isNothing : Row → Bool
-isNothing Rows.Nothing = true
-isNothing Rows.Header = false
-isNothing (Rows.Sound e) = false
-isNothing (Rows.Faulty why) = false
 
 abbrev pub isOpen : Run → Bool
 isOpen run = Taking.isOpen (run .course .ending)

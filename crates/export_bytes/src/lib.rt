@@ -1,6 +1,5 @@
 // The export watch on bytes: a cabinet's CSV export in, rows of thresholds and grades out. A run is fed its input in parts, cut anywhere, and hands back what it
 // prints; nothing of the input is kept. A program above has only to read and to write.
-use csv_rows::Row;
 use csv_rows::Scan;
 use export_rows::Course;
 use export_rows::Line;
@@ -25,18 +24,6 @@ pub struct Fed {
     pub written: usize,
 }
 
-// Whether no row ended.
-fn is_nothing(row: Row) -> bool
-    ensures { λ r. ⌜ r ≡ Feeding.isNothing row ⌝ }
-{
-    match row {
-        Row::Nothing => true,
-        Row::Header => false,
-        Row::Sound(_) => false,
-        Row::Faulty(_) => false,
-    }
-}
-
 // Writes what the row with that number prints over `out` from the place `at`, and answers the place behind it.
 fn write_line(out: &mut [u8], at: usize, number: u64, line: Line) -> usize
     requires { ⌜ at + 56 ≤ length (now out) ⌝ }
@@ -50,7 +37,7 @@ fn write_line(out: &mut [u8], at: usize, number: u64, line: Line) -> usize
     }
 }
 
-// The bytes of a part of the input, one by one. Few of them end a row.
+// A part of the input, row by row.
 fn read(run: Run, input: &[u8], out: &mut [u8]) -> Fed
     requires { ⌜ 56 * length (now input) ≤ length (now out) ⌝ }
     ensures { λ r. ⌜ r .run ≡ Feeding.fed run (now (input .entry)) ⌝ ∗ ⌜ Steps.Put (now (out .entry)) 0 (Feeding.printed run (now (input .entry))) (r .written) (now (out .exit)) ⌝ }
@@ -66,13 +53,10 @@ fn read(run: Run, input: &[u8], out: &mut [u8]) -> Fed
                 written: to,
             };
         }
-        let stepped = csv_rows::step(scan, input[i]);
-        let row = stepped.row;
-        scan = stepped.scan;
-        i += 1;
-        if is_nothing(row) {
-            continue;
-        }
+        let reached = csv_rows::read(scan, input, i);
+        let row = reached.row;
+        scan = reached.scan;
+        i = reached.next;
         let taken = export_rows::take(course, row);
         let line = taken.line;
         to = write_line(out, to, course.row, line);

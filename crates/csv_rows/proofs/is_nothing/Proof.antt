@@ -1,7 +1,7 @@
-use Rattle.export_bytes.specs.Feeding.{isNothing}
+use Rattle.csv_rows.specs.Scanning.{isNothing}
 use borrow.Author.Needs.{needs}
-use Rattle.export_bytes.proofs.is_nothing.Statement.{statement}
-use Rattle.export_bytes.proofs.is_nothing.Tie as tie
+use Rattle.csv_rows.proofs.is_nothing.Statement.{statement}
+use Rattle.csv_rows.proofs.is_nothing.Tie as tie
 
 enum-told : tie.Need-enum-told
 enum-told c = search needs
