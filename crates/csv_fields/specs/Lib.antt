@@ -1,3 +1,4 @@
 pub mod Contents
 pub mod Pushing
+pub mod Quoting
 pub mod Sizes

@@ -1,4 +1,5 @@
-// The content of a field of a cabinet's export, read byte by byte: a word of the header, a whole number or a score. Nothing is kept of it but what it says so far.
+// A field of a cabinet's export, read byte by byte: its quotes, and its content, which is a word of the header, a whole number or a score. Nothing is kept of it but what
+// it says so far.
 ghost use mathlib.Core.Path.{_≡_};
 ghost use Prim.Native.Nat.{ℕ, _≤_, _<_};
 ghost use mathlib.Core.Bool.{true};
@@ -6,6 +7,7 @@ ghost use lib.Dec.{eqb};
 ghost use lib.ListN.{length, getD, drop};
 ghost use Rattle.csv_fields.specs.Contents as Contents;
 ghost use Rattle.csv_fields.specs.Pushing as Pushing;
+ghost use Rattle.csv_fields.specs.Quoting as Quoting;
 
 // The largest drawer and the largest seen number.
 const MOST_DRAWER: u32 = 65_535;
@@ -19,6 +21,27 @@ const CAP: u64 = 999_999_999;
 const MOST_WHOLE: u32 = 3;
 
 const MOST_PLACES: u32 = 6;
+
+// Where in a field a scan is: nothing read; in a field without quotes; there behind a carriage return; inside quotes; behind a quote inside quotes, which ends the
+// field unless another follows; behind that quote and a carriage return.
+pub enum Place {
+    Start,
+    Plain,
+    Return,
+    Quoted,
+    Closed,
+    Ending,
+}
+
+// What a byte does to a field: it is one of the content, and the field goes on at that place; it is none, and the field goes on; it ends the field, and another
+// follows; it ends the row; it breaks the field's quotes.
+pub enum Turn {
+    Reads(Place),
+    Waits(Place),
+    FieldEnds,
+    RowEnds,
+    Breaks,
+}
 
 // What has been read of a content. `number` is what its digits write, or the cap. `whole` counts a word's letters, or a score's digits before the point; `places`
 // counts the digits behind it. It is `spoilt` once it can be neither the word nor the number that its field asks for. (The flags stand behind the numbers: the
@@ -212,4 +235,130 @@ pub fn score(c: Content) -> f32
     ensures { λ r. ⌜ r ≡ Pushing.score c ⌝ }
 {
     decimal::to_f32(c.number, c.places)
+}
+
+// A byte in a field without quotes.
+fn plain_turn(b: u8) -> Turn
+    ensures { λ r. ⌜ r ≡ Quoting.plainTurn b ⌝ }
+{
+    if b == b'"' {
+        return Turn::Breaks;
+    }
+    if b == b',' {
+        return Turn::FieldEnds;
+    }
+    if b == b'\n' {
+        return Turn::RowEnds;
+    }
+    if b == b'\r' {
+        return Turn::Waits(Place::Return);
+    }
+    Turn::Reads(Place::Plain)
+}
+
+// A byte behind a quote inside quotes.
+fn closed_turn(b: u8) -> Turn
+    ensures { λ r. ⌜ r ≡ Quoting.closedTurn b ⌝ }
+{
+    if b == b'"' {
+        return Turn::Waits(Place::Quoted);
+    }
+    if b == b',' {
+        return Turn::FieldEnds;
+    }
+    if b == b'\n' {
+        return Turn::RowEnds;
+    }
+    if b == b'\r' {
+        return Turn::Waits(Place::Ending);
+    }
+    Turn::Breaks
+}
+
+pub fn byte_turn(place: Place, b: u8) -> Turn
+    ensures { λ r. ⌜ r ≡ Quoting.byteTurn place b ⌝ }
+{
+    match place {
+        Place::Start => {
+            if b == b'"' {
+                return Turn::Waits(Place::Quoted);
+            }
+            plain_turn(b)
+        }
+        Place::Plain => plain_turn(b),
+        Place::Return => plain_turn(b),
+        Place::Quoted => {
+            if b == b'"' {
+                return Turn::Waits(Place::Closed);
+            }
+            Turn::Reads(Place::Quoted)
+        }
+        Place::Closed => closed_turn(b),
+        Place::Ending => {
+            if b == b'\n' {
+                return Turn::RowEnds;
+            }
+            Turn::Breaks
+        }
+    }
+}
+
+// The end of the input, in the field of that number. Where no row is under way all is well, but for the header.
+pub fn end_turn(header: bool, field: u32, place: Place) -> Turn
+    ensures { λ r. ⌜ r ≡ Quoting.endTurn header field place ⌝ }
+{
+    match place {
+        Place::Start => {
+            if field == 0 {
+                if header {
+                    Turn::Breaks
+                } else {
+                    Turn::Waits(Place::Start)
+                }
+            } else {
+                Turn::RowEnds
+            }
+        }
+        Place::Plain => Turn::RowEnds,
+        Place::Return => Turn::RowEnds,
+        Place::Quoted => Turn::Breaks,
+        Place::Closed => Turn::RowEnds,
+        Place::Ending => Turn::Breaks,
+    }
+}
+
+// Whether a byte spoils the content of a field: a carriage return before it was one of the content, unless it is a line feed; a second quote is a quote of the content.
+pub fn spoils(place: Place, b: u8) -> bool
+    ensures { λ r. ⌜ r ≡ Quoting.spoils place b ⌝ }
+{
+    match place {
+        Place::Start => false,
+        Place::Plain => false,
+        Place::Return => b != b'\n',
+        Place::Quoted => false,
+        Place::Closed => b == b'"',
+        Place::Ending => false,
+    }
+}
+
+pub fn held(spoilt: bool, c: Content) -> Content
+    ensures { λ r. ⌜ r ≡ Quoting.held spoilt c ⌝ }
+{
+    let mut out = c;
+    out.spoilt = spoilt | c.spoilt;
+    out
+}
+
+// Whether a field has no quotes so far.
+pub fn is_unquoted(place: Place) -> bool
+    ensures { λ r. ⌜ r ≡ Quoting.isUnquoted place ⌝ }
+{
+    match place {
+        Place::Start => true,
+        Place::Plain => true,
+        Place::Return => false,
+        Place::Quoted => false,
+        Place::Closed => false,
+        Place::Ending => false,
+    }
 }

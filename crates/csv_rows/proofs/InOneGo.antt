@@ -15,13 +15,14 @@ use Rattle.csv_fields.specs.Contents.{isDigit}
 use Rattle.csv_fields.specs.Pushing.{contentOf, grown, push, pushDigit, digitsFrom}
 use Rattle.csv_fields.proofs.Numbers.{digit-from, digit-le}
 use Rattle.csv_fields.proofs.InOneGo.{at-byte}
-use Rattle.csv_rows.specs.declared.Place.{Place}
-use Rattle.csv_rows.specs.declared.Place.the-variants.{Start, Plain, Return, Quoted, Closed, Ending}
-use Rattle.csv_rows.specs.declared.Turn.the-variants.{Reads}
+use Rattle.csv_fields.specs.declared.Place.{Place}
+use Rattle.csv_fields.specs.declared.Place.the-variants.{Start, Plain, Return, Quoted, Closed, Ending}
+use Rattle.csv_fields.specs.declared.Turn.the-variants.{Reads}
+use Rattle.csv_fields.specs.Quoting.{plainTurn, byteTurn, spoils, held, isUnquoted}
 use Rattle.csv_rows.specs.declared.Row.the-variants.{Nothing}
 use Rattle.csv_rows.specs.declared.Scan.{Scan}
 use Rattle.csv_rows.specs.declared.Reached.{Reached}
-use Rattle.csv_rows.specs.Scanning.{token, scanOf, steppedOf, plainTurn, byteTurn, spoils, held, taken, stepped, reachedOf, isNothing, readOn, isUnquoted, inNumber, digitsAt, withNumber}
+use Rattle.csv_rows.specs.Scanning.{token, scanOf, steppedOf, taken, stepped, reachedOf, isNothing, readOn, inNumber, digitsAt, withNumber}
 use Rattle.csv_rows.proofs.Walking.{false-true}
 
 and-true : (t u : Bool) → t && u ≡ true → (t ≡ true) × (u ≡ true)

@@ -8,16 +8,17 @@ use borrow.Author.Tests.{eqb-true}
 use Rattle.types.specs.declared.Refusal.the-variants as Why
 use Rattle.csv_fields.specs.declared.Content.{Content}
 use Rattle.csv_fields.specs.Pushing.{fresh, spoil, push}
+use Rattle.csv_fields.specs.Quoting.{plainTurn, closedTurn, byteTurn, endTurn, spoils, held}
 use Rattle.csv_fields.proofs.Numbers.{quote-spoils, return-spoils}
 use Rattle.csv_rows.specs.declared.Token.{Token}
 use Rattle.csv_rows.specs.declared.Scan.{Scan}
 use Rattle.csv_rows.specs.declared.Stepped.{Stepped}
-use Rattle.csv_rows.specs.declared.Place.{Place}
-use Rattle.csv_rows.specs.declared.Place.the-variants as At
-use Rattle.csv_rows.specs.declared.Turn.{Turn}
-use Rattle.csv_rows.specs.declared.Turn.the-variants.{Waits, RowEnds, Breaks}
+use Rattle.csv_fields.specs.declared.Place.{Place}
+use Rattle.csv_fields.specs.declared.Place.the-variants as At
+use Rattle.csv_fields.specs.declared.Turn.{Turn}
+use Rattle.csv_fields.specs.declared.Turn.the-variants.{Waits, RowEnds, Breaks}
 use Rattle.csv_rows.specs.declared.Row.the-variants.{Nothing}
-use Rattle.csv_rows.specs.Scanning.{token, scanOf, steppedOf, plainTurn, closedTurn, byteTurn, endTurn, spoils, held, refused, nextField, rowEnded, taken, closedBy}
+use Rattle.csv_rows.specs.Scanning.{token, scanOf, steppedOf, refused, nextField, rowEnded, taken, closedBy}
 
 abbrev pub comma : ℕ
 comma = 44

@@ -16,9 +16,9 @@ use Rattle.csv_fields.proofs.Numbers.{word-is, spells-0, spells-1, spells-2, dr
 use Rattle.csv_rows.specs.declared.Scan.{Scan}
 use Rattle.csv_rows.specs.declared.Stepped.{Stepped}
 use Rattle.csv_rows.specs.declared.Row.{Row}
-use Rattle.csv_rows.specs.declared.Row.the-variants.{Nothing, Header, Faulty}
+use Rattle.csv_rows.specs.declared.Row.the-variants.{Nothing, Header, Sound, Faulty}
 use Rattle.csv_rows.specs.Rows.{isEmpty, withoutReturn, rowsFrom, Field, Holds, BrokenQuote, fieldOf, isBroken, contentIn, entry, headerOf, entryOf, threeOf, fieldsOf, rowOf, isFaulty, readings, readingsOf}
-use Rattle.csv_rows.specs.Scanning.{token, scanOf, steppedOf, start, beginRow, begin, refused, fieldAfter, nextField, rowEnded, stepped, finished, told, fed, heard, joined, inParts, Whole}
+use Rattle.csv_rows.specs.Scanning.{token, scanOf, steppedOf, start, beginRow, begin, refused, fieldAfter, nextField, verdict, afterRow, rowEnded, stepped, finished, told, fed, heard, joined, inParts, Whole}
 use Rattle.csv_rows.proofs.Walking.{comma, quote, feed, return, Spot, Start, Plain, Return, Quoted, Closed, Ending, Broken, Reach, reach, begun, broken, plainly, walk, ended, endedLine, isStart, isQuoted, isLost, false-true, placeOf, tokenOf, lost, goesOn, endsField, endsRow, noRow, comma-takes, feed-takes, quoted-takes, other-takes, end-takes}
 use Rattle.csv_rows.proofs.Fields.{walked, walked-snoc, reached, field-end, line-end}
 
@@ -26,26 +26,19 @@ use Rattle.csv_rows.proofs.Fields.{walked, walked-snoc, reached, field-
 abbrev over : Scan → Scan
 over s = scanOf true (s .header) (s .field) (s .good) (s .drawer) (s .token)
 
-unfoldable verdict : Scan → Content → Row
-verdict s p =
-    cond (eqb (s .field) 2) (cond (s .good && good (s .header) (s .field) p) (cond (s .header) Header (entry (s .drawer) (score p))) (cond (s .header) (Faulty Why.Row) (Faulty Why.Field)))
-    (Faulty Why.Row)
+abbrev ending : Scan → Content → Row
+ending s p = verdict (s .header) (s .field) (s .good) (s .drawer) p
 
-unfoldable afterRow : Scan → Row → Stepped
-afterRow s r = steppedOf (cond (isFaulty r) (over s) (beginRow false)) r
+-- the scan behind a row
+unfoldable behind : Scan → Row → Stepped
+behind s r = steppedOf (cond (isFaulty r) (over s) (beginRow false)) r
 
-row-ended : (s : Scan) (p : Content) → rowEnded s p ≡ afterRow s (verdict s p)
-unfolding rowEnded verdict afterRow refused entry isFaulty
-row-ended s p = go (eqb (s .field) 2) (s .good && good (s .header) (s .field) p) (s .header) (s .drawer) (score p)
-  where
-    go : (t u v : Bool) (d : ℕ) (x : Float)
-        → cond t (cond u (cond v (steppedOf (beginRow false) Header) (steppedOf (beginRow false) (entry d x))) (cond v (lost s) (refused s Why.Field))) (lost s)
-        ≡ afterRow s (cond t (cond u (cond v Header (entry d x)) (cond v (Faulty Why.Row) (Faulty Why.Field))) (Faulty Why.Row))
-    go true true true d x = refl
-    go true true false d x = refl
-    go true false true d x = refl
-    go true false false d x = refl
-    go false u v d x = refl
+behind-is : (s : Scan) (r : Row) → afterRow s r ≡ behind s r
+unfolding afterRow behind refused isFaulty
+behind-is s Nothing = refl
+behind-is s Header = refl
+behind-is s (Sound e) = refl
+behind-is s (Faulty why) = refl
 
 -- ---- all that a scan tells from here on, the rest of its input being bs
 unfoldable coming : Scan → List ℕ → List Row
@@ -318,7 +311,7 @@ or-right true y e = false-true (sym e)
 or-right false y e = e
 
 abbrev verdict-at : Bool → List (List ℕ) → List ℕ → List ℕ → Row
-verdict-at h fields x text = verdict (at h fields x) (part-of h (so-far h fields .field) text)
+verdict-at h fields x text = ending (at h fields x) (part-of h (so-far h fields .field) text)
 
 full-row : (h : Bool) (fields : List (List ℕ)) (x text : List ℕ) → so-far h fields .field ≡ 3 → verdict-at h fields x text ≡ Faulty Why.Row
 unfolding verdict
@@ -421,12 +414,12 @@ field-done h f s BrokenQuote = refl
 field-done h f s (Holds c) = refl
 
 row-done : (h : Bool) (f : ℕ) (s : Scan) (x : Field)
-    → endsRow s (reached h f x) ≡ cond (isBroken x) (lost s) (afterRow s (verdict s (pushed h f fresh (contentIn x))))
-unfolding reached isBroken contentIn isLost broken
+    → endsRow s (reached h f x) ≡ cond (isBroken x) (lost s) (behind s (ending s (pushed h f fresh (contentIn x))))
+unfolding reached isBroken contentIn isLost broken rowEnded
 row-done h f s BrokenQuote = refl
-row-done h f s (Holds c) = row-ended s (pushed h f fresh c)
+row-done h f s (Holds c) = behind-is s (ending s (pushed h f fresh c))
 
-told-verdict : (s : Scan) (p : Content) → told (verdict s p) ≡ verdict s p ∷ []
+told-verdict : (s : Scan) (p : Content) → told (ending s p) ≡ ending s p ∷ []
 unfolding verdict told entry
 told-verdict s p = go (eqb (s .field) 2) (s .good && good (s .header) (s .field) p) (s .header) _ _
   where
@@ -461,11 +454,11 @@ module _ (h : Bool) (fields : List (List ℕ)) (text : List ℕ) (sound : any-br
   r = walked h f begun text
 
   -- the end of the row with the field w for its last
-  row-step : (w : List ℕ) (t : Bool) → isBroken (fieldOf w) ≡ t → endsRow s (reached h f (fieldOf w)) ≡ cond t (lost s) (afterRow s (rowOf h (fields ++ (w ∷ []))))
-  row-step w true e = row-done h f s (fieldOf w) ∙ ap (λ (x : Bool). cond x (lost s) (afterRow s (verdict-at h fields text w))) e
+  row-step : (w : List ℕ) (t : Bool) → isBroken (fieldOf w) ≡ t → endsRow s (reached h f (fieldOf w)) ≡ cond t (lost s) (behind s (rowOf h (fields ++ (w ∷ []))))
+  row-step w true e = row-done h f s (fieldOf w) ∙ ap (λ (x : Bool). cond x (lost s) (behind s (verdict-at h fields text w))) e
   row-step w false e =
-      row-done h f s (fieldOf w) ∙ ap (λ (x : Bool). cond x (lost s) (afterRow s (verdict-at h fields text w))) e
-      ∙ ap (afterRow s) (row-is h fields text w sound e)
+      row-done h f s (fieldOf w) ∙ ap (λ (x : Bool). cond x (lost s) (behind s (verdict-at h fields text w))) e
+      ∙ ap (behind s) (row-is h fields text w sound e)
 
   told-row : (w : List ℕ) → isBroken (fieldOf w) ≡ false → told (rowOf h (fields ++ (w ∷ []))) ≡ rowOf h (fields ++ (w ∷ [])) ∷ []
   told-row w e =
@@ -502,7 +495,7 @@ module _ (h : Bool) (fields : List (List ℕ)) (text : List ℕ) (sound : any-br
   alone = ap (λ (l : List Row). rowOf h (fields ++ (text ∷ [])) ∷ l) (none-left (isFaulty (rowOf h (fields ++ (text ∷ [])))))
 
   last-row : (t : Bool) → isBroken (fieldOf text) ≡ t → told (endsRow s (reached h f (fieldOf text)) .row) ≡ readings h ((fields ++ (text ∷ [])) ∷ [])
-  unfolding refused told afterRow
+  unfolding refused told behind
   last-row true e = ap (λ (x : Stepped). told (x .row)) (row-step text true e) ∙ sym (faulty-first h f (fields ++ (text ∷ [])) [] (broken-last fields text e))
   last-row false e = ap (λ (x : Stepped). told (x .row)) (row-step text false e) ∙ told-row text e ∙ sym alone
 
@@ -533,13 +526,13 @@ module _ (h : Bool) (fields : List (List ℕ)) (text : List ℕ) (sound : any-br
 
   after-feed : (t : Bool) (b : ℕ) (bs : List ℕ) → isBroken (fieldOf (withoutReturn text)) ≡ t → isQuoted (place-at h fields text) ≡ false → eqb b comma ≡ false → eqb b feed ≡ true → Follows bs
       → coming s (b ∷ bs) ≡ readings h ((fields ++ (withoutReturn text ∷ [])) ∷ rowsFrom false [] [] bs)
-  unfolding readings afterRow walked begun isLost isQuoted any-broken
+  unfolding readings behind walked begun isLost isQuoted any-broken
   after-feed true b bs k q e g rest =
       told-lost s b bs (feed-step b q e g ∙ row-step (withoutReturn text) true k)
       ∙ sym (faulty-first h f (fields ++ (withoutReturn text ∷ [])) (rowsFrom false [] [] bs) (broken-last fields (withoutReturn text) k))
   after-feed false b bs k q e g rest =
       let r = rowOf h (fields ++ (withoutReturn text ∷ [])) in
-      step-then s b bs (afterRow s r) (feed-step b q e g ∙ row-step (withoutReturn text) false k)
+      step-then s b bs (behind s r) (feed-step b q e g ∙ row-step (withoutReturn text) false k)
       ∙ ap (λ (l : List Row). l ++ coming (cond (isFaulty r) (over s) (beginRow false)) bs) (told-row (withoutReturn text) k)
       ∙ ap (λ (l : List Row). r ∷ l) (go (isFaulty r))
     where

@@ -2,22 +2,23 @@
 use Prim.Native.Nat.{ℕ, _+_}
 use Prim.Native.Char.{code}
 use mathlib.Core.Path.{_≡_}
-use mathlib.Core.Bool.{Bool, true, false, cond, not, _&&_, _||_}
+use mathlib.Core.Bool.{Bool, true, false, cond, not, _&&_}
 use mathlib.Core.List.{List, [], _∷_, _++_}
 use lib.Dec.{ltb, eqb}
 use Rattle.types.specs.declared.Refusal.{Refusal}
 use Rattle.types.specs.declared.Refusal.the-variants as Why
 use Rattle.csv_fields.specs.declared.Content.{Content}
 use Rattle.csv_fields.specs.declared.Digits.{Digits}
+use Rattle.csv_fields.specs.declared.Place.{Place}
+use Rattle.csv_fields.specs.declared.Place.the-variants.{Start, Plain}
+use Rattle.csv_fields.specs.declared.Turn.{Turn}
+use Rattle.csv_fields.specs.declared.Turn.the-variants.{Reads, Waits, FieldEnds, RowEnds, Breaks}
 use Rattle.csv_fields.specs.Pushing.{contentOf, fresh, push, digitsFrom, good, score}
+use Rattle.csv_fields.specs.Quoting.{byteTurn, endTurn, spoils, held, isUnquoted}
 use Rattle.csv_rows.specs.declared.Token.{Token}
 use Rattle.csv_rows.specs.declared.Scan.{Scan}
 use Rattle.csv_rows.specs.declared.Stepped.{Stepped}
 use Rattle.csv_rows.specs.declared.Reached.{Reached}
-use Rattle.csv_rows.specs.declared.Place.{Place}
-use Rattle.csv_rows.specs.declared.Place.the-variants.{Start, Plain, Return, Quoted, Closed, Ending}
-use Rattle.csv_rows.specs.declared.Turn.{Turn}
-use Rattle.csv_rows.specs.declared.Turn.the-variants.{Reads, Waits, FieldEnds, RowEnds, Breaks}
 use Rattle.csv_rows.specs.declared.Row.{Row}
 use Rattle.csv_rows.specs.declared.Row.the-variants.{Nothing, Header, Sound, Faulty}
 use Rattle.csv_rows.specs.Rows.{entry, readingsOf}
@@ -30,47 +31,6 @@ scanOf over header field good drawer t = record { over = over; header = header; 
 
 abbrev pub steppedOf : Scan → Row → Stepped
 steppedOf scan row = record { scan = scan; row = row }
-
--- A byte in a field without quotes, and one behind a quote inside quotes.
-unfoldable pub plainTurn : ℕ → Turn
-plainTurn b =
-    cond (eqb b (code "\"")) Breaks
-    (cond (eqb b (code ",")) FieldEnds (cond (eqb b (code "\n")) RowEnds (cond (eqb b (code "\r")) (Waits Return) (Reads Plain))))
-
-unfoldable pub closedTurn : ℕ → Turn
-closedTurn b =
-    cond (eqb b (code "\"")) (Waits Quoted)
-    (cond (eqb b (code ",")) FieldEnds (cond (eqb b (code "\n")) RowEnds (cond (eqb b (code "\r")) (Waits Ending) Breaks)))
-
-unfoldable pub byteTurn : Place → ℕ → Turn
-byteTurn Start b = cond (eqb b (code "\"")) (Waits Quoted) (plainTurn b)
-byteTurn Plain b = plainTurn b
-byteTurn Return b = plainTurn b
-byteTurn Quoted b = cond (eqb b (code "\"")) (Waits Closed) (Reads Quoted)
-byteTurn Closed b = closedTurn b
-byteTurn Ending b = cond (eqb b (code "\n")) RowEnds Breaks
-
--- The end of the input, in the field of that number. Where no row is under way all is well, but for the header.
-unfoldable pub endTurn : Bool → ℕ → Place → Turn
-endTurn header field Start = cond (eqb field 0) (cond header Breaks (Waits Start)) RowEnds
-endTurn header field Plain = RowEnds
-endTurn header field Return = RowEnds
-endTurn header field Quoted = Breaks
-endTurn header field Closed = RowEnds
-endTurn header field Ending = Breaks
-
--- Whether a byte spoils the content of a field: a carriage return before it was one of the content, unless it is a line feed; a second quote is a quote of the
--- content.
-unfoldable pub spoils : Place → ℕ → Bool
-spoils Start b = false
-spoils Plain b = false
-spoils Return b = not (eqb b (code "\n"))
-spoils Quoted b = false
-spoils Closed b = eqb b (code "\"")
-spoils Ending b = false
-
-unfoldable pub held : Bool → Content → Content
-held spoilt c = contentOf (spoilt || c .spoilt) (c .number) (c .whole) (c .point) (c .places)
 
 -- At the start of a field, and of a row.
 unfoldable pub start : Token
@@ -94,14 +54,21 @@ unfoldable pub nextField : Scan → Content → Scan
 nextField s c =
     scanOf (s .over) (s .header) (fieldAfter (s .field)) (s .good && good (s .header) (s .field) c) (cond (eqb (s .field) 0) (c .number) (s .drawer)) start
 
--- The row has ended with the field of that content.
+-- What the row is that ends with the field of that content, and the scan behind it.
+unfoldable pub verdict : Bool → ℕ → Bool → ℕ → Content → Row
+verdict header field fine drawer c =
+    cond (eqb field 2)
+    (cond (fine && good header field c) (cond header Header (entry drawer (score c))) (cond header (Faulty Why.Row) (Faulty Why.Field)))
+    (Faulty Why.Row)
+
+unfoldable pub afterRow : Scan → Row → Stepped
+afterRow s Nothing = steppedOf (beginRow false) Nothing
+afterRow s Header = steppedOf (beginRow false) Header
+afterRow s (Sound e) = steppedOf (beginRow false) (Sound e)
+afterRow s (Faulty why) = refused s why
+
 unfoldable pub rowEnded : Scan → Content → Stepped
-rowEnded s c =
-    cond (eqb (s .field) 2)
-    (cond (s .good && good (s .header) (s .field) c)
-    (cond (s .header) (steppedOf (beginRow false) Header) (steppedOf (beginRow false) (entry (s .drawer) (score c))))
-    (cond (s .header) (refused s Why.Row) (refused s Why.Field)))
-    (refused s Why.Row)
+rowEnded s c = afterRow s (verdict (s .header) (s .field) (s .good) (s .drawer) c)
 
 -- The byte b is taken by the field of that content.
 unfoldable pub taken : Scan → Turn → Content → ℕ → Stepped
@@ -150,14 +117,6 @@ readOn s i (b ∷ bs) =
     cond (isNothing (stepped s b .row)) (readOn (stepped s b .scan) (i + 1) bs) (reachedOf (stepped s b .scan) (stepped s b .row) (i + 1))
 
 -- Digits of a drawer or a seen number without quotes are taken in one go, which is the same.
-unfoldable pub isUnquoted : Place → Bool
-isUnquoted Start = true
-isUnquoted Plain = true
-isUnquoted Return = false
-isUnquoted Quoted = false
-isUnquoted Closed = false
-isUnquoted Ending = false
-
 unfoldable pub inNumber : Scan → Bool
 inNumber s = (not (s .over) && not (s .header)) && (ltb (s .field) 2 && isUnquoted (s .token .place))
 

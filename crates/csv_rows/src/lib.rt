@@ -1,22 +1,13 @@
 // The rows of a cabinet's export, CSV after RFC 4180, read in parts of any size. Nothing of the input is kept: a scan has a fixed size.
 use csv_fields::Content;
 use csv_fields::Digits;
+use csv_fields::Place;
+use csv_fields::Turn;
 use types::Refusal;
 ghost use mathlib.Core.Path.{_≡_};
 ghost use lib.ListN.{drop};
 ghost use Rattle.csv_rows.specs.Scanning as Scanning;
 ghost use Rattle.csv_rows.specs.Sizes as Sizes;
-
-// Where in a field a scan is: nothing read; in a field without quotes; there behind a carriage return; inside quotes; behind a quote inside quotes, which ends the
-// field unless another follows; behind that quote and a carriage return.
-pub enum Place {
-    Start,
-    Plain,
-    Return,
-    Quoted,
-    Closed,
-    Ending,
-}
 
 // A field under way.
 pub struct Token {
@@ -33,16 +24,6 @@ pub struct Scan {
     pub good: bool,
     pub header: bool,
     pub over: bool,
-}
-
-// What a byte does to a field: it is one of the content, and the field goes on at that place; it is none, and the field goes on; it ends the field, and another
-// follows; it ends the row; it breaks the field's quotes.
-pub enum Turn {
-    Reads(Place),
-    Waits(Place),
-    FieldEnds,
-    RowEnds,
-    Breaks,
 }
 
 // A sound row below the header.
@@ -113,118 +94,6 @@ fn refused(s: Scan, why: Refusal) -> Stepped
     }
 }
 
-// A byte in a field without quotes.
-fn plain_turn(b: u8) -> Turn
-    ensures { λ r. ⌜ r ≡ Scanning.plainTurn b ⌝ }
-{
-    if b == b'"' {
-        return Turn::Breaks;
-    }
-    if b == b',' {
-        return Turn::FieldEnds;
-    }
-    if b == b'\n' {
-        return Turn::RowEnds;
-    }
-    if b == b'\r' {
-        return Turn::Waits(Place::Return);
-    }
-    Turn::Reads(Place::Plain)
-}
-
-// A byte behind a quote inside quotes.
-fn closed_turn(b: u8) -> Turn
-    ensures { λ r. ⌜ r ≡ Scanning.closedTurn b ⌝ }
-{
-    if b == b'"' {
-        return Turn::Waits(Place::Quoted);
-    }
-    if b == b',' {
-        return Turn::FieldEnds;
-    }
-    if b == b'\n' {
-        return Turn::RowEnds;
-    }
-    if b == b'\r' {
-        return Turn::Waits(Place::Ending);
-    }
-    Turn::Breaks
-}
-
-fn byte_turn(place: Place, b: u8) -> Turn
-    ensures { λ r. ⌜ r ≡ Scanning.byteTurn place b ⌝ }
-{
-    match place {
-        Place::Start => {
-            if b == b'"' {
-                return Turn::Waits(Place::Quoted);
-            }
-            plain_turn(b)
-        }
-        Place::Plain => plain_turn(b),
-        Place::Return => plain_turn(b),
-        Place::Quoted => {
-            if b == b'"' {
-                return Turn::Waits(Place::Closed);
-            }
-            Turn::Reads(Place::Quoted)
-        }
-        Place::Closed => closed_turn(b),
-        Place::Ending => {
-            if b == b'\n' {
-                return Turn::RowEnds;
-            }
-            Turn::Breaks
-        }
-    }
-}
-
-// The end of the input, in the field of that number. Where no row is under way all is well, but for the header.
-fn end_turn(header: bool, field: u32, place: Place) -> Turn
-    ensures { λ r. ⌜ r ≡ Scanning.endTurn header field place ⌝ }
-{
-    match place {
-        Place::Start => {
-            if field == 0 {
-                if header {
-                    Turn::Breaks
-                } else {
-                    Turn::Waits(Place::Start)
-                }
-            } else {
-                Turn::RowEnds
-            }
-        }
-        Place::Plain => Turn::RowEnds,
-        Place::Return => Turn::RowEnds,
-        Place::Quoted => Turn::Breaks,
-        Place::Closed => Turn::RowEnds,
-        Place::Ending => Turn::Breaks,
-    }
-}
-
-// Whether a byte spoils the content of a field: a carriage return before it was one of the content, unless it is a line feed; a second quote is a quote of the content.
-fn spoils(place: Place, b: u8) -> bool
-    ensures { λ r. ⌜ r ≡ Scanning.spoils place b ⌝ }
-{
-    match place {
-        Place::Start => false,
-        Place::Plain => false,
-        Place::Return => b != b'\n',
-        Place::Quoted => false,
-        Place::Closed => b == b'"',
-        Place::Ending => false,
-    }
-}
-
-fn held(spoilt: bool, c: Content) -> Content
-    ensures { λ r. ⌜ r ≡ Scanning.held spoilt c ⌝ }
-{
-    let mut out = c;
-    out.spoilt = spoilt | c.spoilt;
-    out
-}
-
 // The field of that content has ended, and another follows.
 fn next_field(s: Scan, c: Content) -> Scan
     ensures { λ r. ⌜ r ≡ Scanning.nextField s c ⌝ }
@@ -245,33 +114,37 @@ fn next_field(s: Scan, c: Content) -> Scan
     out
 }
 
-// The row has ended with the field of that content.
-fn row_ended(s: Scan, c: Content) -> Stepped
-    ensures { λ r. ⌜ r ≡ Scanning.rowEnded s c ⌝ }
+// What the row is that ends with the field of that content.
+fn verdict(header: bool, field: u32, good: bool, drawer: u32, c: Content) -> Row
+    ensures { λ r. ⌜ r ≡ Scanning.verdict header field good drawer c ⌝ }
 {
-    if s.field == 2 {
-        if s.good & csv_fields::good(s.header, s.field, c) {
-            if s.header {
-                return Stepped {
-                    scan: begin_row(false),
-                    row: Row::Header,
-                };
+    if field == 2 {
+        if good & csv_fields::good(header, field, c) {
+            if header {
+                return Row::Header;
             }
             let score = csv_fields::score(c);
-            return Stepped {
-                scan: begin_row(false),
-                row: Row::Sound(Entry {
-                    drawer: s.drawer,
-                    score,
-                }),
-            };
+            return Row::Sound(Entry { drawer, score });
         }
-        if s.header {
-            return refused(s, Refusal::Row);
+        if header {
+            return Row::Faulty(Refusal::Row);
         }
-        return refused(s, Refusal::Field);
+        return Row::Faulty(Refusal::Field);
     }
-    refused(s, Refusal::Row)
+    Row::Faulty(Refusal::Row)
+}
+
+// The scan behind a row. Two functions call `verdict` and this one, which is small: what holds a scan is then inlined, and the scan stays in registers.
+fn after_row(s: Scan, row: Row) -> Stepped
+    ensures { λ r. ⌜ r ≡ Scanning.afterRow s row ⌝ }
+{
+    let next = begin_row(false);
+    match row {
+        Row::Nothing => Stepped { scan: next, row },
+        Row::Header => Stepped { scan: next, row },
+        Row::Sound(_) => Stepped { scan: next, row },
+        Row::Faulty(why) => refused(s, why),
+    }
 }
 
 // The byte b is taken by the field of that content.
@@ -303,7 +176,7 @@ fn taken(s: Scan, turn: Turn, c: Content, b: u8) -> Stepped
             scan: next_field(s, c),
             row: Row::Nothing,
         },
-        Turn::RowEnds => row_ended(s, c),
+        Turn::RowEnds => after_row(s, verdict(s.header, s.field, s.good, s.drawer, c)),
         Turn::Breaks => refused(s, Refusal::Row),
     }
 }
@@ -321,7 +194,12 @@ fn step(scan: Scan, b: u8) -> Stepped
     let t = scan.token;
     let place = t.place;
     let c = t.content;
-    taken(scan, byte_turn(place, b), held(spoils(place, b), c), b)
+    taken(
+        scan,
+        csv_fields::byte_turn(place, b),
+        csv_fields::held(csv_fields::spoils(place, b), c),
+        b,
+    )
 }
 
 fn is_nothing(row: Row) -> bool
@@ -335,26 +213,13 @@ fn is_nothing(row: Row) -> bool
     }
 }
 
-fn is_unquoted(place: Place) -> bool
-    ensures { λ r. ⌜ r ≡ Scanning.isUnquoted place ⌝ }
-{
-    match place {
-        Place::Start => true,
-        Place::Plain => true,
-        Place::Return => false,
-        Place::Quoted => false,
-        Place::Closed => false,
-        Place::Ending => false,
-    }
-}
-
 // Whether the scan is in a drawer or a seen number that is not quoted.
 fn in_number(s: Scan) -> bool
     ensures { λ r. ⌜ r ≡ Scanning.inNumber s ⌝ }
 {
     let t = s.token;
     let place = t.place;
-    (!s.over & !s.header) & ((s.field < 2) & is_unquoted(place))
+    (!s.over & !s.header) & ((s.field < 2) & csv_fields::is_unquoted(place))
 }
 
 // The digits of such a number that stand at the place i, in one go; elsewhere none.
@@ -437,12 +302,18 @@ pub fn finish(scan: Scan) -> Stepped
     let t = scan.token;
     let place = t.place;
     let c = t.content;
-    let turn = end_turn(scan.header, scan.field, place);
+    let turn = csv_fields::end_turn(scan.header, scan.field, place);
     match turn {
         Turn::Reads(_) => still,
         Turn::Waits(_) => still,
         Turn::FieldEnds => still,
-        Turn::RowEnds => row_ended(scan, held(spoils(place, b','), c)),
+        Turn::RowEnds => {
+            let last = csv_fields::held(csv_fields::spoils(place, b','), c);
+            after_row(
+                scan,
+                verdict(scan.header, scan.field, scan.good, scan.drawer, last),
+            )
+        }
         Turn::Breaks => refused(scan, Refusal::Row),
     }
 }

@@ -51,11 +51,12 @@ field-above n ten a field N T F e h = go (157 - field) (few n a (157 - field) N 
     go : (j : ℕ) → j < 59 → j ≡ 157 - field → 98 < field
     go j h e = omega arith
 
-pub doubled-next : (n a field : ℕ) → 98 < field → field ≤ 157 → Doubled n a field → Doubled n (a * 2) (field - 1)
-doubled-next n a field h F e =
-    ap (λ (x : ℕ). x * 2) e ∙ mul-assoc n (2 ^ (157 - field)) 2 ∙ ap (λ (x : ℕ). n * x) (sym (pow-add 2 (157 - field) 1)) ∙ ap (λ (x : ℕ). n * 2 ^ x) (more field h F)
+pub doubled-by : (k n a field : ℕ) → k ≤ field → field ≤ 157 → Doubled n a field → Doubled n (a * 2 ^ k) (field - k)
+doubled-by k n a field h F e =
+    ap (λ (x : ℕ). x * 2 ^ k) e ∙ mul-assoc n (2 ^ (157 - field)) (2 ^ k) ∙ ap (λ (x : ℕ). n * x) (sym (pow-add 2 (157 - field) k))
+    ∙ ap (λ (x : ℕ). n * 2 ^ x) (more field h F)
   where
-    more : (field : ℕ) → 98 < field → field ≤ 157 → 157 - field + 1 ≡ 157 - (field - 1)
+    more : (field : ℕ) → k ≤ field → field ≤ 157 → 157 - field + k ≡ 157 - (field - k)
     more field h F = omega arith
 
 -- ---- the end of it

@@ -30,7 +30,8 @@ fn power(places: u32) -> u64
     1_000_000
 }
 
-// The pattern of n / ten rounded. n is doubled until it is from 2 ^ 23 units on and below 2 ^ 24: then the whole units are the digits that an `f32` keeps.
+// The pattern of n / ten rounded. n is doubled, eight times at once at first, until it is from 2 ^ 23 units on and below 2 ^ 24: then the whole units are the
+// digits that an `f32` keeps.
 // The exponent's field is added to them, so a carry out of the digits goes where it belongs.
 fn pattern(n: u64, ten: u64) -> u64
     requires { ⌜ 1 ≤ n ⌝ ∗ ⌜ n < 2 ^ 32 ⌝ ∗ ⌜ 1 ≤ ten ⌝ ∗ ⌜ ten ≤ 1_000_000 ⌝ }
@@ -40,6 +41,10 @@ fn pattern(n: u64, ten: u64) -> u64
     let unit = ten * 256;
     let mut a = n;
     let mut field: u64 = 157;
+    while a < unit * 0x8000 {
+        a = a * 256;
+        field = field - 8;
+    }
     while a < unit * 0x80_0000 {
         a = a * 2;
         field = field - 1;

@@ -1,5 +1,5 @@
 use mathlib.Core.Path.{sym, _∙_}
-use Rattle.csv_rows.specs.Scanning.{finished, closedBy}
+use Rattle.csv_rows.specs.Scanning.{finished, closedBy, rowEnded}
 use borrow.Author.Needs.{needs}
 use Rattle.csv_rows.proofs.finish.Statement.{statement}
 use Rattle.csv_rows.proofs.finish.Tie as tie
@@ -29,8 +29,11 @@ spoils-requires c κs = search needs
 held-requires : tie.Need-held-requires
 held-requires c κs = search needs
 
-row-ended-requires : tie.Need-row-ended-requires
-row-ended-requires c κs = search needs
+verdict-requires : tie.Need-verdict-requires
+verdict-requires c κs = search needs
+
+after-row-requires : tie.Need-after-row-requires
+after-row-requires c κs = search needs
 
 enum-told-5 : tie.Need-enum-told-5
 enum-told-5 c = search needs
@@ -51,8 +54,8 @@ unfolding finished closedBy
 returns-4 c = simp (c .before .before .before .before .before .if1 .left, sym (c .before .before .end-turn .ensures) ∙ c .enum-told3 .given .1)
 
 returns-5 : tie.Need-returns-5
-unfolding finished closedBy
-returns-5 c = simp (c .before .before .before .before .before .before .before .before .if1 .left, sym (c .before .before .before .before .before .end-turn .ensures) ∙ c .before .before .before .enum-told4 .given .1, c .before .before .spoils .ensures, c .before .held .ensures, c .row-ended .ensures)
+unfolding finished closedBy rowEnded
+returns-5 c = simp (c .before .before .before .before .before .before .before .before .before .if1 .left, sym (c .before .before .before .before .before .before .end-turn .ensures) ∙ c .before .before .before .before .enum-told4 .given .1, c .before .before .before .spoils .ensures, c .before .before .held .ensures, c .before .verdict .ensures, c .after-row .ensures)
 
 returns-6 : tie.Need-returns-6
 unfolding finished closedBy
@@ -70,7 +73,8 @@ finish-spec =
     enum-told-4
     spoils-requires
     held-requires
-    row-ended-requires
+    verdict-requires
+    after-row-requires
     enum-told-5
     refused-requires
     returns-2

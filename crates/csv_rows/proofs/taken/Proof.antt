@@ -1,4 +1,4 @@
-use Rattle.csv_rows.specs.Scanning.{taken}
+use Rattle.csv_rows.specs.Scanning.{taken, rowEnded}
 use borrow.Author.Needs.{needs}
 use Rattle.csv_rows.proofs.taken.Statement.{statement}
 use Rattle.csv_rows.proofs.taken.Tie as tie
@@ -21,8 +21,11 @@ next-field-requires c κs = search needs
 enum-told-2 : tie.Need-enum-told-2
 enum-told-2 c = search needs
 
-row-ended-requires : tie.Need-row-ended-requires
-row-ended-requires c κs = search needs
+verdict-requires : tie.Need-verdict-requires
+verdict-requires c κs = search needs
+
+after-row-requires : tie.Need-after-row-requires
+after-row-requires c κs = search needs
 
 enum-told-3 : tie.Need-enum-told-3
 enum-told-3 c = search needs
@@ -43,8 +46,8 @@ unfolding taken
 returns-3 c = simp (c .before .enum-told .given .1, c .next-field .ensures)
 
 returns-4 : tie.Need-returns-4
-unfolding taken
-returns-4 c = simp (c .before .enum-told2 .given .1, c .row-ended .ensures)
+unfolding taken rowEnded
+returns-4 c = simp (c .before .before .enum-told2 .given .1, c .before .verdict .ensures, c .after-row .ensures)
 
 returns-5 : tie.Need-returns-5
 unfolding taken
@@ -60,7 +63,8 @@ taken-spec =
     enum-told
     next-field-requires
     enum-told-2
-    row-ended-requires
+    verdict-requires
+    after-row-requires
     enum-told-3
     refused-requires
     returns

@@ -1,7 +1,7 @@
 use mathlib.Core.Path.{refl}
-use Rattle.csv_rows.specs.Scanning.{held}
-use Rattle.csv_rows.proofs.held.Statement.{statement}
-use Rattle.csv_rows.proofs.held.Tie as tie
+use Rattle.csv_fields.specs.Quoting.{held}
+use Rattle.csv_fields.proofs.held.Statement.{statement}
+use Rattle.csv_fields.proofs.held.Tie as tie
 
 returns : tie.Need-returns
 unfolding held

@@ -1,7 +1,7 @@
-use Rattle.csv_rows.specs.Scanning.{isUnquoted}
+use Rattle.csv_fields.specs.Quoting.{isUnquoted}
 use borrow.Author.Needs.{needs}
-use Rattle.csv_rows.proofs.is_unquoted.Statement.{statement}
-use Rattle.csv_rows.proofs.is_unquoted.Tie as tie
+use Rattle.csv_fields.proofs.is_unquoted.Statement.{statement}
+use Rattle.csv_fields.proofs.is_unquoted.Tie as tie
 
 enum-told : tie.Need-enum-told
 enum-told c = search needs

@@ -1,7 +1,7 @@
-use Rattle.csv_rows.specs.Scanning.{spoils}
+use Rattle.csv_fields.specs.Quoting.{spoils}
 use borrow.Author.Needs.{needs}
-use Rattle.csv_rows.proofs.spoils.Statement.{statement}
-use Rattle.csv_rows.proofs.spoils.Tie as tie
+use Rattle.csv_fields.proofs.spoils.Statement.{statement}
+use Rattle.csv_fields.proofs.spoils.Tie as tie
 
 enum-told : tie.Need-enum-told
 enum-told c = search needs

@@ -1,8 +1,8 @@
 use borrow.Author.Tests.{eq-eqb, ne-eqb}
-use Rattle.csv_rows.specs.Scanning.{endTurn}
+use Rattle.csv_fields.specs.Quoting.{endTurn}
 use borrow.Author.Needs.{needs}
-use Rattle.csv_rows.proofs.end_turn.Statement.{statement}
-use Rattle.csv_rows.proofs.end_turn.Tie as tie
+use Rattle.csv_fields.proofs.end_turn.Statement.{statement}
+use Rattle.csv_fields.proofs.end_turn.Tie as tie
 
 enum-told : tie.Need-enum-told
 enum-told c = search needs
