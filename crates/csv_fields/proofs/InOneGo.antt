@@ -1,12 +1,11 @@
 -- Digits taken one by one. Assumes nothing.
 use mathlib.Core.Path.{_≡_, ap, _∙_}
 use mathlib.Core.Bool.{true, false}
-use mathlib.Core.List.{List, [], _∷_}
+use mathlib.Core.List.{List, _∷_}
 use Prim.Native.Nat.{ℕ, _+_, _≤_, _<_}
 use native.Mathlib.Numerals.{add-one}
 use lib.ListN.{length, drop, getD, drop-of-length-le}
 use lib.Seq.{drop-cons}
-use Rattle.csv_fields.specs.declared.Digits.{Digits}
 use Rattle.csv_fields.specs.Contents.{isDigit}
 use Rattle.csv_fields.specs.Pushing.{grown, digitsFrom}
 

@@ -1,7 +1,7 @@
 // A field of a cabinet's export, read byte by byte: its quotes, and its content, which is a word of the header, a whole number or a score. Nothing is kept of it but what
 // it says so far.
 ghost use mathlib.Core.Path.{_≡_};
-ghost use Prim.Native.Nat.{ℕ, _≤_, _<_};
+ghost use Prim.Native.Nat.{_≤_, _<_};
 ghost use mathlib.Core.Bool.{true};
 ghost use lib.Dec.{eqb};
 ghost use lib.ListN.{length, getD, drop};

@@ -1,17 +1,17 @@
 -- The pattern that `pattern` writes is that of the fraction rounded. Assumes nothing.
 use mathlib.Core.Path.{_≡_, refl, sym, ap, _∙_, subst}
-use Prim.Native.Nat.{ℕ, suc, _+_, _-_, _*_, _/_, _%_, _^_, _≤_, _<_}
+use Prim.Native.Nat.{ℕ, suc, _+_, _-_, _*_, _%_, _^_, _≤_, _<_, Ordering, Ordering·lt, Ordering·eq, Ordering·gt}
 use native.Mathlib.Nat.{le-trans, le-of-eq, lt-of-le-of-lt, mul-assoc, mul-pos, mul-le-mul-right, mul-lt-mul-of-pos-right, one-mul, mul-one, zero-add, mod-lt, one-le-pow}
 use native.Mathlib.Omega.{arith}
 use mathlib.Core.Bool.{false}
 use lib.Dec.{lit<}
 use lib.Pow.{pow-add, pow-pos}
-use lib.Ieee.{binary32, ofBits, round}
+use lib.Ieee.{binary32, ofBits, round, nearest}
 use lib.Ieee.Nearest.{closest, closest-same}
 use lib.Ieee.Scale.{round-same}
 use Rattle.ieee.proofs.Pattern.{pow-lt-back}
 use Rattle.ieee.proofs.Rounding.{rounded-pattern, Q-le}
-use Rattle.ieee.proofs.Half.{half-even-is}
+use Rattle.ieee.proofs.Half.{Cmp}
 
 -- zero
 pub zero-rounded : (d : ℕ) → 0 < d → round binary32 false 0 d ≡ ofBits binary32 0
@@ -27,9 +27,15 @@ ten-pos k = one-le-pow k 10 (lit< tt)
 pub bit : (a : ℕ) → a % 2 < 2
 bit a = mod-lt a (lit< tt)
 
--- a in units of ten * 256, to the nearest, as the code has it
+-- a in units of ten * 256, to the nearest
 abbrev pub Digits : ℕ → ℕ → ℕ
-Digits ten a = (a + (ten * 128 - 1) + a / (ten * 256) % 2) / (ten * 256)
+Digits ten a = closest a (2 * (ten * 128))
+
+-- how a remainder r of twice h rounds the whole part q
+pub by-half : (q r h : ℕ) (o : Ordering) → Cmp o (r * 2) (2 * h) → (r + q % 2 ≤ h → q ≡ nearest q o) × (h < r + q % 2 → q + 1 ≡ nearest q o)
+by-half q r h Ordering·lt c = (λ _. refl, λ l. absurd (omega (arith, bit q)))
+by-half q r h Ordering·eq c = (λ l. omega (arith, bit q), λ l. omega (arith, bit q))
+by-half q r h Ordering·gt c = (λ l. absurd (omega arith), λ _. omega arith)
 
 -- ---- the loop: a is n doubled 157 - field times
 abbrev pub Doubled : ℕ → ℕ → ℕ → Type 0
@@ -82,23 +88,14 @@ module _ (n ten a field : ℕ) (N : 1 ≤ n) (D : 1 ≤ ten) (F : field ≤ 157)
       go : (x t p a : ℕ) → x * 2 ^ 8 ≡ a * p → a * p < t * 256 * 2 ^ 24 * p → x < 2 ^ 24 * (t * p)
       go x t p a e h = omega arith
 
-  half : Digits ten a ≡ closest a (ten * 256)
-  half = subst (λ (u : ℕ). (a + (ten * 128 - 1) + a / u % 2) / u ≡ closest a u) (twice ten) (half-even-is a (ten * 128) (pos ten D))
-    where
-      twice : (t : ℕ) → 2 * (t * 128) ≡ t * 256
-      twice t = omega arith
-
-      pos : (t : ℕ) → 1 ≤ t → 0 < t * 128
-      pos t h = omega arith
-
   kept : closest (n * 2 ^ 149) (ten * 2 ^ field) ≡ Digits ten a
   kept =
-      closest-same (n * 2 ^ 149) (ten * 2 ^ field) a (ten * 256) (mul-pos D (pow-pos field)) (pos ten D) (go (n * 2 ^ 149) ten (2 ^ field) a same) ∙ sym half
+      closest-same (n * 2 ^ 149) (ten * 2 ^ field) a (2 * (ten * 128)) (mul-pos D (pow-pos field)) (pos ten D) (go (n * 2 ^ 149) ten (2 ^ field) a same)
     where
-      pos : (t : ℕ) → 1 ≤ t → 0 < t * 256
+      pos : (t : ℕ) → 1 ≤ t → 0 < 2 * (t * 128)
       pos t h = omega arith
 
-      go : (x t p a : ℕ) → x * 2 ^ 8 ≡ a * p → x * (t * 256) ≡ a * (t * p)
+      go : (x t p a : ℕ) → x * 2 ^ 8 ≡ a * p → x * (2 * (t * 128)) ≡ a * (t * p)
       go x t p a e =
           let q : x * 2 ^ 8 * t ≡ a * p * t = ap (λ (z : ℕ). z * t) e in
           omega arith

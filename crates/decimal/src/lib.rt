@@ -1,8 +1,9 @@
 // A decimal as the nearest `f32`, a tie to the even one, worked out in whole numbers below 2 ^ 64.
 ghost use mathlib.Core.Path.{_≡_};
-ghost use mathlib.Core.Bool.{Bool, false};
-ghost use Prim.Native.Nat.{ℕ, _+_, _*_, _^_, _≤_, _<_, min};
+ghost use mathlib.Core.Bool.{false};
+ghost use Prim.Native.Nat.{_+_, _*_, _^_, _≤_, _<_, min};
 ghost use lib.Ieee.{binary32, ofBits, round};
+ghost use lib.Ieee.Nearest.{closest};
 ghost use Rattle.decimal.specs.Nearest as Nearest;
 
 // 10 ^ places; places beyond 6 count as 6.
@@ -30,6 +31,19 @@ fn power(places: u32) -> u64
     1_000_000
 }
 
+// a in units of twice the half, to the nearest, a tie to the even one.
+fn to_nearest(a: u64, half: u64) -> u64
+    requires { ⌜ a < 2 ^ 63 ⌝ ∗ ⌜ 1 ≤ half ⌝ ∗ ⌜ half ≤ 128_000_000 ⌝ }
+    ensures { λ r. ⌜ r ≡ closest a (2 * half) ⌝ }
+{
+    let unit = 2 * half;
+    let whole = a / unit;
+    if a % unit + whole % 2 <= half {
+        return whole;
+    }
+    whole + 1
+}
+
 // The pattern of n / ten rounded. n is doubled, eight times at once at first, until it is from 2 ^ 23 units on and below 2 ^ 24: then the whole units are the
 // digits that an `f32` keeps.
 // The exponent's field is added to them, so a carry out of the digits goes where it belongs.
@@ -49,8 +63,7 @@ fn pattern(n: u64, ten: u64) -> u64
         a = a * 2;
         field = field - 1;
     }
-    let odd = (a / unit) % 2;
-    field * 0x80_0000 + (a + (half - 1) + odd) / unit
+    field * 0x80_0000 + to_nearest(a, half)
 }
 
 // n / 10 ^ places to the nearest `f32`, a tie to the even one; `specs/Nearest.antt` says what that means. Places beyond 6 count as 6.

@@ -1,7 +1,7 @@
 -- The run as it is fed its input byte by byte; `Whole` says that this prints `output`, however the input is cut.
 use Prim.Native.Nat.{ℕ, _+_, _^_, _<_}
 use mathlib.Core.Path.{_≡_}
-use mathlib.Core.Bool.{Bool, true, false, cond}
+use mathlib.Core.Bool.{Bool, cond}
 use mathlib.Core.List.{List, [], _++_}
 use lib.ListN.{length, drop}
 use Rattle.csv_rows.specs.declared.Scan.{Scan}

@@ -1,8 +1,9 @@
 -- `decimal::pattern` meets its contract: the loops double a while it is below 2 ^ 23 units; `proofs/Rounded.antt` has the end. Assumes nothing.
-use Prim.Native.Nat.{ℕ, _-_, _*_, _/_, _^_, _≤_, _<_}
+use Prim.Native.Nat.{ℕ, _-_, _*_, _^_, _≤_, _<_}
+use mathlib.Core.Path.{_≡_}
 use native.Mathlib.Omega.{arith}
 use borrow.Author.Needs.{needs}
-use Rattle.decimal.proofs.Rounded.{Doubled, field-above, doubled-by, pattern-is, digits-most, begun, bit}
+use Rattle.decimal.proofs.Rounded.{Digits, Doubled, field-above, doubled-by, pattern-is, digits-most, begun}
 use Rattle.decimal.proofs.pattern.Statement.{statement}
 use Rattle.decimal.proofs.pattern.Tie as tie
 
@@ -76,29 +77,23 @@ loop2-less c = omega (arith, above (c .before .before .before .before .args .n) 
 loop2-again : tie.Need-loop2-again Inv-loop μ-loop Inv-loop2 μ-loop2
 loop2-again c = twofold (c .before .before .before .before .args .n) (c .before .before .before .before .args .ten) (c .before .loop2 .a) (c .before .loop2 .field) (above (c .before .before .before .before .args .n) (c .before .before .before .before .args .ten) (c .before .loop2 .a) (c .before .loop2 .field) (c .before .before .before .before .pre .0) (c .before .before .before .before .pre .1 .1 .1) (c .before .loop2 .inv) (c .loop2-test .taken)) (c .before .loop2 .inv) (c .loop2-test .taken)
 
-div-odd : tie.Need-div-odd Inv-loop μ-loop Inv-loop2 μ-loop2
-div-odd c = search needs
-
 mul-result : tie.Need-mul-result Inv-loop μ-loop Inv-loop2 μ-loop2
 mul-result c = record { fits = omega arith }
 
-sub-result : tie.Need-sub-result Inv-loop μ-loop Inv-loop2 μ-loop2
-sub-result c = omega arith
+to-nearest-requires : tie.Need-to-nearest-requires Inv-loop μ-loop Inv-loop2 μ-loop2
+to-nearest-requires c κs = (omega (arith, c .before .loop2 .inv .2, c .before .before .before .before .pre .1 .1 .1), (omega (arith, c .before .before .before .before .pre .1 .1 .0), omega (arith, c .before .before .before .before .pre .1 .1 .1)))
+
+most : (n ten a field r : ℕ) → 1 ≤ n → 1 ≤ ten → Going n ten a field → ten * 256 * 0x80_0000 ≤ a → r ≡ Digits ten a → r ≤ 2 ^ 24
+most n ten a field r N D g lo e = rw e (digits-most n ten a field N D (g .0) (g .1) lo (g .2))
 
 add-result : tie.Need-add-result Inv-loop μ-loop Inv-loop2 μ-loop2
-add-result c = record { fits = omega arith }
-
-add-result-2 : tie.Need-add-result-2 Inv-loop μ-loop Inv-loop2 μ-loop2
-add-result-2 c = record { fits = omega (arith, bit (c .before .loop2 .a / (c .before .before .before .before .args .ten * 256))) }
-
-div-result : tie.Need-div-result Inv-loop μ-loop Inv-loop2 μ-loop2
-div-result c = search needs
-
-add-result-3 : tie.Need-add-result-3 Inv-loop μ-loop Inv-loop2 μ-loop2
-add-result-3 c = record { fits = omega (arith, digits-most (c .before .before .before .before .args .n) (c .before .before .before .before .args .ten) (c .before .loop2 .a) (c .before .loop2 .field) (c .before .before .before .before .pre .0) (c .before .before .before .before .pre .1 .1 .0) (c .before .loop2 .inv .0) (c .before .loop2 .inv .1) (c .loop2-test .left) (c .before .loop2 .inv .2)) }
+add-result c = record { fits = omega (arith, c .before .before .loop2 .inv .0, most (c .before .before .before .before .before .args .n) (c .before .before .before .before .before .args .ten) (c .before .before .loop2 .a) (c .before .before .loop2 .field) (c .to-nearest .result) (c .before .before .before .before .before .pre .0) (c .before .before .before .before .before .pre .1 .1 .0) (c .before .before .loop2 .inv) (c .before .loop2-test .left) (c .to-nearest .ensures)) }
 
 returns : tie.Need-returns Inv-loop μ-loop Inv-loop2 μ-loop2
-returns c = (omega (arith, digits-most (c .before .before .before .before .args .n) (c .before .before .before .before .args .ten) (c .before .loop2 .a) (c .before .loop2 .field) (c .before .before .before .before .pre .0) (c .before .before .before .before .pre .1 .1 .0) (c .before .loop2 .inv .0) (c .before .loop2 .inv .1) (c .loop2-test .left) (c .before .loop2 .inv .2)), pattern-is (c .before .before .before .before .args .n) (c .before .before .before .before .args .ten) (c .before .loop2 .a) (c .before .loop2 .field) (c .before .before .before .before .pre .0) (c .before .before .before .before .pre .1 .1 .0) (c .before .loop2 .inv .0) (c .before .loop2 .inv .1) (c .loop2-test .left) (c .before .loop2 .inv .2))
+returns c = (
+  omega (arith, c .before .before .loop2 .inv .0, most (c .before .before .before .before .before .args .n) (c .before .before .before .before .before .args .ten) (c .before .before .loop2 .a) (c .before .before .loop2 .field) (c .to-nearest .result) (c .before .before .before .before .before .pre .0) (c .before .before .before .before .before .pre .1 .1 .0) (c .before .before .loop2 .inv) (c .before .loop2-test .left) (c .to-nearest .ensures)),
+  rw (c .to-nearest .ensures) (pattern-is (c .before .before .before .before .before .args .n) (c .before .before .before .before .before .args .ten) (c .before .before .loop2 .a) (c .before .before .loop2 .field) (c .before .before .before .before .before .pre .0) (c .before .before .before .before .before .pre .1 .1 .0) (c .before .before .loop2 .inv .0) (c .before .before .loop2 .inv .1) (c .before .loop2-test .left) (c .before .before .loop2 .inv .2)),
+)
 
 pub pattern-spec : {M : Type 1} → statement M
 pattern-spec =
@@ -122,11 +117,7 @@ pattern-spec =
     sub-field-2
     loop2-less
     loop2-again
-    div-odd
     mul-result
-    sub-result
+    to-nearest-requires
     add-result
-    add-result-2
-    div-result
-    add-result-3
     returns)

@@ -1,19 +1,16 @@
 use borrow.Author.Needs.{needs}
 use Prim.Native.Nat.{_-_, _*_, _≤_}
 use mathlib.Core.List.{[]}
-use mathlib.Core.Path.{_≡_, refl, sym, ap, ap₂, _∙_, subst}
+use mathlib.Core.Path.{_≡_, refl, sym, ap, _∙_}
 use native.Mathlib.Omega.{arith}
 use lib.Seq.{take-all}
-use lib.ListN.{length, take, drop}
+use lib.ListN.{length, take}
 use denote.Ref.{now}
 use Rattle.csv_rows.specs.declared.Reached.{Reached}
-use Rattle.csv_rows.specs.Scanning.{readOn}
 use Rattle.score_rows.specs.Feeding as Feeding
 use Rattle.score_rows.specs.Steps.{Put}
 use Rattle.score_rows.proofs.Bytes.{put-none}
 use Rattle.score_rows.proofs.Feeding.{still-run, still-all}
-use Rattle.export_rows.specs.declared.Taken.{Taken}
-use Rattle.export_rows.specs.Taking as Taking
 use Rattle.export_bytes.specs.Feeding.{runOf, step, said, fed, printed}
 use Rattle.export_bytes.proofs.Parts.{not-true, not-false, over-step, over-said, next-more, turn}
 use Rattle.export_bytes.proofs.read.Statement.{statement}
