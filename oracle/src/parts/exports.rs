@@ -12,7 +12,7 @@ use crate::random::Random;
 use crate::tally::Tally;
 
 const OURS: &str = "target/bin/export_watch";
-const CASES: &str = "crates/export_watch_cases";
+const CASES: &str = "crates/watch_cases";
 
 const SOUND: u64 = 300;
 const FAULTS: u64 = 8;
@@ -85,11 +85,13 @@ impl Both<'_> {
     }
 }
 
-/// The plain program prints what is stored, and so does ours.
+/// The plain program prints what is stored for the exports, and so does ours. The other cases are
+/// the score watch's.
 fn stored(both: &mut Both) {
     let names = fs::read_to_string(format!("{CASES}/stdin")).expect("a list of cases");
     let names: Vec<&str> = names.lines().collect();
-    for names in names.chunks(2) {
+    let exports = names.chunks(2).filter(|names| names[0].ends_with(".csv"));
+    for names in exports {
         let read = |k: usize| fs::read(format!("{CASES}/data/{}", names[k]));
         let (input, output) = (read(0).expect("an input"), read(1).expect("an output"));
         let rust = both.print(names[0], &input);

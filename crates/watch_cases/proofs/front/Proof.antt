@@ -1,8 +1,8 @@
 use mathlib.Core.Path.{sym}
 use lib.Seq.{length-take-le}
 use borrow.Author.Needs.{needs}
-use Rattle.score_watch_cases.proofs.front.Statement.{statement}
-use Rattle.score_watch_cases.proofs.front.Tie as tie
+use Rattle.watch_cases.proofs.front.Statement.{statement}
+use Rattle.watch_cases.proofs.front.Tie as tie
 
 slice-aggregate-result : tie.Need-slice-aggregate-result
 slice-aggregate-result c = sym (length-take-le _ _ (c .before .if1 .taken))

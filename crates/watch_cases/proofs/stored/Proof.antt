@@ -1,9 +1,8 @@
 use Prim.Native.Nat.{_-_}
 use lib.ListN.{length}
 use borrow.Author.Needs.{needs}
-use Rattle.score_watch_cases.proofs.stored.Statement.{statement}
-use Rattle.score_watch_cases.proofs.stored.Tie as tie
-use Rattle.score_watch_cases.proofs.stored.Reads as reads
+use Rattle.watch_cases.proofs.stored.Statement.{statement}
+use Rattle.watch_cases.proofs.stored.Tie as tie
 
 abbrev Inv-loop : tie.InvT-loop
 Inv-loop names tally₀ at₀ t9 tally at = Unit {0}

@@ -1,10 +1,8 @@
 use mathlib.Core.Path.{sym}
 use lib.Seq.{length-take-le}
-use Rattle.score_lines.proofs.Parts.{within}
 use borrow.Author.Needs.{needs}
-use Rattle.score_watch_cases.proofs.fed.Statement.{statement}
-use Rattle.score_watch_cases.proofs.fed.Tie as tie
-use Rattle.score_watch_cases.proofs.fed.Reads as reads
+use Rattle.watch_cases.proofs.fed.Statement.{statement}
+use Rattle.watch_cases.proofs.fed.Tie as tie
 
 buffer-requires : tie.Need-buffer-requires
 buffer-requires c κs = search needs
@@ -19,10 +17,10 @@ feed-requires : tie.Need-feed-requires
 feed-requires c κs = search needs
 
 array-share-prefix-out : tie.Need-array-share-prefix-out
-array-share-prefix-out c = within (c .feed .ensures)
+array-share-prefix-out c = c .feed .ensures
 
 slice-aggregate-held : tie.Need-slice-aggregate-held
-slice-aggregate-held c = sym (length-take-le _ _ (within (c .before .feed .ensures)))
+slice-aggregate-held c = sym (length-take-le _ _ (c .before .feed .ensures))
 
 held-requires : tie.Need-held-requires
 held-requires c κs = search needs

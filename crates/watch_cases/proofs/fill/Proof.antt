@@ -1,9 +1,10 @@
 use Prim.Native.Nat.{_-_}
 use mathlib.Core.Path.{_≡_}
+use native.Mathlib.Nat.{mod-lt}
 use lib.ListN.{length}
 use borrow.Author.Needs.{needs}
-use Rattle.score_watch_cases.proofs.ones.Statement.{statement}
-use Rattle.score_watch_cases.proofs.ones.Tie as tie
+use Rattle.watch_cases.proofs.fill.Statement.{statement}
+use Rattle.watch_cases.proofs.fill.Tie as tie
 
 abbrev Inv-loop : tie.InvT-loop
 Inv-loop buffer₀ line i₀ buffer i = length buffer ≡ length buffer₀
@@ -14,8 +15,11 @@ abbrev μ-loop : tie.MeasureT-loop
 loop-holds : tie.Need-loop-holds Inv-loop μ-loop
 loop-holds c = search needs
 
-element-copy-out-buffer : tie.Need-element-copy-out-buffer Inv-loop μ-loop
-element-copy-out-buffer c = search needs
+rem-buffer : tie.Need-rem-buffer Inv-loop μ-loop
+rem-buffer c = search needs
+
+shared-slice-read-buffer : tie.Need-shared-slice-read-buffer Inv-loop μ-loop
+shared-slice-read-buffer c = mod-lt (c .before .before .loop .i) (c .before .before .before .pre)
 
 slice-write-buffer : tie.Need-slice-write-buffer Inv-loop μ-loop
 slice-write-buffer c = search needs
@@ -35,14 +39,15 @@ same-length c = search needs
 returns : tie.Need-returns Inv-loop μ-loop
 returns c = search needs
 
-pub ones-spec : {M : Type 1} → statement M
-ones-spec =
+pub fill-spec : {M : Type 1} → statement M
+fill-spec =
     tie.close
     (tie.spec
     Inv-loop
     μ-loop
     loop-holds
-    element-copy-out-buffer
+    rem-buffer
+    shared-slice-read-buffer
     slice-write-buffer
     add-i
     loop-less

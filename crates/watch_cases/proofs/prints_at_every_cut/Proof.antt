@@ -1,15 +1,14 @@
 use Prim.Native.Nat.{_-_, _+_}
 use lib.ListN.{length}
 use borrow.Author.Needs.{needs}
-use Rattle.score_watch_cases.proofs.prints_at_every_cut.Statement.{statement}
-use Rattle.score_watch_cases.proofs.prints_at_every_cut.Tie as tie
-use Rattle.score_watch_cases.proofs.prints_at_every_cut.Reads as reads
+use Rattle.watch_cases.proofs.prints_at_every_cut.Statement.{statement}
+use Rattle.watch_cases.proofs.prints_at_every_cut.Tie as tie
 
 abbrev Inv-loop : tie.InvT-loop
-Inv-loop input expected cut₀ cut = Unit {0}
+Inv-loop start input expected cut₀ cut = Unit {0}
 
 abbrev μ-loop : tie.MeasureT-loop
-μ-loop input expected cut₀ cut = length input + 1 - cut
+μ-loop start input expected cut₀ cut = length input + 1 - cut
 
 loop-holds : tie.Need-loop-holds Inv-loop μ-loop
 loop-holds c = search needs

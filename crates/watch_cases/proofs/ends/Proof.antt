@@ -1,19 +1,17 @@
 use mathlib.Core.Path.{sym}
 use lib.Seq.{length-take-le}
-use Rattle.score_lines.proofs.Parts.{within}
 use borrow.Author.Needs.{needs}
-use Rattle.score_watch_cases.proofs.ends.Statement.{statement}
-use Rattle.score_watch_cases.proofs.ends.Tie as tie
-use Rattle.score_watch_cases.proofs.ends.Reads as reads
+use Rattle.watch_cases.proofs.ends.Statement.{statement}
+use Rattle.watch_cases.proofs.ends.Tie as tie
 
 finish-requires : tie.Need-finish-requires
 finish-requires c κs = search needs
 
 array-share-prefix-out : tie.Need-array-share-prefix-out
-array-share-prefix-out c = within (c .finish .ensures)
+array-share-prefix-out c = c .finish .ensures
 
 slice-aggregate-held : tie.Need-slice-aggregate-held
-slice-aggregate-held c = sym (length-take-le _ _ (within (c .before .finish .ensures)))
+slice-aggregate-held c = sym (length-take-le _ _ (c .before .finish .ensures))
 
 held-requires : tie.Need-held-requires
 held-requires c κs = search needs
