@@ -1,6 +1,6 @@
-// Runs the libraries of both watches on stored cases. Standard input names them, for each a line with the file of its input, `.csv` for an export, and one
-// with the file of its output. Every case is run once for each place at which its input can be cut in two. Then come runs too long to be stored: at the
-// limits of 65,536 lines of scores and 65,536 rows of an export's drawer, and with a million rows of another drawer.
+// Runs the libraries of both watches on stored cases. Standard input names them, for each a line with the file of its input and one with the file of its
+// output. The input's name tells what is read: `.in` scores, `.csv` an export; `.lines` scores behind 65,536 lines, `.rows` and `.zeros` an export behind
+// 65,536 rows of its drawer, `.million` one behind a million rows of another drawer. Every case is run once for each place at which its input can be cut in two.
 use libc::STDIN_FILENO;
 use libc::STDOUT_FILENO;
 use score_rows::PART;
@@ -149,18 +149,13 @@ fn ends(before: Going, expected: &[u8]) -> bool {
     after.ok & (after.at == expected.len())
 }
 
-// Whether the run prints the rest of what is expected for these bytes and then the end.
-fn ends_with(before: Going, more: &[u8], expected: &[u8]) -> bool {
-    ends(fed(before, more, expected), expected)
-}
-
 // Whether the input, cut at that place, prints what is expected.
-fn prints(start: Watch, input: &[u8], cut: usize, expected: &[u8]) -> bool {
-    let first = fed(begun(start, expected), front(input, cut), expected);
-    ends_with(first, behind(input, cut), expected)
+fn prints(start: Going, input: &[u8], cut: usize, expected: &[u8]) -> bool {
+    let first = fed(start, front(input, cut), expected);
+    ends(fed(first, behind(input, cut), expected), expected)
 }
 
-fn prints_at_every_cut(start: Watch, input: &[u8], expected: &[u8]) -> bool {
+fn prints_at_every_cut(start: Going, input: &[u8], expected: &[u8]) -> bool {
     let mut cut = 0usize;
     while cut <= input.len() {
         if !prints(start, input, cut, expected) {
@@ -169,73 +164,6 @@ fn prints_at_every_cut(start: Watch, input: &[u8], expected: &[u8]) -> bool {
         cut += 1;
     }
     true
-}
-
-// The start of the watch that a file with that name is for.
-fn start_for(name: &[u8]) -> Watch {
-    let end = b".csv";
-    if end.len() <= name.len() {
-        if check::same(&name[name.len() - end.len()..], end) {
-            return export();
-        }
-    }
-    scores()
-}
-
-// Whether the files of a case can be read and agree.
-fn agrees(input: &[u8], expected: &[u8]) -> bool {
-    let from = os::open_read(input);
-    if from < 0 {
-        return false;
-    }
-    let mut given = io::buffer();
-    let n = io::read_full(from, &mut given);
-    libc::close(from);
-    let to = os::open_read(expected);
-    if to < 0 {
-        return false;
-    }
-    let mut wanted = io::large_buffer();
-    let m = io::read_full(to, &mut wanted);
-    libc::close(to);
-    prints_at_every_cut(start_for(input), &given[..n], &wanted[..m])
-}
-
-// One more case, named where it differs.
-fn noted(tally: Tally, name: &[u8], ok: bool) -> Tally {
-    if ok {
-        return Tally {
-            cases: std::num::wrapping_add_u64(tally.cases, 1),
-            differ: tally.differ,
-        };
-    }
-    io::write_all(STDOUT_FILENO, name);
-    io::write_all(STDOUT_FILENO, b" differs\n");
-    Tally {
-        cases: std::num::wrapping_add_u64(tally.cases, 1),
-        differ: std::num::wrapping_add_u64(tally.differ, 1),
-    }
-}
-
-fn stored(names: &[u8]) -> Tally {
-    let mut tally = Tally {
-        cases: 0,
-        differ: 0,
-    };
-    let mut at = 0usize;
-    while at < names.len() {
-        let end = bytes::scan::find(names, at, names.len(), b'\n');
-        if end == names.len() {
-            return noted(tally, b"the list of cases", false);
-        }
-        let next = end + 1;
-        let last = bytes::scan::find(names, next, names.len(), b'\n');
-        let input = &names[at..end];
-        let ok = agrees(input, &names[next..last]);
-        tally = noted(tally, input, ok);
-        at = last + 1;
-    }
-    tally
 }
 
 // Fills the buffer with the line, over and over.
@@ -276,98 +204,112 @@ fn full_scores() -> Going {
     unseen(repeated(fresh(scores()), b"3f800000\n", 2304, 256, b""))
 }
 
-// An export's run that has read the header, and the row over and over in parts of n bytes.
-fn read_rows(row: &[u8], n: usize, parts: usize) -> Going
+// An export's run that has read the header and 65,536 times that row of six bytes, 512 a part.
+fn read_rows(row: &[u8]) -> Going
     requires { ⌜ 0 < length (now row) ⌝ }
 {
     let headed = fed(fresh(export()), b"drawer,seen,score\n", b"");
-    unseen(repeated(headed, row, n, parts, b""))
+    unseen(repeated(headed, row, 3072, 128, b""))
 }
 
-// A run that has read 65,536 times that row of six bytes, 512 a part.
-fn full_export(row: &[u8]) -> Going
-    requires { ⌜ 0 < length (now row) ⌝ }
-{
-    read_rows(row, 3072, 128)
-}
-
-fn score_limit(tally: Tally) -> Tally {
-    let full = full_scores();
-    let bad = b"bad line 65537\n";
-    let a = noted(
-        tally,
-        b"65,536 lines",
-        ends_with(full, b"", b"quiet 65536 raised 0\n"),
-    );
-    let b = noted(
-        a,
-        b"a score as line 65,537",
-        ends_with(full, b"3f800000\n", bad),
-    );
-    let c = noted(b, b"an open line 65,537", ends_with(full, b"3f800000", bad));
-    let d = noted(c, b"an empty line 65,537", ends_with(full, b"\n", bad));
-    noted(d, b"a malformed line 65,537", ends_with(full, b"-", bad))
-}
-
-fn export_limit(tally: Tally) -> Tally {
-    let full = full_export(b"1,1,1\n");
-    let zeros = full_export(b"1,1,0\n");
-    let counts = b"quiet 65536 raised 0\n";
-    let a = noted(tally, b"65,536 rows", ends_with(full, b"", counts));
-    let b = noted(
-        a,
-        b"a sound row 65,537",
-        ends_with(full, b"1,1,1\n", b"bad line 65538\n"),
-    );
-    let c = noted(
-        b,
-        b"another drawer's row before row 65,537",
-        ends_with(full, b"2,1,1\n1,1,1\n", b"bad line 65539\n"),
-    );
-    let d = noted(
-        c,
-        b"a faulty row 65,537",
-        ends_with(full, b"1,1,x\n", b"bad line 65538 10\n"),
-    );
-    let e = noted(d, b"65,536 zeros", ends_with(zeros, b"", counts));
-    noted(
-        e,
-        b"a row behind 65,536 zeros",
-        ends_with(zeros, b"1,1,0\n", b"bad line 65538\n"),
-    )
-}
-
-// Whether a million rows of another drawer, 625 a part, print nothing between two of the watched one.
-fn million() -> bool {
-    let expected =
-        b"line threshold grade\n2 00000000 00000000\n1000003 3f800000 00000000\nquiet 2 raised 0\n";
-    let top = fed(
+// An export's run that has read the header, a row of drawer 1 and a million rows of drawer 2, 625 a part.
+fn million(expected: &[u8]) -> Going {
+    let first = fed(
         begun(export(), expected),
         b"drawer,seen,score\n1,1,1\n",
         expected,
     );
-    let others = repeated(top, b"2,1,1\n", 3750, 1600, expected);
-    ends_with(others, b"1,1,1\n", expected)
+    repeated(first, b"2,1,1\n", 3750, 1600, expected)
 }
 
-// Whether a thousand rows of the score 1, 500 a part, are all quiet.
-fn thousand() -> bool {
-    ends_with(
-        read_rows(b"1,1,1\n", 3000, 2),
-        b"",
-        b"quiet 1000 raised 0\n",
-    )
+fn ends_in(name: &[u8], end: &[u8]) -> bool {
+    if end.len() <= name.len() {
+        return check::same(&name[name.len() - end.len()..], end);
+    }
+    false
 }
 
-fn long(tally: Tally) -> Tally {
-    let a = noted(tally, b"a million rows of another drawer", million());
-    noted(a, b"a thousand rows of ones", thousand())
+// What has been read before the input of a file with that name.
+fn start_for(name: &[u8], expected: &[u8]) -> Going {
+    if ends_in(name, b".csv") {
+        return begun(export(), expected);
+    }
+    if ends_in(name, b".rows") {
+        return read_rows(b"1,1,1\n");
+    }
+    if ends_in(name, b".zeros") {
+        return read_rows(b"1,1,0\n");
+    }
+    if ends_in(name, b".million") {
+        return million(expected);
+    }
+    if ends_in(name, b".lines") {
+        return full_scores();
+    }
+    begun(scores(), expected)
+}
+
+// Whether the files of a case can be read and agree.
+fn agrees(input: &[u8], expected: &[u8]) -> bool {
+    let from = os::open_read(input);
+    if from < 0 {
+        return false;
+    }
+    let mut given = io::buffer();
+    let n = io::read_full(from, &mut given);
+    libc::close(from);
+    let to = os::open_read(expected);
+    if to < 0 {
+        return false;
+    }
+    let mut wanted = io::large_buffer();
+    let m = io::read_full(to, &mut wanted);
+    libc::close(to);
+    let due = &wanted[..m];
+    prints_at_every_cut(start_for(input, due), &given[..n], due)
+}
+
+// One more case, named where it differs.
+fn noted(tally: Tally, name: &[u8], ok: bool) -> Tally {
+    if ok {
+        return Tally {
+            cases: std::num::wrapping_add_u64(tally.cases, 1),
+            differ: tally.differ,
+        };
+    }
+    io::write_all(STDOUT_FILENO, name);
+    io::write_all(STDOUT_FILENO, b" differs\n");
+    Tally {
+        cases: std::num::wrapping_add_u64(tally.cases, 1),
+        differ: std::num::wrapping_add_u64(tally.differ, 1),
+    }
+}
+
+fn stored(names: &[u8]) -> Tally {
+    let mut tally = Tally {
+        cases: 0,
+        differ: 0,
+    };
+    let mut at = 0usize;
+    while at < names.len() {
+        let end = bytes::scan::find(names, at, names.len(), b'\n');
+        if end == names.len() {
+            return noted(tally, b"the list of cases", false);
+        }
+        let next = end + 1;
+        let last = bytes::scan::find(names, next, names.len(), b'\n');
+        let input = &names[at..end];
+        let ok = agrees(input, &names[next..last]);
+        tally = noted(tally, input, ok);
+        at = last + 1;
+    }
+    tally
 }
 
 fn main() {
     let mut names = io::large_buffer();
     let n = io::read_full(STDIN_FILENO, &mut names);
-    let tally = long(export_limit(score_limit(stored(&names[..n]))));
+    let tally = stored(&names[..n]);
     io::print_decimal(STDOUT_FILENO, tally.cases);
     io::write_all(STDOUT_FILENO, b" cases, ");
     io::print_decimal(STDOUT_FILENO, tally.differ);
