@@ -3,7 +3,7 @@
 use std::error::Error;
 use std::fmt;
 
-/// The reasons for a refusal, by number. Where several apply, the smallest is given.
+/// The reasons for a refusal, by number. Of 1 to 8 the smallest that applies is given; 9, then 10, come before them.
 ///
 /// ```
 /// use withdrawal_watch::Refusal;

@@ -7,10 +7,9 @@ use Prim.Native.Nat.{ℕ, zero, suc, _^_, _≤_, _<_}
 use native.Mathlib.Nat.{zero-lt-suc}
 use lib.ListN.{length}
 use lib.Ieee.{binary32, round}
-use Rattle.decimal.specs.Nearest.{Nearest}
 use Rattle.decimal.proofs.Meaning.{positive-decimal, at-least, at-most, zero-decimal, nearest-decimal}
 use Rattle.csv_fields.specs.Contents.{number, before, behind, isScore, scoreOf}
-use Rattle.csv_fields.specs.Sizes.{ZeroOrSized}
+use Rattle.csv_fields.specs.Sizes.{ZeroOrSized, NearestScores}
 use Rattle.csv_fields.proofs.Numbers.{score-lt, scored}
 
 decimal-size : (n k : ℕ) → n < 10 ^ 9 → k ≤ 6 → ZeroOrSized (round binary32 false n (10 ^ k))
@@ -22,6 +21,6 @@ pub score-size : (content : List ℕ) → isScore content ≡ true → ZeroOrSiz
 unfolding scoreOf
 score-size c h = decimal-size (number 0 (before c ++ behind c)) (length (behind c)) (score-lt c h) (scored c h .few)
 
-pub score-nearest : (content : List ℕ) → isScore content ≡ true → Nearest binary32 (number 0 (before content ++ behind content)) (10 ^ length (behind content)) (scoreOf content)
+pub score-nearest : NearestScores
 unfolding scoreOf
 score-nearest c h = nearest-decimal (number 0 (before c ++ behind c)) (length (behind c)) (score-lt c h) (scored c h .few)

@@ -48,14 +48,15 @@ spoils Quoted b = false
 spoils Closed b = eqb b (code "\"")
 spoils Ending b = false
 
+-- The content, spoilt where the flag says so.
 unfoldable pub held : Bool → Content → Content
 held spoilt c = contentOf (spoilt || c .spoilt) (c .number) (c .whole) (c .point) (c .places)
 
--- No quote has been read.
-unfoldable pub isUnquoted : Place → Bool
-isUnquoted Start = true
-isUnquoted Plain = true
-isUnquoted Return = false
-isUnquoted Quoted = false
-isUnquoted Closed = false
-isUnquoted Ending = false
+-- The next byte follows a field without quotes as it stands: no quote has been read, and no carriage return just before.
+unfoldable pub isPlain : Place → Bool
+isPlain Start = true
+isPlain Plain = true
+isPlain Return = false
+isPlain Quoted = false
+isPlain Closed = false
+isPlain Ending = false

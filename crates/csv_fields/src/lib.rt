@@ -8,6 +8,7 @@ ghost use lib.ListN.{length, getD, drop};
 ghost use Rattle.csv_fields.specs.Contents as Contents;
 ghost use Rattle.csv_fields.specs.Pushing as Pushing;
 ghost use Rattle.csv_fields.specs.Quoting as Quoting;
+ghost use Rattle.csv_fields.specs.Sizes as Sizes;
 
 // The largest drawer and the largest seen number.
 const MOST_DRAWER: u32 = 65_535;
@@ -34,7 +35,7 @@ pub enum Place {
 }
 
 // What a byte does to a field: it is one of the content, and the field goes on at that place; it is none, and the field goes on; it ends the field, and another
-// follows; it ends the row; it breaks the field's quotes.
+// follows; it ends the row; it breaks the field's quotes, or ends an input that has no header.
 pub enum Turn {
     Reads(Place),
     Waits(Place),
@@ -275,6 +276,7 @@ fn closed_turn(b: u8) -> Turn
     Turn::Breaks
 }
 
+// A byte at each place of a field.
 pub fn byte_turn(place: Place, b: u8) -> Turn
     ensures { λ r. ⌜ r ≡ Quoting.byteTurn place b ⌝ }
 {
@@ -341,6 +343,7 @@ pub fn spoils(place: Place, b: u8) -> bool
     }
 }
 
+// The content, spoilt where the flag says so.
 pub fn held(spoilt: bool, c: Content) -> Content
     ensures { λ r. ⌜ r ≡ Quoting.held spoilt c ⌝ }
 {
@@ -349,9 +352,9 @@ pub fn held(spoilt: bool, c: Content) -> Content
     out
 }
 
-// Whether a field has no quotes so far.
-pub fn is_unquoted(place: Place) -> bool
-    ensures { λ r. ⌜ r ≡ Quoting.isUnquoted place ⌝ }
+// Whether the next byte follows a field without quotes as it stands: no quote has been read, and no carriage return just before.
+pub fn is_plain(place: Place) -> bool
+    ensures { λ r. ⌜ r ≡ Quoting.isPlain place ⌝ }
 {
     match place {
         Place::Start => true,
@@ -362,3 +365,8 @@ pub fn is_unquoted(place: Place) -> bool
         Place::Ending => false,
     }
 }
+
+// Every score that is read is the nearest `f32`, a tie going to the even one. Nothing calls it: the check asks for its proof.
+fn nearest_scores()
+    ensures { λ _. ⌜ Sizes.NearestScores ⌝ }
+{}

@@ -18,7 +18,7 @@ use Rattle.csv_fields.proofs.InOneGo.{at-byte}
 use Rattle.csv_fields.specs.declared.Place.{Place}
 use Rattle.csv_fields.specs.declared.Place.the-variants.{Start, Plain, Return, Quoted, Closed, Ending}
 use Rattle.csv_fields.specs.declared.Turn.the-variants.{Reads}
-use Rattle.csv_fields.specs.Quoting.{plainTurn, byteTurn, spoils, held, isUnquoted}
+use Rattle.csv_fields.specs.Quoting.{plainTurn, byteTurn, spoils, held, isPlain}
 use Rattle.csv_rows.specs.declared.Row.the-variants.{Nothing}
 use Rattle.csv_rows.specs.declared.Scan.{Scan}
 use Rattle.csv_rows.specs.declared.Reached.{Reached}
@@ -45,10 +45,10 @@ pushed : (field : ℕ) (c : Content) (b : ℕ) → field < 2 → isDigit b ≡ t
 unfolding push pushDigit
 pushed field c b h d = simp (ne-eqb field 2 (λ e. omega arith), d)
 
-at-place : (place : Place) (field : ℕ) (good : Bool) (drawer : ℕ) (c : Content) (b : ℕ) → field < 2 → isUnquoted place ≡ true → isDigit b ≡ true
+at-place : (place : Place) (field : ℕ) (good : Bool) (drawer : ℕ) (c : Content) (b : ℕ) → field < 2 → isPlain place ≡ true → isDigit b ≡ true
     → stepped (scanOf false false field good drawer (token place c)) b
     ≡ steppedOf (scanOf false false field good drawer (token Plain (contentOf (c .spoilt) (grown (c .number) b) (c .whole) (c .point) (c .places)))) Nothing
-unfolding stepped byteTurn spoils held taken isUnquoted
+unfolding stepped byteTurn spoils held taken isPlain
 at-place Start field good drawer c b h p d = simp (ne-eqb b 34 (λ e. omega (arith, digit-from b d)), digit-turn b d) (ap (λ (x : Content). steppedOf (scanOf false false field good drawer (token Plain x)) Nothing) (pushed field c b h d))
 at-place Plain field good drawer c b h p d = simp (digit-turn b d) (ap (λ (x : Content). steppedOf (scanOf false false field good drawer (token Plain x)) Nothing) (pushed field c b h d))
 at-place Return field good drawer c b h p d = false-true p
@@ -60,14 +60,14 @@ record Inside (s : Scan) : Type 0 where
   open-scan : s .over ≡ false
   below : s .header ≡ false
   number : s .field < 2
-  unquoted : isUnquoted (s .token .place) ≡ true
+  unquoted : isPlain (s .token .place) ≡ true
 
 inside : (s : Scan) → inNumber s ≡ true → Inside s
 unfolding inNumber
 inside s e =
-    let a = and-true (not (s .over) && not (s .header)) (ltb (s .field) 2 && isUnquoted (s .token .place)) e in
+    let a = and-true (not (s .over) && not (s .header)) (ltb (s .field) 2 && isPlain (s .token .place)) e in
     let o = and-true (not (s .over)) (not (s .header)) (a .0) in
-    let f = and-true (ltb (s .field) 2) (isUnquoted (s .token .place)) (a .1) in
+    let f = and-true (ltb (s .field) 2) (isPlain (s .token .place)) (a .1) in
     record { open-scan = not-true (s .over) (o .0); below = not-true (s .header) (o .1); number = ltb-true (s .field) 2 (f .0); unquoted = f .1 }
 
 one-digit : (s : Scan) (b : ℕ) → inNumber s ≡ true → isDigit b ≡ true → stepped s b ≡ steppedOf (withNumber s (grown (s .token .content .number) b)) Nothing
@@ -79,7 +79,7 @@ one-digit s b e d =
     ∙ sym (ap₂ (λ (o h : Bool). steppedOf (scanOf o h (s .field) (s .good) (s .drawer) (token Plain (contentOf (s .token .content .spoilt) (grown (s .token .content .number) b) (s .token .content .whole) (s .token .content .point) (s .token .content .places)))) Nothing) (i .open-scan) (i .below))
 
 still-inside : (s : Scan) (n : ℕ) → inNumber s ≡ true → inNumber (withNumber s n) ≡ true
-unfolding inNumber withNumber isUnquoted
+unfolding inNumber withNumber isPlain
 still-inside s n e = let i = inside s e in simp (i .open-scan, i .below, lt-ltb (s .field) 2 (i .number))
 
 read-digit : (s : Scan) (i b : ℕ) (bs : List ℕ) → inNumber s ≡ true → isDigit b ≡ true → readOn s i (b ∷ bs) ≡ readOn (withNumber s (grown (s .token .content .number) b)) (i + 1) bs

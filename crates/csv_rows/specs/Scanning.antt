@@ -14,7 +14,7 @@ use Rattle.csv_fields.specs.declared.Place.the-variants.{Start, Plain}
 use Rattle.csv_fields.specs.declared.Turn.{Turn}
 use Rattle.csv_fields.specs.declared.Turn.the-variants.{Reads, Waits, FieldEnds, RowEnds, Breaks}
 use Rattle.csv_fields.specs.Pushing.{contentOf, fresh, push, digitsFrom, good, score}
-use Rattle.csv_fields.specs.Quoting.{byteTurn, endTurn, spoils, held, isUnquoted}
+use Rattle.csv_fields.specs.Quoting.{byteTurn, endTurn, spoils, held, isPlain}
 use Rattle.csv_rows.specs.declared.Token.{Token}
 use Rattle.csv_rows.specs.declared.Scan.{Scan}
 use Rattle.csv_rows.specs.declared.Stepped.{Stepped}
@@ -118,7 +118,7 @@ readOn s i (b ∷ bs) =
 
 -- Digits of a drawer or a seen number without quotes are taken in one go, which is the same.
 unfoldable pub inNumber : Scan → Bool
-inNumber s = (not (s .over) && not (s .header)) && (ltb (s .field) 2 && isUnquoted (s .token .place))
+inNumber s = (not (s .over) && not (s .header)) && (ltb (s .field) 2 && isPlain (s .token .place))
 
 unfoldable pub digitsAt : Scan → ℕ → List ℕ → Digits
 digitsAt s i bs = cond (inNumber s) (digitsFrom (s .token .content .number) i bs) (record { number = 0; next = i })

@@ -134,7 +134,7 @@ fn verdict(header: bool, field: u32, good: bool, drawer: u32, c: Content) -> Row
     Row::Faulty(Refusal::Row)
 }
 
-// The scan behind a row. Two functions call `verdict` and this one, which is small: what holds a scan is then inlined, and the scan stays in registers.
+// The scan behind a row. `taken` and `finish` both call it, so it is small and apart from `verdict`: then it is inlined, and the scan stays in registers.
 fn after_row(s: Scan, row: Row) -> Stepped
     ensures { λ r. ⌜ r ≡ Scanning.afterRow s row ⌝ }
 {
@@ -213,13 +213,13 @@ fn is_nothing(row: Row) -> bool
     }
 }
 
-// Whether the scan is in a drawer or a seen number that is not quoted.
+// Whether the scan is in a drawer or a seen number without quotes, and not behind a carriage return.
 fn in_number(s: Scan) -> bool
     ensures { λ r. ⌜ r ≡ Scanning.inNumber s ⌝ }
 {
     let t = s.token;
     let place = t.place;
-    (!s.over & !s.header) & ((s.field < 2) & csv_fields::is_unquoted(place))
+    (!s.over & !s.header) & ((s.field < 2) & csv_fields::is_plain(place))
 }
 
 // The digits of such a number that stand at the place i, in one go; elsewhere none.

@@ -119,17 +119,13 @@ read-on [] s c i going = record {
 }
 read-on (b ∷ bs) s c i going = by-row s c i b bs going (isNothing (stepped s b .row)) refl (read-on bs (stepped s b .scan) c (i + 1) going)
 
--- What a row, a byte and the end of the input print is short.
+-- What a row and the end of the input print is short.
 pub text-length : (n : ℕ) (l : Line) → length (Taking.text n l) ≤ longest
 unfolding Taking.text
 text-length n Lines.Nothing = omega arith
 text-length n (Lines.Shown g) = row-length n g
 text-length n Lines.Full = bad-line-length n
 text-length n (Lines.Faulty why) = bad-row-length n why
-
-pub said-length : (run : Run) (b : ℕ) → length (said run b) ≤ longest
-unfolding said
-said-length run b = cond-length (isOpen run) longest (takenSaid (stepped (run .scan) b) (run .course)) [] (text-length (run .course .row) _) (omega arith)
 
 pub total-length : (c : Course) → length (totalSaid c) ≤ longest
 unfolding totalSaid

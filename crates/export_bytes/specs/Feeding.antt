@@ -61,7 +61,8 @@ closing run =
     let s = Scanning.finished (run .scan) in
     takenSaid s (run .course) ++ totalSaid (Taking.taken (run .course) (s .row) .course)
 
--- The whole: however an input is cut, header, parts and end together print its output. It has fewer bytes than there are row numbers of 64 bits.
+-- The whole: however an input is cut, header, parts and end together print its output. The input is shorter than 2 ^ 64 - 1 bytes, so that
+-- 64 bits hold every row's number.
 abbrev pub Whole : Type 0
 Whole =
     (parts : List (List ℕ)) → length (Feeding.joined parts) + 1 < 2 ^ 64

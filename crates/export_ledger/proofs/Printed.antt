@@ -12,15 +12,15 @@ use Rattle.csv_rows.specs.declared.Row.{Row}
 use Rattle.csv_rows.specs.declared.Row.the-variants.{Nothing, Header, Sound, Faulty}
 use Rattle.csv_rows.specs.Rows.{readingsOf}
 use Rattle.score_rows.specs.Watching.{settings, shown, counted, isQuiet}
-use Rattle.score_rows.specs.Text.{header, row, badLine, badRow, counts}
+use Rattle.score_rows.specs.Text.{header, row}
 use Rattle.export_rows.specs.declared.Watch.{Watch}
 use Rattle.export_rows.specs.Output.{watchOf, unwatched, isWatched, judgedAt, goesOn, rows, output}
-use Rattle.export_ledger.specs.Statement.{judgedFrom, judged, lines}
+use Rattle.export_ledger.specs.Statement.{judgedFrom, judged, lines, End, Counts, Full, Bad, endLine}
 
 -- What is printed of the rows from number n on, so many of the drawer's being judged still.
 pub record Printed (n : ℕ) (w : Watch) (most : ℕ) (rs : List Row) : Type 0 where
-  pub end : List ℕ
-  pub printed : rows n w rs ≡ lines (w .thresholder) (judgedFrom n (w .drawer) most rs) ++ end
+  pub end : End
+  pub printed : rows n w rs ≡ lines (w .thresholder) (judgedFrom n (w .drawer) most rs) ++ endLine end
 
 -- One more row of the drawer is counted.
 one-less : (w : Watch) (e : Entry) (most : ℕ) → w .quiet + w .raised + suc most ≡ 65536 → (t : Bool)
@@ -53,8 +53,8 @@ no-more w h = le-ltb (w .quiet + w .raised) 65536 (omega arith)
 
 -- A sound row: the drawer has had its rows, or is judged once more.
 full : (e : Entry) (rs : List Row) (n : ℕ) (w : Watch) → goesOn w ≡ false → Printed (n + 1) w zero rs → (t : Bool) → isWatched w (e .drawer) ≡ t → Printed n w zero (Sound e ∷ rs)
-unfolding rows judgedFrom lines isWatched
-full e rs n w none other true t = record { end = badLine n; printed = simp (t, none) }
+unfolding rows judgedFrom lines isWatched endLine
+full e rs n w none other true t = record { end = Full n; printed = simp (t, none) }
 full e rs n w none other false t = record { end = other .end; printed = simp t (other .printed) }
 
 once-more : (e : Entry) (rs : List Row) (n : ℕ) (w : Watch) (most : ℕ) → goesOn w ≡ true → Printed (n + 1) (judgedAt w e (shown (w .thresholder) (e .score) .grade)) most rs
@@ -67,23 +67,23 @@ once-more e rs n w most more next other true t =
       end = next .end;
       printed = simp (t, more)
           (ap (λ (l : List ℕ). row n g ++ l)
-          (next .printed ∙ ap₂ (λ (s : BasicThresholder) (d : ℕ). lines s (judgedFrom (n + 1) d most rs) ++ next .end) (same .1) (same .0))
-          ∙ sym (append-assoc (row n g) (lines (counted (w .thresholder) (e .score)) (judgedFrom (n + 1) (e .drawer) most rs)) (next .end)));
+          (next .printed ∙ ap₂ (λ (s : BasicThresholder) (d : ℕ). lines s (judgedFrom (n + 1) d most rs) ++ endLine (next .end)) (same .1) (same .0))
+          ∙ sym (append-assoc (row n g) (lines (counted (w .thresholder) (e .score)) (judgedFrom (n + 1) (e .drawer) most rs)) (endLine (next .end))));
     }
 once-more e rs n w most more next other false t = record { end = other .end; printed = simp t (other .printed) }
 
 pub printed-from : (rs : List Row) (n : ℕ) (w : Watch) (most : ℕ) → w .quiet + w .raised + most ≡ 65536 → Printed n w most rs
-unfolding rows judgedFrom lines
-printed-from [] n w most h = record { end = counts (w .quiet) (w .raised); printed = refl }
+unfolding rows judgedFrom lines endLine
+printed-from [] n w most h = record { end = Counts (w .quiet) (w .raised); printed = refl }
 printed-from (Nothing ∷ rs) n w most h = let p = printed-from rs n w most h in record { end = p .end; printed = p .printed }
 printed-from (Header ∷ rs) n w most h = let p = printed-from rs (n + 1) w most h in record { end = p .end; printed = p .printed }
-printed-from (Faulty why ∷ rs) n w most h = record { end = badRow n why; printed = refl }
+printed-from (Faulty why ∷ rs) n w most h = record { end = Bad n why; printed = refl }
 printed-from (Sound e ∷ rs) n w zero h = full e rs n w (no-more w h) (printed-from rs (n + 1) w zero h) (isWatched w (e .drawer)) refl
 printed-from (Sound e ∷ rs) n w (suc most) h =
     once-more e rs n w most (more-rows w most h) (printed-from rs (n + 1) (judgedAt w e (shown (w .thresholder) (e .score) .grade)) most (judged-count w e most (shown (w .thresholder) (e .score) .grade) h))
     (printed-from rs (n + 1) w (suc most) h) (isWatched w (e .drawer)) refl
 
 -- The whole output.
-pub whole : (input : List ℕ) → (end : List ℕ) × (output input ≡ header ++ (lines settings (judged input) ++ end))
+pub whole : (input : List ℕ) → (end : End) × (output input ≡ header ++ (lines settings (judged input) ++ endLine end))
 unfolding output unwatched judged
 whole input = let p = printed-from (readingsOf input) 1 unwatched 65536 refl in (p .end, ap (λ (l : List ℕ). header ++ l) (p .printed))

@@ -5,12 +5,13 @@ use mathlib.Core.List.{List, [], _∷_, _++_}
 use Prim.Native.Nat.{ℕ, zero, suc, _+_}
 use lib.Dec.{eqb}
 use lib.Ieee.{Float, ofBits, binary64}
+use Rattle.types.specs.declared.Refusal.{Refusal}
 use Rattle.basicthresholder.specs.declared.BasicThresholder.{BasicThresholder}
 use Rattle.csv_rows.specs.declared.Row.{Row}
 use Rattle.csv_rows.specs.declared.Row.the-variants.{Nothing, Header, Sound, Faulty}
 use Rattle.csv_rows.specs.Rows.{readingsOf}
 use Rattle.score_rows.specs.Watching.{settings, three32, shown, counted}
-use Rattle.score_rows.specs.Text.{header, row}
+use Rattle.score_rows.specs.Text.{header, row, badLine, badRow, counts}
 use Rattle.export_rows.specs.Output.{output}
 use Rattle.ledger.specs.Statement.{Judge, told, showed, mostReadings, Demand3}
 
@@ -19,7 +20,7 @@ pub record Reading : Type 0 where
   pub number : ℕ
   pub score : Float
 
--- The rows of the watched drawer that are judged, of the rows from number n on: at most so many, and none behind a faulty row. The drawer is 0 before the first row below
+-- The rows of the watched drawer that are judged, of the rows from number n on: at most so many, and none behind a faulty row. (`Nothing` is no row.) The drawer is 0 before the first row below
 -- the header, whose drawer is the watched one.
 unfoldable pub judgedFrom : ℕ → ℕ → ℕ → List Row → List Reading
 judgedFrom n drawer most [] = []
@@ -52,11 +53,22 @@ unfoldable pub lines : BasicThresholder → List Reading → List ℕ
 lines s [] = []
 lines s (r ∷ rs) = row (r .number) (shown s (r .score)) ++ lines (counted s (r .score)) rs
 
--- Of an input: the output is the header, a line for each judged row, and an end (the counts, or the line of a bad row); and what these lines show agrees with the ledger
--- of the scores read.
+-- How an output ends: with the counts, with the line of the drawer's 65,537th row, or with that of a faulty row. The line of a judged row begins with a digit and these
+-- with a letter, so that no such line can hide among them.
+pub data End : Type 0 where
+  Counts : ℕ → ℕ → End
+  Full : ℕ → End
+  Bad : ℕ → Refusal → End
+
+unfoldable pub endLine : End → List ℕ
+endLine (Counts quiet raised) = counts quiet raised
+endLine (Full n) = badLine n
+endLine (Bad n why) = badRow n why
+
+-- Of an input: the output is the header, a line for each judged row, and an end; and what these lines show agrees with the ledger of the scores read.
 pub record OfExport (input : List ℕ) : Type 0 where
-  pub end : List ℕ
-  pub printed : output input ≡ header ++ (lines settings (judged input) ++ end)
+  pub end : End
+  pub printed : output input ≡ header ++ (lines settings (judged input) ++ endLine end)
   pub agree : Demand3 (ofBits binary64 0) three32 (told watch settings (judged input)) (showed watch settings (judged input))
 
 abbrev pub Demand3OfExports : Type 0

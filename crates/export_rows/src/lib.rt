@@ -35,7 +35,7 @@ pub struct Course {
     pub ending: Ending,
 }
 
-// What a row prints behind its number.
+// What a row prints, its number apart.
 pub enum Line {
     Nothing,
     Shown(Graded),

@@ -134,7 +134,7 @@ fn ended(run: Run) -> Run
 
 // The end of the line under way: its row, or that it is bad.
 fn end_line(run: Run, out: &mut [u8], at: usize) -> Fed
-    requires { ⌜ at + 56 ≤ length (now out) ⌝ }
+    requires { ⌜ at + 55 ≤ length (now out) ⌝ }
     ensures { λ r. ⌜ r .run ≡ Feeding.lineEnded run ⌝ ∗ ⌜ Steps.Put (now (out .entry)) at (Feeding.lineSaid run) (r .written) (now (out .exit)) ⌝ }
 {
     let lines = run.quiet as u64 + run.raised as u64;
@@ -161,7 +161,7 @@ fn end_line(run: Run, out: &mut [u8], at: usize) -> Fed
 
 // The counts, unless the run is over.
 fn total(run: Run, out: &mut [u8], at: usize) -> Fed
-    requires { ⌜ at + 56 ≤ length (now out) ⌝ }
+    requires { ⌜ at + 55 ≤ length (now out) ⌝ }
     ensures { λ r. ⌜ r .run ≡ Feeding.totalRun run ⌝ ∗ ⌜ Steps.Put (now (out .entry)) at (Feeding.totalSaid run) (r .written) (now (out .exit)) ⌝ }
 {
     if run.over {
@@ -176,7 +176,7 @@ fn total(run: Run, out: &mut [u8], at: usize) -> Fed
 
 // The bytes of a part of the input, one by one.
 fn read(run: Run, input: &[u8], out: &mut [u8]) -> Fed
-    requires { ⌜ 56 * length (now input) ≤ length (now out) ⌝ }
+    requires { ⌜ 55 * length (now input) ≤ length (now out) ⌝ }
     ensures { λ r. ⌜ r .run ≡ Feeding.fed run (now (input .entry)) ⌝ ∗ ⌜ Steps.Put (now (out .entry)) 0 (Feeding.printed run (now (input .entry))) (r .written) (now (out .exit)) ⌝ }
 {
     let mut state = run;
@@ -220,7 +220,7 @@ fn read(run: Run, input: &[u8], out: &mut [u8]) -> Fed
 
 // The end of the input: a last line without a line end is judged, then the counts.
 fn close(run: Run, out: &mut [u8]) -> Fed
-    requires { ⌜ 112 ≤ length (now out) ⌝ }
+    requires { ⌜ 110 ≤ length (now out) ⌝ }
     ensures { λ r. ⌜ r .run ≡ Feeding.closed run ⌝ ∗ ⌜ Steps.Put (now (out .entry)) 0 (Feeding.closing run) (r .written) (now (out .exit)) ⌝ }
 {
     if run.over {

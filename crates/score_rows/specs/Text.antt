@@ -24,7 +24,7 @@ unfoldable pub decimalBy : ℕ → ℕ → List ℕ
 decimalBy zero n = []
 decimalBy (suc k) n = cond (ltb n 10) (glyph n ∷ []) (decimalBy k (n / 10) ++ (glyph (n % 10) ∷ []))
 
--- Twenty digits write every number below 2 ^ 64.
+-- Twenty digits write every number below 2 ^ 64, which are the numbers of all rows that a run can have.
 unfoldable pub decimal : ℕ → List ℕ
 decimal n = decimalBy 20 n
 
@@ -51,9 +51,10 @@ badRow n why = bad n ++ (bytes " " ++ (decimal (Refusals.number why) ++ bytes "\
 unfoldable pub counts : ℕ → ℕ → List ℕ
 counts quiet raised = bytes "quiet " ++ (decimal quiet ++ (bytes " raised " ++ (decimal raised ++ bytes "\n")))
 
--- A text is written over `out` from the place `at` where that leaves room for the longest line, else nothing is. `end` is the place behind it.
+-- A text is written over `out` from the place `at` where that leaves room for the longest line (counts of twenty digits each), else nothing is. `end` is the place
+-- behind it.
 abbrev pub longest : ℕ
-longest = 56
+longest = 55
 
 abbrev pub hasRoom : List ℕ → ℕ → Bool
 hasRoom out at = leb (at + longest) (length out)

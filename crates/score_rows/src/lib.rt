@@ -14,9 +14,9 @@ ghost use Rattle.score_rows.specs.Steps as Steps;
 // A part of a run's input, and room for what it prints: that of the longest line for each byte of it, since a byte can end a line.
 pub const PART: usize = 4096;
 
-pub const ROOM: usize = 229376;
+pub const ROOM: usize = 225280;
 
-const LONGEST: usize = 56;
+const LONGEST: usize = 55;
 
 const LINE_END: u8 = b'\n';
 
@@ -102,7 +102,7 @@ fn put_bits(out: &mut [u8], at: usize, x: f32) -> usize
 }
 
 fn put_row(out: &mut [u8], at: usize, number: u64, shown: Graded) -> usize
-    requires { ⌜ at + 56 ≤ length (now out) ⌝ }
+    requires { ⌜ at + 55 ≤ length (now out) ⌝ }
     ensures { λ r. ⌜ Steps.Put (now (out .entry)) at (Text.row number shown) r (now (out .exit)) ⌝ }
 {
     let a = put_decimal(out, at, number);
@@ -123,7 +123,7 @@ fn put_bad(out: &mut [u8], at: usize, number: u64) -> usize
 }
 
 fn put_bad_row(out: &mut [u8], at: usize, number: u64, why: Refusal) -> usize
-    requires { ⌜ at + 56 ≤ length (now out) ⌝ }
+    requires { ⌜ at + 55 ≤ length (now out) ⌝ }
     ensures { λ r. ⌜ Steps.Put (now (out .entry)) at (Text.badRow number why) r (now (out .exit)) ⌝ }
 {
     let a = put_bad(out, at, number);
@@ -133,7 +133,7 @@ fn put_bad_row(out: &mut [u8], at: usize, number: u64, why: Refusal) -> usize
 }
 
 fn put_counts(out: &mut [u8], at: usize, quiet: u64, raised: u64) -> usize
-    requires { ⌜ at + 56 ≤ length (now out) ⌝ }
+    requires { ⌜ at + 55 ≤ length (now out) ⌝ }
     ensures { λ r. ⌜ Steps.Put (now (out .entry)) at (Text.counts quiet raised) r (now (out .exit)) ⌝ }
 {
     let a = put_all(out, at, b"quiet ");
@@ -145,7 +145,7 @@ fn put_counts(out: &mut [u8], at: usize, quiet: u64, raised: u64) -> usize
 
 // Whether the longest line fits from there on.
 fn has_room(length: usize, at: usize) -> bool
-    ensures { λ r. ⌜ r ≡ leb (at + 56) length ⌝ }
+    ensures { λ r. ⌜ r ≡ leb (at + 55) length ⌝ }
 {
     if at <= length {
         return LONGEST <= length - at;

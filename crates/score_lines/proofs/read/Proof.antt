@@ -19,7 +19,7 @@ use Rattle.score_lines.proofs.read.Tie as tie
 
 abbrev Inv-loop : tie.InvT-loop
 Inv-loop input out₀ state₀ i₀ to₀ out state i to =
-    (i ≤ length input) × (length out ≡ length out₀) × (state ≡ fed state₀ (take i input)) × (to ≤ 56 * i) × Put out₀ 0 (printed state₀ (take i input)) to out
+    (i ≤ length input) × (length out ≡ length out₀) × (state ≡ fed state₀ (take i input)) × (to ≤ 55 * i) × Put out₀ 0 (printed state₀ (take i input)) to out
 
 abbrev μ-loop : tie.MeasureT-loop
 μ-loop input out₀ state₀ i₀ to₀ out state i to = length input - i

@@ -1,7 +1,7 @@
-use Rattle.csv_fields.specs.Quoting.{isUnquoted}
+use Rattle.csv_fields.specs.Quoting.{isPlain}
 use borrow.Author.Needs.{needs}
-use Rattle.csv_fields.proofs.is_unquoted.Statement.{statement}
-use Rattle.csv_fields.proofs.is_unquoted.Tie as tie
+use Rattle.csv_fields.proofs.is_plain.Statement.{statement}
+use Rattle.csv_fields.proofs.is_plain.Tie as tie
 
 enum-told : tie.Need-enum-told
 enum-told c = search needs
@@ -22,31 +22,31 @@ enum-told-6 : tie.Need-enum-told-6
 enum-told-6 c = search needs
 
 returns : tie.Need-returns
-unfolding isUnquoted
+unfolding isPlain
 returns c = simp (c .enum-told .given .1)
 
 returns-2 : tie.Need-returns-2
-unfolding isUnquoted
+unfolding isPlain
 returns-2 c = simp (c .enum-told2 .given .1)
 
 returns-3 : tie.Need-returns-3
-unfolding isUnquoted
+unfolding isPlain
 returns-3 c = simp (c .enum-told3 .given .1)
 
 returns-4 : tie.Need-returns-4
-unfolding isUnquoted
+unfolding isPlain
 returns-4 c = simp (c .enum-told4 .given .1)
 
 returns-5 : tie.Need-returns-5
-unfolding isUnquoted
+unfolding isPlain
 returns-5 c = simp (c .enum-told5 .given .1)
 
 returns-6 : tie.Need-returns-6
-unfolding isUnquoted
+unfolding isPlain
 returns-6 c = simp (c .enum-told6 .given .1)
 
-pub is-unquoted-spec : {M : Type 1} → statement M
-is-unquoted-spec =
+pub is-plain-spec : {M : Type 1} → statement M
+is-plain-spec =
     tie.close
     (tie.spec
     enum-told
