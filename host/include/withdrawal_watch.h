@@ -31,6 +31,7 @@
  *   6  a count or the run length in the state is outside 0 to 16,777,215
  *   7  horizon not 0 to 1
  *   8  blocks: gap or base 0, or a length that is empty or no multiple of the base
+ * (9 and 10 are of a cabinet's export, which no C function reads.)
  * A call without slices has nothing to refuse and answers its result.
  *
  * THE BYTES
