@@ -4,6 +4,7 @@ use export_bytes::Run;
 use libc::STDERR_FILENO;
 use libc::STDIN_FILENO;
 use libc::STDOUT_FILENO;
+use score_rows::PART;
 use score_rows::ROOM;
 
 // What a read came to: the run goes on, its input has ended or it is over, or a read or a write failed.
@@ -24,7 +25,7 @@ fn print(text: &[u8]) -> bool {
 
 // Reads once, and prints what that gives. `out` is room for it.
 fn read_some(run: Run, out: &mut [u8; ROOM]) -> Turn {
-    let mut input = io::buffer();
+    let mut input = [0u8; PART];
     let got = libc::read(STDIN_FILENO, &mut input);
     if got < 0 {
         io::write_all(STDERR_FILENO, b"export_watch: a read failed\n");

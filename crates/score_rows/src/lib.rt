@@ -12,9 +12,9 @@ ghost use Rattle.score_rows.specs.Text as Text;
 ghost use Rattle.score_rows.specs.Steps as Steps;
 
 // A part of a run's input, and room for what it prints: that of the longest line for each byte of it, since a byte can end a line.
-pub const PART: usize = 4096;
+pub const PART: usize = 8192;
 
-pub const ROOM: usize = 225280;
+pub const ROOM: usize = 450560;
 
 const LONGEST: usize = 55;
 

@@ -126,7 +126,7 @@ fn begun(run: Watch, expected: &[u8]) -> Going {
 
 // Feeds a text that is no longer than a part of the input.
 fn fed(before: Going, text: &[u8], expected: &[u8]) -> Going {
-    let mut input = io::buffer();
+    let mut input = [0u8; PART];
     if text.len() <= PART {
         bytes::copy(text, &mut input);
     }

@@ -4,9 +4,6 @@ use borrow.Author.Needs.{needs}
 use Rattle.watch_cases.proofs.fed.Statement.{statement}
 use Rattle.watch_cases.proofs.fed.Tie as tie
 
-buffer-requires : tie.Need-buffer-requires
-buffer-requires c κs = search needs
-
 slice-aggregate-copy : tie.Need-slice-aggregate-copy
 slice-aggregate-copy c = search needs
 
@@ -32,7 +29,6 @@ pub fed-spec : {M : Type 1} → statement M
 fed-spec =
     tie.close
     (tie.spec
-    buffer-requires
     slice-aggregate-copy
     copy-requires
     feed-requires
