@@ -22,7 +22,7 @@ use Rattle.export_rows.specs.declared.Ending.the-variants.{Open, Refused, Full}
 use Rattle.export_rows.specs.declared.Line.the-variants as Lines
 use Rattle.export_rows.specs.declared.Course.{Course}
 use Rattle.export_rows.specs.Output.{unwatched, isWatched, judgedAt, goesOn, rows, output}
-use Rattle.export_rows.specs.Taking.{courseOf, isOpen, passed, ended, sound, met, taken, text}
+use Rattle.export_rows.specs.Taking.{courseOf, isOpen, nextNumber, passed, ended, sound, met, taken, text}
 use Rattle.export_rows.specs.Taking as Taking
 use Rattle.export_bytes.specs.declared.Run.{Run}
 use Rattle.export_bytes.specs.Feeding.{runOf, begin, step, said, totalSaid, closing, Whole}
@@ -40,7 +40,7 @@ module _ (w : Watch) (n : ℕ) (rest : List Row) (later : Course → List ℕ)
   course = courseOf w n Open
 
   by-sound : (e : Entry) → text n (sound course e .line) ++ later (sound course e .course) ≡ rows n w (Rows.Sound e ∷ rest)
-  unfolding sound passed ended text rows isOpen
+  unfolding sound passed nextNumber ended text rows isOpen
   by-sound e = go (isWatched w (e .drawer)) (goesOn w)
     where
       go : (t u : Bool)
@@ -52,7 +52,7 @@ module _ (w : Watch) (n : ℕ) (rest : List Row) (later : Course → List ℕ)
       go false u = next w
 
   by-row : (r : Row) → text n (taken course r .line) ++ later (taken course r .course) ≡ rows n w (told r ++ rest)
-  unfolding taken met passed ended text told rows isOpen
+  unfolding taken met passed nextNumber ended text told rows isOpen
   by-row Rows.Nothing = here
   by-row Rows.Header = next w
   by-row (Rows.Sound e) = by-sound e

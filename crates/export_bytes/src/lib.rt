@@ -37,7 +37,7 @@ fn write_line(out: &mut [u8], at: usize, number: u64, line: Line) -> usize
     }
 }
 
-// A part of the input, row by row.
+// A part of the input, row by row. Most rows are other drawers', so what these do stands apart.
 fn read(run: Run, input: &[u8], out: &mut [u8]) -> Fed
     requires { ⌜ 55 * length (now input) ≤ length (now out) ⌝ }
     ensures { λ r. ⌜ r .run ≡ Feeding.fed run (now (input .entry)) ⌝ ∗ ⌜ Steps.Put (now (out .entry)) 0 (Feeding.printed run (now (input .entry))) (r .written) (now (out .exit)) ⌝ }
@@ -57,6 +57,10 @@ fn read(run: Run, input: &[u8], out: &mut [u8]) -> Fed
         let row = reached.row;
         scan = reached.scan;
         i = reached.next;
+        if export_rows::is_passed_over(course.watch.drawer, row) {
+            course.row = export_rows::next_number(course.row);
+            continue;
+        }
         let taken = export_rows::take(course, row);
         let line = taken.line;
         to = write_line(out, to, course.row, line);

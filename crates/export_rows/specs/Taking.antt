@@ -1,6 +1,7 @@
 -- The run as it meets one row after the other.
 use Prim.Native.Nat.{ℕ, _+_, _-_, _^_, min}
-use mathlib.Core.Bool.{Bool, true, false, cond}
+use mathlib.Core.Bool.{Bool, true, false, cond, not, _&&_}
+use lib.Dec.{eqb}
 use mathlib.Core.List.{List, []}
 use Rattle.csv_rows.specs.declared.Entry.{Entry}
 use Rattle.csv_rows.specs.declared.Row.{Row}
@@ -37,8 +38,18 @@ unfoldable pub ended : Course → Ending → Course
 ended c ending = courseOf (c .watch) (c .row) ending
 
 -- The run after a row that does not end it. Row numbers stop at the largest of 64 bits.
+unfoldable pub nextNumber : ℕ → ℕ
+nextNumber row = min (row + 1) (2 ^ 64 - 1)
+
 unfoldable pub passed : Course → Watch → Course
-passed c w = courseOf w (min (c .row + 1) (2 ^ 64 - 1)) Endings.Open
+passed c w = courseOf w (nextNumber (c .row)) Endings.Open
+
+-- A sound row of another drawer than the watched one, where there is one.
+unfoldable pub isPassedOver : ℕ → Row → Bool
+isPassedOver drawer Rows.Nothing = false
+isPassedOver drawer Rows.Header = false
+isPassedOver drawer (Rows.Sound e) = not (eqb drawer 0) && not (eqb drawer (e .drawer))
+isPassedOver drawer (Rows.Faulty why) = false
 
 -- A sound row: judged where it is the watched drawer's, else passed over.
 unfoldable pub sound : Course → Entry → Taken

@@ -90,22 +90,36 @@ fn ended(course: Course, ending: Ending) -> Course
     }
 }
 
-// The run after a row that does not end it. Row numbers stop at the largest that there is.
+// The number of the row behind that one. Row numbers stop at the largest that there is.
+pub fn next_number(row: u64) -> u64
+    ensures { λ r. ⌜ r ≡ Taking.nextNumber row ⌝ }
+{
+    if row < u64::MAX {
+        return row + 1;
+    }
+    row
+}
+
+// The run after a row that does not end it.
 fn passed(course: Course, watch: Watch) -> Course
     ensures { λ r. ⌜ r ≡ Taking.passed course watch ⌝ }
 {
-    let row = course.row;
-    if row < u64::MAX {
-        return Course {
-            watch,
-            row: row + 1,
-            ending: Ending::Open,
-        };
-    }
     Course {
         watch,
-        row,
+        row: next_number(course.row),
         ending: Ending::Open,
+    }
+}
+
+// Whether a row is one that a run watching that drawer passes over: sound, and another drawer's.
+pub fn is_passed_over(drawer: u32, row: Row) -> bool
+    ensures { λ r. ⌜ r ≡ Taking.isPassedOver drawer row ⌝ }
+{
+    match row {
+        Row::Nothing => false,
+        Row::Header => false,
+        Row::Sound(entry) => (drawer != 0) & (drawer != entry.drawer),
+        Row::Faulty(_) => false,
     }
 }
 
