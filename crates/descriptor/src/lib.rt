@@ -369,9 +369,10 @@ pub fn answer(
         out_high,
         out_low,
     };
-    if range_ok(r.shingle_size, r.base_dimension, state_base) {
-        if lengths_ok(r, l, n) {
-            if finite_ok(
+    let fits = range_ok(r.shingle_size, r.base_dimension, state_base);
+    if fits & lengths_ok(r, l, n) {
+        return Answer::of_fitting(
+            finite_ok(
                 r,
                 l,
                 point,
@@ -386,18 +387,10 @@ pub fn answer(
                 ideal_high,
                 ideal_low,
                 neighbours,
-            ) {
-                if seen_ok(r.values_seen, l.has_anomaly, anomaly.values_seen) {
-                    if counts_ok {
-                        return Answer::Done;
-                    }
-                    return Answer::Refused(Refusal::Count);
-                }
-                return Answer::Refused(Refusal::ValuesSeen);
-            }
-            return Answer::Refused(Refusal::NotFinite);
-        }
-        return Answer::Refused(Refusal::Length);
+            ),
+            seen_ok(r.values_seen, l.has_anomaly, anomaly.values_seen),
+            counts_ok,
+        );
     }
-    Answer::Refused(Refusal::Range)
+    Answer::Refused(Refusal::of_misfit(fits))
 }

@@ -5,3 +5,4 @@ pub mod Rows
 pub mod InPlace
 pub mod Taken
 pub mod Widened
+mod Answered

@@ -983,21 +983,14 @@ pub fn reading_answer(bytes: &[u8], r: Reading, lengths: bool) -> Answer
     if state_codes_ok(bytes) {
         if bytes.len() == STATE_LENGTH {
             let base = size_at(bytes, BASE_DIMENSION_AT);
-            if descriptor::range_ok(r.shingle_size, r.base_dimension, base) {
-                if lengths {
-                    if counts_ok_of(bytes) {
-                        return Answer::Done;
-                    }
-                    return Answer::Refused(Refusal::Count);
-                }
-                return Answer::Refused(Refusal::Length);
+            let fits = descriptor::range_ok(r.shingle_size, r.base_dimension, base);
+            if fits & lengths {
+                return Answer::of_fitting(true, true, counts_ok_of(bytes));
             }
-            return Answer::Refused(Refusal::Range);
+            return Answer::Refused(Refusal::of_misfit(fits));
         }
-        if descriptor::sizes_ok(r.shingle_size, r.base_dimension) {
-            return Answer::Refused(Refusal::Length);
-        }
-        return Answer::Refused(Refusal::Range);
+        let fits = descriptor::sizes_ok(r.shingle_size, r.base_dimension);
+        return Answer::Refused(Refusal::of_misfit(fits));
     }
     Answer::Refused(Refusal::Range)
 }
@@ -1281,10 +1274,7 @@ pub fn read_call(state: &[u8], reading: &[u8], last: &[u8], out: bool) -> CallRe
         {
             return CallRead::Read(standing_of(state), reading_of(reading), last_of(last));
         }
-        if sizes_fit(state, reading) {
-            return CallRead::Refused(Refusal::Length);
-        }
-        return CallRead::Refused(Refusal::Range);
+        return CallRead::Refused(Refusal::of_misfit(sizes_fit(state, reading)));
     }
     CallRead::Refused(Refusal::Range)
 }

@@ -1,5 +1,6 @@
 -- The refusals by number: document 01's 1 to 8, document 02's from 9 on.
 use Prim.Native.Nat.{ℕ}
+use mathlib.Core.Bool.{Bool, cond}
 use Rattle.types.specs.declared.Refusal.{Refusal}
 use Rattle.types.specs.declared.Refusal.the-variants.{Discount, Range, Length, NotFinite, ValuesSeen, Count, Horizon, Blocks, Row, Field}
 use Rattle.types.specs.declared.Answer.{Answer}
@@ -21,3 +22,15 @@ number Field = 10
 abbrev pub answered : Answer → ℕ
 answered Done = 0
 answered (Refused why) = number why
+
+-- A reading whose sizes or lengths do not fit: 2 for the sizes comes before 3 for the lengths.
+abbrev pub ofMisfit : Bool → Refusal
+ofMisfit sizesFit = cond sizesFit Length Range
+
+-- A row of an export with a bad field: 9 for its shape comes before 10 for the field.
+abbrev pub ofBadField : Bool → Refusal
+ofBadField misshapen = cond misshapen Row Field
+
+-- The answer to a reading that fits: the smallest of 4, 5 and 6 whose test fails.
+abbrev pub ofFitting : (finite seenOk countsOk : Bool) → Answer
+ofFitting finite seenOk countsOk = cond finite (cond seenOk (cond countsOk Done (Refused Count)) (Refused ValuesSeen)) (Refused NotFinite)

@@ -83,6 +83,26 @@ impl Refusal {
             Refusal::Field => 10,
         }
     }
+
+    // A reading whose sizes or lengths do not fit: 2 for the sizes comes before 3 for the lengths.
+    pub fn of_misfit(sizes_fit: bool) -> Refusal
+        ensures { λ r. ⌜ r ≡ Refusals.ofMisfit «sizes_fit» ⌝ }
+    {
+        if sizes_fit {
+            return Refusal::Length;
+        }
+        Refusal::Range
+    }
+
+    // A row of an export with a bad field: 9 for its shape comes before 10 for the field.
+    pub fn of_bad_field(misshapen: bool) -> Refusal
+        ensures { λ r. ⌜ r ≡ Refusals.ofBadField misshapen ⌝ }
+    {
+        if misshapen {
+            return Refusal::Row;
+        }
+        Refusal::Field
+    }
 }
 
 impl Answer {
@@ -94,6 +114,22 @@ impl Answer {
             Answer::Done => 0,
             Answer::Refused(why) => why.number(),
         }
+    }
+
+    // The answer to a reading that fits: the smallest of 4, 5 and 6 whose test fails.
+    pub fn of_fitting(finite: bool, seen_ok: bool, counts_ok: bool) -> Answer
+        ensures { λ a. ⌜ a ≡ Refusals.ofFitting finite «seen_ok» «counts_ok» ⌝ }
+    {
+        if finite {
+            if seen_ok {
+                if counts_ok {
+                    return Answer::Done;
+                }
+                return Answer::Refused(Refusal::Count);
+            }
+            return Answer::Refused(Refusal::ValuesSeen);
+        }
+        Answer::Refused(Refusal::NotFinite)
     }
 }
 

@@ -1,5 +1,7 @@
-use mathlib.Core.Path.{_∙_, sym}
-use Rattle.descriptor.specs.Checks.{answerOf, lengthsOf}
+use mathlib.Core.Path.{_∙_, ap}
+use Rattle.types.specs.declared.Answer.the-variants.{Refused}
+use Rattle.descriptor.specs.Checks.{lengthsOf}
+use Rattle.descriptor.proofs.Answered.{fitting, misfit}
 use borrow.Author.Needs.{needs}
 use Rattle.descriptor.proofs.answer.Statement.{statement}
 use Rattle.descriptor.proofs.answer.Tie as tie
@@ -16,29 +18,19 @@ finite-ok-requires c κs = search needs
 seen-ok-requires : tie.Need-seen-ok-requires
 seen-ok-requires c κs = search needs
 
+of-fitting-requires : tie.Need-of-fitting-requires
+of-fitting-requires c κs = search needs
+
 returns : tie.Need-returns
-unfolding answerOf lengthsOf
-returns c = simp (sym (c .before .before .before .before .before .before .before .before .range-ok .ensures) ∙ c .before .before .before .before .before .before .before .if1 .taken, sym (c .before .before .before .before .before .before .lengths-ok .ensures) ∙ c .before .before .before .before .before .if2 .taken, sym (c .before .before .before .before .finite-ok .ensures) ∙ c .before .before .before .if3 .taken, sym (c .before .before .seen-ok .ensures) ∙ c .before .if4 .taken, c .if5 .taken)
+unfolding lengthsOf
+returns c = c .of-fitting .ensures ∙ fitting (c .before .before .before .before .before .before .before .before .before .before .before .before .before .before .before .before .before .before .before .args .r) (c .before .before .before .before .before .before .before .before .before .before .before .before .before .before .before .before .before .before .before .args .l) _ _ _ _ _ _ (c .before .before .before .before .before .range-ok .ensures) (c .before .before .before .before .lengths-ok .ensures) (c .before .before .finite-ok .ensures) (c .before .seen-ok .ensures) (c .before .before .before .if1 .taken)
+
+of-misfit-requires : tie.Need-of-misfit-requires
+of-misfit-requires c κs = search needs
 
 returns-2 : tie.Need-returns-2
-unfolding answerOf lengthsOf
-returns-2 c = simp (sym (c .before .before .before .before .before .before .before .before .range-ok .ensures) ∙ c .before .before .before .before .before .before .before .if1 .taken, sym (c .before .before .before .before .before .before .lengths-ok .ensures) ∙ c .before .before .before .before .before .if2 .taken, sym (c .before .before .before .before .finite-ok .ensures) ∙ c .before .before .before .if3 .taken, sym (c .before .before .seen-ok .ensures) ∙ c .before .if4 .taken, c .if5 .left)
-
-returns-3 : tie.Need-returns-3
-unfolding answerOf lengthsOf
-returns-3 c = simp (sym (c .before .before .before .before .before .before .before .range-ok .ensures) ∙ c .before .before .before .before .before .before .if1 .taken, sym (c .before .before .before .before .before .lengths-ok .ensures) ∙ c .before .before .before .before .if2 .taken, sym (c .before .before .before .finite-ok .ensures) ∙ c .before .before .if3 .taken, sym (c .before .seen-ok .ensures) ∙ c .if4 .left)
-
-returns-4 : tie.Need-returns-4
-unfolding answerOf lengthsOf
-returns-4 c = simp (sym (c .before .before .before .before .before .range-ok .ensures) ∙ c .before .before .before .before .if1 .taken, sym (c .before .before .before .lengths-ok .ensures) ∙ c .before .before .if2 .taken, sym (c .before .finite-ok .ensures) ∙ c .if3 .left)
-
-returns-5 : tie.Need-returns-5
-unfolding answerOf lengthsOf
-returns-5 c = simp (sym (c .before .before .before .range-ok .ensures) ∙ c .before .before .if1 .taken, sym (c .before .lengths-ok .ensures) ∙ c .if2 .left)
-
-returns-6 : tie.Need-returns-6
-unfolding answerOf lengthsOf
-returns-6 c = simp (sym (c .before .range-ok .ensures) ∙ c .if1 .left)
+unfolding lengthsOf
+returns-2 c = ap Refused (c .of-misfit .ensures) ∙ misfit (c .before .before .before .before .before .before .before .before .before .before .before .before .before .before .before .before .before .args .r) (c .before .before .before .before .before .before .before .before .before .before .before .before .before .before .before .before .before .args .l) _ _ _ _ _ _ (c .before .before .before .range-ok .ensures) (c .before .before .lengths-ok .ensures) (c .before .if1 .left)
 
 pub answer-spec : {M : Type 1} → statement M
 answer-spec =
@@ -48,9 +40,7 @@ answer-spec =
     lengths-ok-requires
     finite-ok-requires
     seen-ok-requires
+    of-fitting-requires
     returns
-    returns-2
-    returns-3
-    returns-4
-    returns-5
-    returns-6)
+    of-misfit-requires
+    returns-2)

@@ -1,18 +1,14 @@
 use lib.ListN.{length}
 use denote.Ref.{now}
-use mathlib.Core.Path.{_≡_, sym, _∙_}
+use mathlib.Core.Path.{_≡_, sym, ap, _∙_}
+use Rattle.types.specs.Refusals.{ofMisfit}
 use Rattle.layout.specs.Call.{readCall, slicesOk}
+use Rattle.layout.specs.declared.CallRead.the-variants.{Refused}
 use Rattle.layout.proofs.InPlace.{all-three}
+use Rattle.layout.proofs.Answered.{misread}
 use borrow.Author.Needs.{needs}
 use Rattle.layout.proofs.read_call.Statement.{statement}
 use Rattle.layout.proofs.read_call.Tie as tie
-use Rattle.layout.proofs.read_call.Reads as reads
-use Rattle.layout.proofs.read_call.Lts as lts
-use Rattle.layout.proofs.codes_ok.Reads as codes-ok-reads
-use Rattle.layout.proofs.standing_of.Reads as standing-of-reads
-use Rattle.layout.proofs.last_of.Reads as last-of-reads
-use Rattle.layout.proofs.reading_of.Reads as reading-of-reads
-use Rattle.layout.proofs.sizes_fit.Reads as sizes-fit-reads
 
 codes-ok-requires : tie.Need-codes-ok-requires
 codes-ok-requires c κs = search needs
@@ -33,17 +29,18 @@ returns c = simp (sym (c .before .before .before .before .before .codes-ok .ensu
 sizes-fit-requires : tie.Need-sizes-fit-requires
 sizes-fit-requires c κs = search needs
 
+of-misfit-requires : tie.Need-of-misfit-requires
+of-misfit-requires c κs = search needs
+
 returns-2 : tie.Need-returns-2
-unfolding readCall slicesOk
-returns-2 c = simp (sym (c .before .before .before .before .codes-ok .ensures) ∙ c .before .before .before .if1 .taken, c .before .before .if2 .left, sym (c .before .sizes-fit .ensures) ∙ c .if3 .taken)
+unfolding slicesOk
+returns-2 c =
+    ap Refused (c .of-misfit .ensures ∙ ap ofMisfit (c .before .sizes-fit .ensures))
+    ∙ misread (now (c .before .before .before .before .before .before .before .before .args .state)) (now (c .before .before .before .before .before .before .before .before .args .reading)) (now (c .before .before .before .before .before .before .before .before .args .last)) (c .before .before .before .before .before .before .before .before .args .out) (sym (c .before .before .before .before .codes-ok .ensures) ∙ c .before .before .before .if1 .taken) (c .before .before .if2 .left)
 
 returns-3 : tie.Need-returns-3
-unfolding readCall slicesOk
-returns-3 c = simp (sym (c .before .before .before .before .codes-ok .ensures) ∙ c .before .before .before .if1 .taken, c .before .before .if2 .left, sym (c .before .sizes-fit .ensures) ∙ c .if3 .left)
-
-returns-4 : tie.Need-returns-4
-unfolding readCall slicesOk
-returns-4 c = simp (sym (c .before .codes-ok .ensures) ∙ c .if1 .left)
+unfolding readCall
+returns-3 c = simp (sym (c .before .codes-ok .ensures) ∙ c .if1 .left)
 
 pub read-call-spec : {M : Type 1} → statement M
 read-call-spec =
@@ -55,6 +52,6 @@ read-call-spec =
     last-of-requires
     returns
     sizes-fit-requires
+    of-misfit-requires
     returns-2
-    returns-3
-    returns-4)
+    returns-3)
