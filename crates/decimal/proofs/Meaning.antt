@@ -298,14 +298,14 @@ module _ (f : Format) (n d : ℕ) (D : 0 < d) (fin-x : T (finite (round f false 
         (as-near (num x) (den x) (num y) (den y) (Q * 2 ^ k) (u .m * 2 ^ u .i) n d (2 ^ low f) (pow-pos (low f)) (den-pos x) (den-pos y) D c g e));
   }
 
--- ---- decimals: n / 10 ^ k for an n below 10 ^ 9 and a k up to 6
+-- ---- decimals: n / 10 ^ k for an n of 32 bits and a k up to 6
 ten-pos : (k : ℕ) → 0 < 10 ^ k
 ten-pos k = one-le-pow k 10 (lit< tt)
 
 ten-most : (k : ℕ) → k ≤ 6 → 10 ^ k ≤ 10 ^ 6
 ten-most k h = pow-le-pow-right (lit< tt) h
 
--- 2 ^ -30 and 2 ^ 30
+-- 2 ^ -30, 2 ^ 30 and 2 ^ 32
 least : round binary32 false 1 (2 ^ 30) ≡ fin false 1 (negsuc 29)
 unfolding round
 least = refl
@@ -314,7 +314,11 @@ most : round binary32 false (2 ^ 30) 1 ≡ fin false 1 (pos 30)
 unfolding round
 most = refl
 
-module _ (n k : ℕ) (N : 0 < n) (M : n < 10 ^ 9) (K : k ≤ 6) where
+past : round binary32 false (2 ^ 32) 1 ≡ fin false 1 (pos 32)
+unfolding round
+past = refl
+
+module _ (n k : ℕ) (N : 0 < n) (M : n < 2 ^ 32) (K : k ≤ 6) where
   abbrev z : Float
   z = round binary32 false n (10 ^ k)
 
@@ -324,28 +328,34 @@ module _ (n k : ℕ) (N : 0 < n) (M : n < 10 ^ 9) (K : k ≤ 6) where
       go : (n t : ℕ) → 0 < n → t ≤ 10 ^ 6 → 1 * t ≤ n * 2 ^ 30
       go n t a b = omega arith
 
-  to : T (le z (fin false 1 (pos 30)))
-  to = subst (λ (y : Float). T (le z y)) most (round-mono binary32 n (10 ^ k) (2 ^ 30) 1 (ten-pos k) (pow-pos 0) (go n (10 ^ k) M (ten-pos k)))
+  below : T (le z (fin false 1 (pos 32)))
+  below = subst (λ (y : Float). T (le z y)) past (round-mono binary32 n (10 ^ k) (2 ^ 32) 1 (ten-pos k) (pow-pos 0) (go n (10 ^ k) M (ten-pos k)))
+    where
+      go : (n t : ℕ) → n < 2 ^ 32 → 0 < t → n * 1 ≤ 2 ^ 32 * t
+      go n t a b = omega arith
+
+  pub positive-decimal : T (positive z)
+  positive-decimal = between (fin false 1 (negsuc 29)) z (fin false 1 (pos 32)) tt tt from below
+
+  -- From 2 ^ -30 on, and of nine digits up to 2 ^ 30: the sizes of demand 3's scores.
+  pub at-least : 1 * den z ≤ num z * 2 ^ 30
+  at-least = le→cross (fin false 1 (negsuc 29)) z tt positive-decimal from
+
+  pub at-most : n < 10 ^ 9 → num z * 1 ≤ 2 ^ 30 * den z
+  at-most nine = le-trans (le→cross z (fin false 1 (pos 30)) positive-decimal tt to) (le-of-eq (ap (λ (y : ℕ). y * den z) (one-mul (2 ^ 30))))
     where
       go : (n t : ℕ) → n < 10 ^ 9 → 0 < t → n * 1 ≤ 2 ^ 30 * t
       go n t a b = omega arith
 
-  pub positive-decimal : T (positive z)
-  positive-decimal = between (fin false 1 (negsuc 29)) z (fin false 1 (pos 30)) tt tt from to
-
-  -- from 2 ^ -30 to 2 ^ 30: the sizes of demand 3's scores
-  pub at-least : 1 * den z ≤ num z * 2 ^ 30
-  at-least = le→cross (fin false 1 (negsuc 29)) z tt positive-decimal from
-
-  pub at-most : num z * 1 ≤ 2 ^ 30 * den z
-  at-most = le-trans (le→cross z (fin false 1 (pos 30)) positive-decimal tt to) (le-of-eq (ap (λ (y : ℕ). y * den z) (one-mul (2 ^ 30))))
+      to : T (le z (fin false 1 (pos 30)))
+      to = subst (λ (y : Float). T (le z y)) most (round-mono binary32 n (10 ^ k) (2 ^ 30) 1 (ten-pos k) (pow-pos 0) (go n (10 ^ k) nine (ten-pos k)))
 
 -- zero
 pub zero-decimal : (k : ℕ) → round binary32 false 0 (10 ^ k) ≡ fin false 0 (pos 0)
 unfolding ofBits
 zero-decimal k = zero-rounded (10 ^ k) (ten-pos k) ∙ refl
 
-finite-decimal : (n k : ℕ) → n < 10 ^ 9 → k ≤ 6 → T (finite (round binary32 false n (10 ^ k)))
+finite-decimal : (n k : ℕ) → n < 2 ^ 32 → k ≤ 6 → T (finite (round binary32 false n (10 ^ k)))
 finite-decimal zero k M K = subst (λ (y : Float). T (finite y)) (sym (zero-decimal k)) tt
 finite-decimal (suc n) k M K = positive-finite (round binary32 false (suc n) (10 ^ k)) (positive-decimal (suc n) k (zero-lt-suc n) M K)
 

@@ -24,6 +24,6 @@ pub record Nearest (f : Format) (n d : ℕ) (x : Float) : Type 0 where
   pub even : (y : Float) → T (fits f y) → T (finite y) → (num x * den y ≡ num y * den x → ⊥)
       → apart (num x * d) (n * den x) * den y ≡ apart (num y * d) (n * den y) * den x → toBits f x % 2 ≡ 0
 
--- Every decimal of up to nine digits, up to six of them behind the point: n / 10 ^ k is rounded to the `f32` that is nearest to it, a tie to the even one.
+-- Whatever n of 32 bits and however many of six places: n / 10 ^ k is rounded to the `f32` that is nearest to it, a tie to the even one.
 abbrev pub NearestDecimal : Type 0
-NearestDecimal = (n k : ℕ) → n < 10 ^ 9 → k ≤ 6 → Nearest binary32 n (10 ^ k) (round binary32 false n (10 ^ k))
+NearestDecimal = (n k : ℕ) → n < 2 ^ 32 → k ≤ 6 → Nearest binary32 n (10 ^ k) (round binary32 false n (10 ^ k))

@@ -76,7 +76,7 @@ pub fn to_f32(n: u32, places: u32) -> f32
     f32::from_bits(pattern(n as u64, power(places)) as u32)
 }
 
-// The rounding that `to_f32` promises is to the nearest, a tie to the even one, of an n below 10 ^ 9: a score has no more digits. Nothing calls it: the check asks for its proof.
+// The rounding that `to_f32` promises is to the nearest, a tie to the even one. Nothing calls it: the check asks for its proof.
 fn nearest_ties_to_even()
     ensures { λ _. ⌜ Nearest.NearestDecimal ⌝ }
 {}
