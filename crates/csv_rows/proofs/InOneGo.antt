@@ -22,7 +22,8 @@ use Rattle.csv_fields.specs.Quoting.{plainTurn, byteTurn, spoils, held, isPlain
 use Rattle.csv_rows.specs.declared.Row.the-variants.{Nothing}
 use Rattle.csv_rows.specs.declared.Scan.{Scan}
 use Rattle.csv_rows.specs.declared.Reached.{Reached}
-use Rattle.csv_rows.specs.Scanning.{token, scanOf, steppedOf, taken, stepped, reachedOf, isNothing, readOn, inNumber, digitsAt, withNumber}
+use Rattle.csv_rows.specs.Scanning.{token, scanOf, steppedOf, taken, stepped, reachedOf, isNothing, readOn}
+use Rattle.csv_rows.specs.Steps.{inNumber, digitsAt, withNumber}
 use Rattle.csv_rows.proofs.Walking.{false-true}
 
 and-true : (t u : Bool) → t && u ≡ true → (t ≡ true) × (u ≡ true)

@@ -1,3 +1,4 @@
 pub mod Rows
 pub mod Scanning
 pub mod Sizes
+pub mod Steps

@@ -2,19 +2,18 @@
 use Prim.Native.Nat.{ℕ, _+_}
 use Prim.Native.Char.{code}
 use mathlib.Core.Path.{_≡_}
-use mathlib.Core.Bool.{Bool, true, false, cond, not, _&&_}
+use mathlib.Core.Bool.{Bool, true, false, cond, _&&_}
 use mathlib.Core.List.{List, [], _∷_, _++_}
 use lib.Dec.{ltb, eqb}
 use Rattle.types.specs.declared.Refusal.{Refusal}
 use Rattle.types.specs.declared.Refusal.the-variants as Why
 use Rattle.csv_fields.specs.declared.Content.{Content}
-use Rattle.csv_fields.specs.declared.Digits.{Digits}
 use Rattle.csv_fields.specs.declared.Place.{Place}
-use Rattle.csv_fields.specs.declared.Place.the-variants.{Start, Plain}
+use Rattle.csv_fields.specs.declared.Place.the-variants.{Start}
 use Rattle.csv_fields.specs.declared.Turn.{Turn}
 use Rattle.csv_fields.specs.declared.Turn.the-variants.{Reads, Waits, FieldEnds, RowEnds, Breaks}
-use Rattle.csv_fields.specs.Pushing.{contentOf, fresh, push, digitsFrom, good, score}
-use Rattle.csv_fields.specs.Quoting.{byteTurn, endTurn, spoils, held, isPlain}
+use Rattle.csv_fields.specs.Pushing.{fresh, push, good, score}
+use Rattle.csv_fields.specs.Quoting.{byteTurn, endTurn, spoils, held}
 use Rattle.csv_rows.specs.declared.Token.{Token}
 use Rattle.csv_rows.specs.declared.Scan.{Scan}
 use Rattle.csv_rows.specs.declared.Stepped.{Stepped}
@@ -115,18 +114,6 @@ unfoldable pub readOn : Scan → ℕ → List ℕ → Reached
 readOn s i [] = reachedOf s Nothing i
 readOn s i (b ∷ bs) =
     cond (isNothing (stepped s b .row)) (readOn (stepped s b .scan) (i + 1) bs) (reachedOf (stepped s b .scan) (stepped s b .row) (i + 1))
-
--- Digits of a drawer or a seen number without quotes are taken in one go, which is the same.
-unfoldable pub inNumber : Scan → Bool
-inNumber s = (not (s .over) && not (s .header)) && (ltb (s .field) 2 && isPlain (s .token .place))
-
-unfoldable pub digitsAt : Scan → ℕ → List ℕ → Digits
-digitsAt s i bs = cond (inNumber s) (digitsFrom (s .token .content .number) i bs) (record { number = 0; next = i })
-
-unfoldable pub withNumber : Scan → ℕ → Scan
-withNumber s n =
-    let c = s .token .content in
-    scanOf (s .over) (s .header) (s .field) (s .good) (s .drawer) (token Plain (contentOf (c .spoilt) n (c .whole) (c .point) (c .places)))
 
 -- A part of the input, byte by byte: the scan behind it, and the rows that it ends.
 unfoldable pub fed : Scan → List ℕ → Scan

@@ -8,6 +8,7 @@ ghost use mathlib.Core.Path.{_≡_};
 ghost use lib.ListN.{drop};
 ghost use Rattle.csv_rows.specs.Scanning as Scanning;
 ghost use Rattle.csv_rows.specs.Sizes as Sizes;
+ghost use Rattle.csv_rows.specs.Steps as Steps;
 
 // A field under way.
 pub struct Token {
@@ -212,7 +213,7 @@ fn is_nothing(row: Row) -> bool
 
 // Whether the scan is in a drawer or a seen number without quotes, and not behind a carriage return.
 fn in_number(s: Scan) -> bool
-    ensures { λ r. ⌜ r ≡ Scanning.inNumber s ⌝ }
+    ensures { λ r. ⌜ r ≡ Steps.inNumber s ⌝ }
 {
     let t = s.token;
     let place = t.place;
@@ -221,7 +222,7 @@ fn in_number(s: Scan) -> bool
 
 // The digits of such a number that stand at the place i, in one go; elsewhere none.
 fn digits_at(s: Scan, input: &[u8], i: usize) -> Digits
-    ensures { λ r. ⌜ r ≡ Scanning.digitsAt s i (drop i (now (input .entry))) ⌝ }
+    ensures { λ r. ⌜ r ≡ Steps.digitsAt s i (drop i (now (input .entry))) ⌝ }
 {
     if in_number(s) {
         let t = s.token;
@@ -232,7 +233,7 @@ fn digits_at(s: Scan, input: &[u8], i: usize) -> Digits
 }
 
 fn with_number(s: Scan, n: u32) -> Scan
-    ensures { λ r. ⌜ r ≡ Scanning.withNumber s n ⌝ }
+    ensures { λ r. ⌜ r ≡ Steps.withNumber s n ⌝ }
 {
     let t = s.token;
     let c = t.content;

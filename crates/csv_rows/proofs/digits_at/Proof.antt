@@ -1,5 +1,5 @@
 use mathlib.Core.Path.{sym, _∙_}
-use Rattle.csv_rows.specs.Scanning.{digitsAt}
+use Rattle.csv_rows.specs.Steps.{digitsAt}
 use borrow.Author.Needs.{needs}
 use Rattle.csv_rows.proofs.digits_at.Statement.{statement}
 use Rattle.csv_rows.proofs.digits_at.Tie as tie

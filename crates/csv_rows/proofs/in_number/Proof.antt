@@ -1,4 +1,4 @@
-use Rattle.csv_rows.specs.Scanning.{inNumber}
+use Rattle.csv_rows.specs.Steps.{inNumber}
 use borrow.Author.Needs.{needs}
 use Rattle.csv_rows.proofs.in_number.Statement.{statement}
 use Rattle.csv_rows.proofs.in_number.Tie as tie

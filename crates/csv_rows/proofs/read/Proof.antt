@@ -6,7 +6,8 @@ use borrow.Author.Needs.{needs}
 use Rattle.csv_fields.specs.declared.Digits.{Digits}
 use Rattle.csv_rows.specs.declared.Scan.{Scan}
 use Rattle.csv_rows.specs.declared.Stepped.{Stepped}
-use Rattle.csv_rows.specs.Scanning.{reachedOf, isNothing, readOn, withNumber}
+use Rattle.csv_rows.specs.Scanning.{reachedOf, isNothing, readOn}
+use Rattle.csv_rows.specs.Steps.{withNumber}
 use Rattle.csv_rows.proofs.InOneGo.{digits-turn, inner-turn, row-turn, last-turn}
 use Rattle.csv_rows.proofs.read.Statement.{statement}
 use Rattle.csv_rows.proofs.read.Tie as tie

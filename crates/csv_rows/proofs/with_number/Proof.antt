@@ -1,5 +1,5 @@
 use mathlib.Core.Path.{refl}
-use Rattle.csv_rows.specs.Scanning.{withNumber}
+use Rattle.csv_rows.specs.Steps.{withNumber}
 use Rattle.csv_rows.proofs.with_number.Statement.{statement}
 use Rattle.csv_rows.proofs.with_number.Tie as tie
 
