@@ -24,7 +24,7 @@ unfoldable pub decimalBy : ℕ → ℕ → List ℕ
 decimalBy zero n = []
 decimalBy (suc k) n = cond (ltb n 10) (glyph n ∷ []) (decimalBy k (n / 10) ++ (glyph (n % 10) ∷ []))
 
--- Twenty digits write every number below 2 ^ 64, which are the numbers of all rows that a run can have.
+-- Twenty digits write every number below 2 ^ 64, which are the numbers of all rows that a run can have. (Of a longer number, which no run reaches, the last twenty.)
 unfoldable pub decimal : ℕ → List ℕ
 decimal n = decimalBy 20 n
 
