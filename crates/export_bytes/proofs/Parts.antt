@@ -1,11 +1,10 @@
 -- What a byte does and prints, how much that is, and what a call leaves. Assumes nothing.
 use mathlib.Core.Path.{_≡_, refl, sym, ap, ap₂, _∙_, subst}
-use mathlib.Core.Bool.{Bool, true, false, cond, not, _&&_, _||_}
+use mathlib.Core.Bool.{Bool, true, false, cond, not}
 use mathlib.Core.List.{List, [], _∷_, _++_, append-nil}
 use Prim.Native.Nat.{ℕ, suc, _+_, _-_, _*_, _≤_, _<_}
 use native.Mathlib.Nat.{le-refl, zero-add}
 use native.Mathlib.Omega.{arith}
-use lib.Dec.{eqb}
 use lib.ListN.{length, take, drop, getD, length-append}
 use lib.Seq.{take-all, take-add, take-nil}
 use Rattle.csv_rows.specs.declared.Row.{Row}
@@ -19,13 +18,13 @@ use Rattle.score_rows.specs.Feeding as Feeding
 use Rattle.score_rows.specs.Steps.{Put}
 use Rattle.score_rows.proofs.Feeding.{fed-append, printed-append}
 use Rattle.score_rows.proofs.Bytes.{put-then, row-length, bad-line-length, bad-row-length, counts-length, cond-length}
+use Rattle.watched_rows.specs.Deciding.{isWatched, nextNumber}
 use Rattle.export_rows.specs.declared.Ending.{Ending}
 use Rattle.export_rows.specs.declared.Ending.the-variants as Endings
 use Rattle.export_rows.specs.declared.Course.{Course}
 use Rattle.export_rows.specs.declared.Line.{Line}
 use Rattle.export_rows.specs.declared.Line.the-variants as Lines
 use Rattle.export_rows.specs.declared.Taken.{Taken}
-use Rattle.export_rows.specs.Output.{isWatched}
 use Rattle.export_rows.specs.Taking as Taking
 use Rattle.export_bytes.specs.declared.Run.{Run}
 use Rattle.export_bytes.specs.declared.Fed.{Fed}
@@ -132,21 +131,16 @@ open-is Endings.Full h = absurd (let z : _≡_ {A = ℕ} 0 1 = cc in omega arith
 open-is Endings.Counted h = absurd (let z : _≡_ {A = ℕ} 0 1 = cc in omega arith)
 
 abbrev passedOver : Course → Taken
-passedOver c = Taking.takenOf (Taking.courseOf (c .watch) (Taking.nextNumber (c .row)) (c .ending)) Lines.Nothing
-
-not-watched : (x y : Bool) → not x && not y ≡ true → x || y ≡ false
-not-watched true y e = sym e
-not-watched false true e = sym e
-not-watched false false e = refl
+passedOver c = Taking.takenOf (Taking.courseOf (c .watch) (nextNumber (c .row)) (c .ending)) Lines.Nothing
 
 pub passed-over : (c : Course) (r : Row) → Taking.isOpen (c .ending) ≡ true → Taking.isPassedOver (c .watch .drawer) r ≡ true → passedOver c ≡ Taking.taken c r
-unfolding Taking.isPassedOver Taking.taken Taking.met Taking.sound Taking.passed isWatched
+unfolding Taking.isPassedOver Taking.taken Taking.met Taking.sound Taking.passed
 passed-over c Rows.Nothing going e = absurd (let z : _≡_ {A = ℕ} 0 1 = cc in omega arith)
 passed-over c Rows.Header going e = absurd (let z : _≡_ {A = ℕ} 0 1 = cc in omega arith)
 passed-over c (Rows.Faulty why) going e = absurd (let z : _≡_ {A = ℕ} 0 1 = cc in omega arith)
 passed-over c (Rows.Sound x) going e =
-    ap (λ (k : Ending). Taking.takenOf (Taking.courseOf (c .watch) (Taking.nextNumber (c .row)) k) Lines.Nothing) (open-is (c .ending) going)
-    ∙ sym (simp (going, not-watched (eqb (c .watch .drawer) 0) (eqb (c .watch .drawer) (x .drawer)) e))
+    ap (λ (k : Ending). Taking.takenOf (Taking.courseOf (c .watch) (nextNumber (c .row)) k) Lines.Nothing) (open-is (c .ending) going)
+    ∙ sym (simp (going, not-true (isWatched (c .watch .drawer) (x .drawer)) e))
 
 -- What a row and the end of the input print is short.
 pub text-length : (n : ℕ) (l : Line) → length (Taking.text n l) ≤ longest

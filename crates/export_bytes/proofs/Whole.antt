@@ -16,13 +16,14 @@ use Rattle.score_rows.specs.Watching.{shown}
 use Rattle.score_rows.specs.Text.{header, row, badLine, badRow}
 use Rattle.score_rows.specs.Feeding.{joined}
 use Rattle.score_rows.proofs.Feeding as Feeds
+use Rattle.watched_rows.specs.Deciding.{isWatched, goesOn, firstNumber, nextNumber}
 use Rattle.export_rows.specs.declared.Watch.{Watch}
 use Rattle.export_rows.specs.declared.Ending.{Ending}
 use Rattle.export_rows.specs.declared.Ending.the-variants.{Open, Refused, Full}
 use Rattle.export_rows.specs.declared.Line.the-variants as Lines
 use Rattle.export_rows.specs.declared.Course.{Course}
-use Rattle.export_rows.specs.Output.{unwatched, isWatched, judgedAt, goesOn, rows, output}
-use Rattle.export_rows.specs.Taking.{courseOf, isOpen, nextNumber, passed, ended, sound, met, taken, text}
+use Rattle.export_rows.specs.Output.{unwatched, judgedAt, rows, output}
+use Rattle.export_rows.specs.Taking.{courseOf, isOpen, passed, ended, sound, met, taken, text}
 use Rattle.export_rows.specs.Taking as Taking
 use Rattle.export_bytes.specs.declared.Run.{Run}
 use Rattle.export_bytes.specs.Feeding.{runOf, begin, step, said, totalSaid, closing, Whole}
@@ -41,7 +42,7 @@ module _ (w : Watch) (n : ℕ) (rest : List Row) (later : Course → List ℕ)
 
   by-sound : (e : Entry) → text n (sound course e .line) ++ later (sound course e .course) ≡ rows n w (Rows.Sound e ∷ rest)
   unfolding sound passed nextNumber ended text rows isOpen
-  by-sound e = go (isWatched w (e .drawer)) (goesOn w)
+  by-sound e = go (isWatched (w .drawer) (e .drawer)) (goesOn (w .quiet) (w .raised))
     where
       go : (t u : Bool)
           → text n (cond t (cond u (Taking.takenOf (passed course (judgedAt w e (shown (w .thresholder) (e .score) .grade))) (Lines.Shown (shown (w .thresholder) (e .score)))) (Taking.takenOf (ended course Full) Lines.Full)) (Taking.takenOf (passed course w) Lines.Nothing) .line)
@@ -111,5 +112,5 @@ unfolding output begin Taking.begin
 whole parts h =
     ap (λ (l : List ℕ). header ++ l)
     (Feeds.in-one step said closing begin parts
-    ∙ follows (joined parts) Scanning.begin unwatched 1 (omega arith)
-    ∙ ap (rows 1 unwatched) (Read.whole-one (joined parts)))
+    ∙ follows (joined parts) Scanning.begin unwatched firstNumber (omega arith)
+    ∙ ap (rows firstNumber unwatched) (Read.whole-one (joined parts)))

@@ -58,7 +58,7 @@ fn read(run: Run, input: &[u8], out: &mut [u8]) -> Fed
         scan = reached.scan;
         i = reached.next;
         if export_rows::is_passed_over(course.watch.drawer, row) {
-            course.row = export_rows::next_number(course.row);
+            course.row = watched_rows::next_number(course.row);
             continue;
         }
         let taken = export_rows::take(course, row);

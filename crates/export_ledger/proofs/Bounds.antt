@@ -1,11 +1,11 @@
 -- The judged rows of an input are at most 65,536, none is refused, and each score is zero or of the ledger's sizes. Assumes nothing.
 use mathlib.Core.Path.{sym, subst}
-use mathlib.Core.Bool.{Bool, true, false, cond, _||_}
+use mathlib.Core.Bool.{Bool, true, false, cond}
 use mathlib.Core.Logic.{_⊎_, inl, inr}
 use mathlib.Core.List.{List, [], _∷_}
 use Prim.Native.Nat.{ℕ, zero, suc, _+_, _≤_}
 use native.Mathlib.Omega.{arith}
-use lib.Dec.{T, eqb}
+use lib.Dec.{T}
 use lib.Ieee.{Float, nan, inf, fin, eq}
 use lib.ListN.{length}
 use lib.Ieee.Positive.{positive}
@@ -15,6 +15,7 @@ use Rattle.csv_rows.specs.declared.Row.{Row}
 use Rattle.csv_rows.specs.declared.Row.the-variants.{Nothing, Header, Sound, Faulty}
 use Rattle.csv_rows.specs.Sizes.{AllSized}
 use Rattle.score_rows.specs.Watching.{counted}
+use Rattle.watched_rows.specs.Deciding.{isWatched}
 use Rattle.ledger.specs.Fractions.{plain, plusZero}
 use Rattle.ledger.specs.Statement.{told, accepted, Sized, Sizes}
 use Rattle.export_ledger.specs.Statement.{Reading, judgedFrom, watch}
@@ -59,9 +60,9 @@ fits-from [] n drawer most a = none most
 fits-from (Nothing ∷ rows) n drawer most a = fits-from rows n drawer most (a .1)
 fits-from (Header ∷ rows) n drawer most a = fits-from rows (n + 1) drawer most (a .1)
 fits-from (Faulty why ∷ rows) n drawer most a = none most
-fits-from (Sound e ∷ rows) n drawer zero a = pick (eqb drawer 0 || eqb drawer (e .drawer)) zero [] (judgedFrom (n + 1) drawer zero rows) (none zero) (fits-from rows (n + 1) drawer zero (a .1))
+fits-from (Sound e ∷ rows) n drawer zero a = pick (isWatched drawer (e .drawer)) zero [] (judgedFrom (n + 1) drawer zero rows) (none zero) (fits-from rows (n + 1) drawer zero (a .1))
 fits-from (Sound e ∷ rows) n drawer (suc most) a =
     let r : Reading = record { number = n; score = e .score } in
-    pick (eqb drawer 0 || eqb drawer (e .drawer)) (suc most) (r ∷ judgedFrom (n + 1) (e .drawer) most rows) (judgedFrom (n + 1) drawer (suc most) rows)
+    pick (isWatched drawer (e .drawer)) (suc most) (r ∷ judgedFrom (n + 1) (e .drawer) most rows) (judgedFrom (n + 1) drawer (suc most) rows)
     (cons most r (judgedFrom (n + 1) (e .drawer) most rows) (a .0) (fits-from rows (n + 1) (e .drawer) most (a .1)))
     (fits-from rows (n + 1) drawer (suc most) (a .1))

@@ -13,8 +13,9 @@ use Rattle.csv_rows.specs.declared.Row.the-variants.{Nothing, Header, Sound, Fa
 use Rattle.csv_rows.specs.Rows.{readingsOf}
 use Rattle.score_rows.specs.Watching.{settings, shown, counted, isQuiet}
 use Rattle.score_rows.specs.Text.{header, row}
+use Rattle.watched_rows.specs.Deciding.{isWatched, goesOn, firstNumber}
 use Rattle.export_rows.specs.declared.Watch.{Watch}
-use Rattle.export_rows.specs.Output.{watchOf, unwatched, isWatched, judgedAt, goesOn, rows, output}
+use Rattle.export_rows.specs.Output.{watchOf, unwatched, judgedAt, rows, output}
 use Rattle.export_ledger.specs.Statement.{judgedFrom, judged, lines, End, Counts, Full, Bad, endLine}
 
 -- What is printed of the rows from number n on, so many of the drawer's being judged still.
@@ -43,23 +44,23 @@ judged-drawer w e g = go (isQuiet g)
     go true = (refl, refl)
     go false = (refl, refl)
 
-more-rows : (w : Watch) (most : ℕ) → w .quiet + w .raised + suc most ≡ 65536 → goesOn w ≡ true
+more-rows : (w : Watch) (most : ℕ) → w .quiet + w .raised + suc most ≡ 65536 → goesOn (w .quiet) (w .raised) ≡ true
 unfolding goesOn
 more-rows w most h = lt-ltb (w .quiet + w .raised) 65536 (omega arith)
 
-no-more : (w : Watch) → w .quiet + w .raised + zero ≡ 65536 → goesOn w ≡ false
+no-more : (w : Watch) → w .quiet + w .raised + zero ≡ 65536 → goesOn (w .quiet) (w .raised) ≡ false
 unfolding goesOn
 no-more w h = le-ltb (w .quiet + w .raised) 65536 (omega arith)
 
 -- A sound row: the drawer has had its rows, or is judged once more.
-full : (e : Entry) (rs : List Row) (n : ℕ) (w : Watch) → goesOn w ≡ false → Printed (n + 1) w zero rs → (t : Bool) → isWatched w (e .drawer) ≡ t → Printed n w zero (Sound e ∷ rs)
-unfolding rows judgedFrom lines isWatched endLine
+full : (e : Entry) (rs : List Row) (n : ℕ) (w : Watch) → goesOn (w .quiet) (w .raised) ≡ false → Printed (n + 1) w zero rs → (t : Bool) → isWatched (w .drawer) (e .drawer) ≡ t → Printed n w zero (Sound e ∷ rs)
+unfolding rows judgedFrom lines endLine
 full e rs n w none other true t = record { end = Full n; printed = simp (t, none) }
 full e rs n w none other false t = record { end = other .end; printed = simp t (other .printed) }
 
-once-more : (e : Entry) (rs : List Row) (n : ℕ) (w : Watch) (most : ℕ) → goesOn w ≡ true → Printed (n + 1) (judgedAt w e (shown (w .thresholder) (e .score) .grade)) most rs
-    → Printed (n + 1) w (suc most) rs → (t : Bool) → isWatched w (e .drawer) ≡ t → Printed n w (suc most) (Sound e ∷ rs)
-unfolding rows judgedFrom lines isWatched
+once-more : (e : Entry) (rs : List Row) (n : ℕ) (w : Watch) (most : ℕ) → goesOn (w .quiet) (w .raised) ≡ true → Printed (n + 1) (judgedAt w e (shown (w .thresholder) (e .score) .grade)) most rs
+    → Printed (n + 1) w (suc most) rs → (t : Bool) → isWatched (w .drawer) (e .drawer) ≡ t → Printed n w (suc most) (Sound e ∷ rs)
+unfolding rows judgedFrom lines
 once-more e rs n w most more next other true t =
     let g = shown (w .thresholder) (e .score) in
     let same = judged-drawer w e (g .grade) in
@@ -78,12 +79,12 @@ printed-from [] n w most h = record { end = Counts (w .quiet) (w .raised); print
 printed-from (Nothing ∷ rs) n w most h = let p = printed-from rs n w most h in record { end = p .end; printed = p .printed }
 printed-from (Header ∷ rs) n w most h = let p = printed-from rs (n + 1) w most h in record { end = p .end; printed = p .printed }
 printed-from (Faulty why ∷ rs) n w most h = record { end = Bad n why; printed = refl }
-printed-from (Sound e ∷ rs) n w zero h = full e rs n w (no-more w h) (printed-from rs (n + 1) w zero h) (isWatched w (e .drawer)) refl
+printed-from (Sound e ∷ rs) n w zero h = full e rs n w (no-more w h) (printed-from rs (n + 1) w zero h) (isWatched (w .drawer) (e .drawer)) refl
 printed-from (Sound e ∷ rs) n w (suc most) h =
     once-more e rs n w most (more-rows w most h) (printed-from rs (n + 1) (judgedAt w e (shown (w .thresholder) (e .score) .grade)) most (judged-count w e most (shown (w .thresholder) (e .score) .grade) h))
-    (printed-from rs (n + 1) w (suc most) h) (isWatched w (e .drawer)) refl
+    (printed-from rs (n + 1) w (suc most) h) (isWatched (w .drawer) (e .drawer)) refl
 
 -- The whole output.
 pub whole : (input : List ℕ) → (end : End) × (output input ≡ header ++ (lines settings (judged input) ++ endLine end))
 unfolding output unwatched judged
-whole input = let p = printed-from (readingsOf input) 1 unwatched 65536 refl in (p .end, ap (λ (l : List ℕ). header ++ l) (p .printed))
+whole input = let p = printed-from (readingsOf input) firstNumber unwatched 65536 refl in (p .end, ap (λ (l : List ℕ). header ++ l) (p .printed))

@@ -1,9 +1,8 @@
 -- "The ledger comparison covers CSV-fed drawers, every score read being of its sizes": demand 3's statement for every input of the export watch, without a premise on it.
 use mathlib.Core.Path.{_≡_}
-use mathlib.Core.Bool.{false, cond, _||_}
+use mathlib.Core.Bool.{false, cond}
 use mathlib.Core.List.{List, [], _∷_, _++_}
 use Prim.Native.Nat.{ℕ, zero, suc, _+_}
-use lib.Dec.{eqb}
 use lib.Ieee.{Float, ofBits, binary64}
 use Rattle.types.specs.declared.Refusal.{Refusal}
 use Rattle.basicthresholder.specs.declared.BasicThresholder.{BasicThresholder}
@@ -12,6 +11,7 @@ use Rattle.csv_rows.specs.declared.Row.the-variants.{Nothing, Header, Sound, Fa
 use Rattle.csv_rows.specs.Rows.{readingsOf}
 use Rattle.score_rows.specs.Watching.{settings, three32, shown, counted}
 use Rattle.score_rows.specs.Text.{header, row, badLine, badRow, counts}
+use Rattle.watched_rows.specs.Deciding.{isWatched, firstNumber}
 use Rattle.export_rows.specs.Output.{output}
 use Rattle.ledger.specs.Statement.{Judge, told, showed, mostReadings, Demand3}
 
@@ -28,14 +28,14 @@ judgedFrom n drawer most (Nothing ∷ rest) = judgedFrom n drawer most rest
 judgedFrom n drawer most (Header ∷ rest) = judgedFrom (n + 1) drawer most rest
 judgedFrom n drawer most (Faulty why ∷ rest) = []
 judgedFrom n drawer zero (Sound e ∷ rest) =
-    cond (eqb drawer 0 || eqb drawer (e .drawer)) [] (judgedFrom (n + 1) drawer zero rest)
+    cond (isWatched drawer (e .drawer)) [] (judgedFrom (n + 1) drawer zero rest)
 judgedFrom n drawer (suc most) (Sound e ∷ rest) =
-    cond (eqb drawer 0 || eqb drawer (e .drawer))
+    cond (isWatched drawer (e .drawer))
     (record { number = n; score = e .score } ∷ judgedFrom (n + 1) (e .drawer) most rest)
     (judgedFrom (n + 1) drawer (suc most) rest)
 
 unfoldable pub judged : List ℕ → List Reading
-judged input = judgedFrom 1 0 mostReadings (readingsOf input)
+judged input = judgedFrom firstNumber 0 mostReadings (readingsOf input)
 
 -- The export watch as a judge: no reading is refused, and a row prints its threshold and its grade, which is the opening grade and the one that the reading ends with.
 abbrev pub watch : Judge

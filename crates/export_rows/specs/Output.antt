@@ -1,9 +1,8 @@
 -- What the export watch prints for a whole input: the definition to believe. `csv_rows` says what each row of the input holds (`readingsOf`), up to the
--- first that is faulty; `score_rows` what a row shows and how lines look.
+-- first that is faulty; `score_rows` what a row shows and how lines look; `watched_rows` which rows are the drawer's, how many it may have, and how rows are numbered.
 use Prim.Native.Nat.{ℕ, _+_}
-use mathlib.Core.Bool.{Bool, cond, _||_}
+use mathlib.Core.Bool.{cond}
 use mathlib.Core.List.{List, [], _∷_, _++_}
-use lib.Dec.{ltb, eqb}
 use lib.Ieee.{Float}
 use Rattle.basicthresholder.specs.declared.BasicThresholder.{BasicThresholder}
 use Rattle.csv_rows.specs.declared.Entry.{Entry}
@@ -12,6 +11,7 @@ use Rattle.csv_rows.specs.declared.Row.the-variants.{Nothing, Header, Sound, Fa
 use Rattle.csv_rows.specs.Rows.{readingsOf}
 use Rattle.score_rows.specs.Watching.{settings, shown, counted, isQuiet}
 use Rattle.score_rows.specs.Text.{header, row, badLine, badRow, counts}
+use Rattle.watched_rows.specs.Deciding.{isWatched, goesOn, firstNumber}
 use Rattle.export_rows.specs.declared.Watch.{Watch}
 
 abbrev pub watchOf : BasicThresholder → ℕ → ℕ → ℕ → Watch
@@ -21,19 +21,11 @@ watchOf s drawer quiet raised = record { thresholder = s; drawer = drawer; quiet
 unfoldable pub unwatched : Watch
 unwatched = watchOf settings 0 0 0
 
--- A run "watches the drawer of its first row below the header".
-unfoldable pub isWatched : Watch → ℕ → Bool
-isWatched w drawer = eqb (w .drawer) 0 || eqb (w .drawer) drawer
-
 -- The watch with one more row of its drawer, of that grade.
 unfoldable pub judgedAt : Watch → Entry → Float → Watch
 judgedAt w e grade =
     let s = counted (w .thresholder) (e .score) in
     cond (isQuiet grade) (watchOf s (e .drawer) (w .quiet + 1) (w .raised)) (watchOf s (e .drawer) (w .quiet) (w .raised + 1))
-
--- Fewer than 65,536 sound rows of the drawer have been read.
-unfoldable pub goesOn : Watch → Bool
-goesOn w = ltb (w .quiet + w .raised) 65536
 
 -- What is printed for the rows from number n on: a line for each row of the watched drawer, the counts behind the last row. Rows of other drawers are passed over.
 -- (`Nothing` is no row; `readingsOf` has none.)
@@ -44,13 +36,13 @@ rows n w (Nothing ∷ rest) = rows n w rest
 rows n w (Header ∷ rest) = rows (n + 1) w rest
 rows n w (Faulty why ∷ rest) = badRow n why
 rows n w (Sound e ∷ rest) =
-    cond (isWatched w (e .drawer))
-    (cond (goesOn w)
+    cond (isWatched (w .drawer) (e .drawer))
+    (cond (goesOn (w .quiet) (w .raised))
     (let g = shown (w .thresholder) (e .score) in
     row n g ++ rows (n + 1) (judgedAt w e (g .grade)) rest)
     (badLine n))
     (rows (n + 1) w rest)
 
--- The whole output; "numbered by row with the header as row 1".
+-- The whole output.
 unfoldable pub output : List ℕ → List ℕ
-output input = header ++ rows 1 unwatched (readingsOf input)
+output input = header ++ rows firstNumber unwatched (readingsOf input)

@@ -1,13 +1,13 @@
 -- The run as it meets one row after the other.
-use Prim.Native.Nat.{ℕ, _+_, _-_, _^_, min}
-use mathlib.Core.Bool.{Bool, true, false, cond, not, _&&_}
-use lib.Dec.{eqb}
+use Prim.Native.Nat.{ℕ}
+use mathlib.Core.Bool.{Bool, true, false, cond, not}
 use mathlib.Core.List.{List, []}
 use Rattle.csv_rows.specs.declared.Entry.{Entry}
 use Rattle.csv_rows.specs.declared.Row.{Row}
 use Rattle.csv_rows.specs.declared.Row.the-variants as Rows
 use Rattle.score_rows.specs.Watching.{shown}
 use Rattle.score_rows.specs.Text.{row, badLine, badRow}
+use Rattle.watched_rows.specs.Deciding.{isWatched, goesOn, firstNumber, nextNumber}
 use Rattle.export_rows.specs.declared.Watch.{Watch}
 use Rattle.export_rows.specs.declared.Ending.{Ending}
 use Rattle.export_rows.specs.declared.Ending.the-variants as Endings
@@ -15,7 +15,7 @@ use Rattle.export_rows.specs.declared.Course.{Course}
 use Rattle.export_rows.specs.declared.Line.{Line}
 use Rattle.export_rows.specs.declared.Line.the-variants as Lines
 use Rattle.export_rows.specs.declared.Taken.{Taken}
-use Rattle.export_rows.specs.Output.{unwatched, isWatched, judgedAt, goesOn}
+use Rattle.export_rows.specs.Output.{unwatched, judgedAt}
 
 abbrev pub courseOf : Watch → ℕ → Ending → Course
 courseOf watch row ending = record { watch = watch; row = row; ending = ending }
@@ -26,7 +26,7 @@ takenOf course line = record { course = course; line = line }
 -- A run that has read nothing.
 unfoldable pub begin : Course
 unfolding unwatched
-begin = courseOf unwatched 1 Endings.Open
+begin = courseOf unwatched firstNumber Endings.Open
 
 unfoldable pub isOpen : Ending → Bool
 isOpen Endings.Open = true
@@ -37,10 +37,7 @@ isOpen Endings.Counted = false
 unfoldable pub ended : Course → Ending → Course
 ended c ending = courseOf (c .watch) (c .row) ending
 
--- The run after a row that does not end it. Row numbers stop at the largest of 64 bits.
-unfoldable pub nextNumber : ℕ → ℕ
-nextNumber row = min (row + 1) (2 ^ 64 - 1)
-
+-- The run after a row that does not end it.
 unfoldable pub passed : Course → Watch → Course
 passed c w = courseOf w (nextNumber (c .row)) Endings.Open
 
@@ -48,14 +45,14 @@ passed c w = courseOf w (nextNumber (c .row)) Endings.Open
 unfoldable pub isPassedOver : ℕ → Row → Bool
 isPassedOver drawer Rows.Nothing = false
 isPassedOver drawer Rows.Header = false
-isPassedOver drawer (Rows.Sound e) = not (eqb drawer 0) && not (eqb drawer (e .drawer))
+isPassedOver drawer (Rows.Sound e) = not (isWatched drawer (e .drawer))
 isPassedOver drawer (Rows.Faulty why) = false
 
 -- A sound row: judged where it is the watched drawer's, else passed over.
 unfoldable pub sound : Course → Entry → Taken
 sound c e =
-    cond (isWatched (c .watch) (e .drawer))
-    (cond (goesOn (c .watch))
+    cond (isWatched (c .watch .drawer) (e .drawer))
+    (cond (goesOn (c .watch .quiet) (c .watch .raised))
     (let g = shown (c .watch .thresholder) (e .score) in
     takenOf (passed c (judgedAt (c .watch) e (g .grade))) (Lines.Shown g))
     (takenOf (ended c Endings.Full) Lines.Full))

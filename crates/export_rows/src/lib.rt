@@ -9,9 +9,6 @@ ghost use Prim.Native.Nat.{_+_, _<_};
 ghost use Rattle.export_rows.specs.Output as Output;
 ghost use Rattle.export_rows.specs.Taking as Taking;
 
-// The drawer's 65,537th sound row ends a run.
-const MOST_ROWS: u64 = 65536;
-
 // What a run knows of the drawer that it watches: its number, or 0 before the first row; its statistics; how many of its rows were quiet and raised.
 pub struct Watch {
     pub thresholder: BasicThresholder,
@@ -60,7 +57,7 @@ pub fn begin() -> Course
             quiet: 0,
             raised: 0,
         },
-        row: 1,
+        row: watched_rows::first_number(),
         ending: Ending::Open,
     }
 }
@@ -90,23 +87,13 @@ fn ended(course: Course, ending: Ending) -> Course
     }
 }
 
-// The number of the row behind that one. Row numbers stop at the largest that there is.
-pub fn next_number(row: u64) -> u64
-    ensures { λ r. ⌜ r ≡ Taking.nextNumber row ⌝ }
-{
-    if row < u64::MAX {
-        return row + 1;
-    }
-    row
-}
-
 // The run after a row that does not end it.
 fn passed(course: Course, watch: Watch) -> Course
     ensures { λ r. ⌜ r ≡ Taking.passed course watch ⌝ }
 {
     Course {
         watch,
-        row: next_number(course.row),
+        row: watched_rows::next_number(course.row),
         ending: Ending::Open,
     }
 }
@@ -118,19 +105,9 @@ pub fn is_passed_over(drawer: u32, row: Row) -> bool
     match row {
         Row::Nothing => false,
         Row::Header => false,
-        Row::Sound(entry) => (drawer != 0) & (drawer != entry.drawer),
+        Row::Sound(entry) => !watched_rows::is_watched(drawer, entry.drawer),
         Row::Faulty(_) => false,
     }
-}
-
-// Whether the run watches that drawer: it is the watched one, or none is watched yet.
-fn is_watched(watch: Watch, drawer: u32) -> bool
-    ensures { λ r. ⌜ r ≡ Output.isWatched watch drawer ⌝ }
-{
-    if watch.drawer == 0 {
-        return true;
-    }
-    watch.drawer == drawer
 }
 
 // The watch after a row of its drawer that shows that grade.
@@ -160,9 +137,8 @@ fn sound(course: Course, entry: Entry) -> Taken
     ensures { λ r. ⌜ r ≡ Taking.sound course entry ⌝ }
 {
     let watch = course.watch;
-    if is_watched(watch, entry.drawer) {
-        let rows = watch.quiet as u64 + watch.raised as u64;
-        if rows < MOST_ROWS {
+    if watched_rows::is_watched(watch.drawer, entry.drawer) {
+        if watched_rows::goes_on(watch.quiet, watch.raised) {
             let shown = score_rows::shown(watch.thresholder, entry.score);
             return Taken {
                 course: passed(course, judged(watch, entry, shown.grade)),

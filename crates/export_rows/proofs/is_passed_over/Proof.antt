@@ -12,6 +12,9 @@ enum-told-2 c = search needs
 enum-known-row : tie.Need-enum-known-row
 enum-known-row c = search needs
 
+is-watched-requires : tie.Need-is-watched-requires
+is-watched-requires c κs = search needs
+
 enum-told-3 : tie.Need-enum-told-3
 enum-told-3 c = search needs
 
@@ -25,7 +28,7 @@ returns-2 c = simp (c .enum-told2 .given .1)
 
 returns-3 : tie.Need-returns-3
 unfolding isPassedOver
-returns-3 c = simp (c .before .before .row .given .1)
+returns-3 c = simp (c .before .before .row .given .1, c .is-watched .ensures)
 
 returns-4 : tie.Need-returns-4
 unfolding isPassedOver
@@ -38,6 +41,7 @@ is-passed-over-spec =
     enum-told
     enum-told-2
     enum-known-row
+    is-watched-requires
     enum-told-3
     returns
     returns-2

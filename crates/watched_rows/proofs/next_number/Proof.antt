@@ -1,8 +1,8 @@
 use native.Mathlib.Omega.{arith}
-use Rattle.export_rows.specs.Taking.{nextNumber}
+use Rattle.watched_rows.specs.Deciding.{nextNumber}
 use borrow.Author.Needs.{needs}
-use Rattle.export_rows.proofs.next_number.Statement.{statement}
-use Rattle.export_rows.proofs.next_number.Tie as tie
+use Rattle.watched_rows.proofs.next_number.Statement.{statement}
+use Rattle.watched_rows.proofs.next_number.Tie as tie
 
 add-result : tie.Need-add-result
 add-result c = search needs
