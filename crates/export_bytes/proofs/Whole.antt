@@ -63,7 +63,7 @@ module _ (w : Watch) (n : ℕ) (rest : List Row) (later : Course → List ℕ)
 abbrev coming : Run → List ℕ → List ℕ
 coming run bs = Feeds.coming step said closing run bs
 
-abbrev left : Scan → List ℕ → List Row
+abbrev pub left : Scan → List ℕ → List Row
 left s bs = heard s bs ++ told (finished (Scanning.fed s bs) .row)
 
 silent : (w : Watch) (n : ℕ) (e : Ending) (r : Row) → isOpen e ≡ false → text n (taken (courseOf w n e) r .line) ++ totalSaid (taken (courseOf w n e) r .course) ≡ []

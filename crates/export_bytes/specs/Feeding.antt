@@ -1,4 +1,4 @@
--- The run as it is fed its input byte by byte; `Whole` says that this prints `output`, however the input is cut.
+-- The run as it is fed its input byte by byte; `Whole` says that this prints `output`, and `WholeEnding` that it ends as `ending` says, however the input is cut.
 use Prim.Native.Nat.{ℕ, _+_, _^_, _<_}
 use mathlib.Core.Path.{_≡_}
 use mathlib.Core.Bool.{Bool, cond}
@@ -10,7 +10,7 @@ use Rattle.csv_rows.specs.Scanning as Scanning
 use Rattle.score_rows.specs.Text.{header, counts}
 use Rattle.score_rows.specs.Feeding as Feeding
 use Rattle.export_rows.specs.declared.Course.{Course}
-use Rattle.export_rows.specs.Output.{output}
+use Rattle.export_rows.specs.Output.{output, ending}
 use Rattle.export_rows.specs.Taking as Taking
 use Rattle.export_bytes.specs.declared.Run.{Run}
 use Rattle.export_bytes.specs.declared.Fed.{Fed}
@@ -67,6 +67,10 @@ abbrev pub Whole : Type 0
 Whole =
     (parts : List (List ℕ)) → length (Feeding.joined parts) + 1 < 2 ^ 64
     → header ++ Feeding.inParts step said closing begin parts ≡ output (Feeding.joined parts)
+
+-- And however an input is cut, and however long it is, the run that is fed its parts and then finished ends as `ending` says of it.
+abbrev pub WholeEnding : Type 0
+WholeEnding = (parts : List (List ℕ)) → closed (Feeding.fedParts step begin parts) .course .ending ≡ ending (Feeding.joined parts)
 
 -- A call that leaves the run `next` and prints `text` at the front of the buffer. What is behind it stays.
 pub record Prints (next : Run) (text out : List ℕ) (r : Fed) (after : List ℕ) : Type 0 where

@@ -135,8 +135,8 @@ pub fn finish(run: Run, out: &mut [u8; ROOM]) -> Fed
     close(run, out)
 }
 
-// However the input is cut, the header and what `feed` and `finish` print are together the output of the whole input. Nothing calls it: the check asks
-// for its proof.
+// However the input is cut, the header and what `feed` and `finish` print are together the output of the whole input, and the run ends as `ending` says of it.
+// Nothing calls it: the check asks for its proof.
 fn whole_run()
-    ensures { λ _. ⌜ Feeding.Whole ⌝ }
+    ensures { λ _. ⌜ Feeding.Whole ⌝ ∗ ⌜ Feeding.WholeEnding ⌝ }
 {}

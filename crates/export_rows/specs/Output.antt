@@ -1,4 +1,4 @@
--- What the export watch prints for a whole input: the definition to believe. `csv_rows` says what each row of the input holds (`readingsOf`), up to the
+-- What the export watch prints for a whole input, and how the run ends: the definitions to believe. `csv_rows` says what each row of the input holds (`readingsOf`), up to the
 -- first that is faulty; `score_rows` what a row shows and how lines look; `watched_rows` which rows are the drawer's, how many it may have, and how rows are numbered.
 use Prim.Native.Nat.{ℕ, _+_}
 use mathlib.Core.Bool.{cond}
@@ -13,6 +13,8 @@ use Rattle.score_rows.specs.Watching.{settings, shown, counted, isQuiet}
 use Rattle.score_rows.specs.Text.{header, row, badLine, badRow, counts}
 use Rattle.watched_rows.specs.Deciding.{isWatched, goesOn, firstNumber}
 use Rattle.export_rows.specs.declared.Watch.{Watch}
+use Rattle.export_rows.specs.declared.Ending.{Ending}
+use Rattle.export_rows.specs.declared.Ending.the-variants.{Refused, Full, Counted}
 
 abbrev pub watchOf : BasicThresholder → ℕ → ℕ → ℕ → Watch
 watchOf s drawer quiet raised = record { thresholder = s; drawer = drawer; quiet = quiet; raised = raised }
@@ -46,3 +48,20 @@ rows n w (Sound e ∷ rest) =
 -- The whole output.
 unfoldable pub output : List ℕ → List ℕ
 output input = header ++ rows firstNumber unwatched (readingsOf input)
+
+-- How a run over these rows ends: with the counts behind the last row; at a faulty row, refused with its error; full at the drawer's 65,537th sound row.
+unfoldable pub ends : Watch → List Row → Ending
+ends w [] = Counted
+ends w (Nothing ∷ rest) = ends w rest
+ends w (Header ∷ rest) = ends w rest
+ends w (Faulty why ∷ rest) = Refused why
+ends w (Sound e ∷ rest) =
+    cond (isWatched (w .drawer) (e .drawer))
+    (cond (goesOn (w .quiet) (w .raised))
+    (ends (judgedAt w e (shown (w .thresholder) (e .score) .grade)) rest)
+    Full)
+    (ends w rest)
+
+-- How the run over a whole input ends.
+unfoldable pub ending : List ℕ → Ending
+ending input = ends unwatched (readingsOf input)

@@ -8,7 +8,7 @@ use lib.ListN.{length, take, drop, getD, take-append-drop}
 use lib.Seq.{take-suc}
 use Rattle.score_rows.specs.Text.{longest}
 use Rattle.score_rows.specs.Steps.{Put}
-use Rattle.score_rows.specs.Feeding.{fed, printed, joined, inParts}
+use Rattle.score_rows.specs.Feeding.{fed, printed, joined, fedParts, inParts}
 use Rattle.score_rows.proofs.Bytes.{put-then}
 
 module _ {R : Type 0} (step : R → ℕ → R) where
@@ -16,6 +16,12 @@ module _ {R : Type 0} (step : R → ℕ → R) where
   unfolding fed
   fed-append run [] ys = refl
   fed-append run (x ∷ xs) ys = fed-append (step run x) xs ys
+
+  -- Parts that are fed one after the other lead where they lead in one piece.
+  pub parts-in-one : (run : R) (parts : List (List ℕ)) → fedParts step run parts ≡ fed step run (joined parts)
+  unfolding fedParts joined fed
+  parts-in-one run [] = refl
+  parts-in-one run (p ∷ ps) = parts-in-one (fed step run p) ps ∙ sym (fed-append run p (joined ps))
 
   -- A run that no byte changes.
   pub still-fed : (run : R) (xs : List ℕ) → ((b : ℕ) → step run b ≡ run) → fed step run xs ≡ run

@@ -11,10 +11,14 @@ unfoldable pub printed : {R : Type 0} → (R → ℕ → R) → (R → ℕ → L
 printed step said run [] = []
 printed step said run (b ∷ bs) = said run b ++ printed step said (step run b) bs
 
--- An input that comes in parts, and what a run prints that is fed one after the other and then finished.
+-- An input that comes in parts: all of it, the run that is fed one after the other, and what that run prints until it is finished.
 unfoldable pub joined : List (List ℕ) → List ℕ
 joined [] = []
 joined (p ∷ ps) = p ++ joined ps
+
+unfoldable pub fedParts : {R : Type 0} → (R → ℕ → R) → R → List (List ℕ) → R
+fedParts step run [] = run
+fedParts step run (p ∷ ps) = fedParts step (fed step run p) ps
 
 unfoldable pub inParts : {R : Type 0} → (R → ℕ → R) → (R → ℕ → List ℕ) → (R → List ℕ) → R → List (List ℕ) → List ℕ
 inParts step said closing run [] = closing run
