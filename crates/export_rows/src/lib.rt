@@ -17,7 +17,7 @@ pub struct Watch {
     pub raised: u32,
 }
 
-// How a run ended: it goes on; a row was faulty; the drawer has too many rows; the input ended and the counts were given.
+// How a run stands: it goes on; a row was faulty; the drawer has too many rows; the input ended and the counts were given.
 pub enum Ending {
     Open,
     Refused(Refusal),
