@@ -119,17 +119,17 @@ fn next_field(s: Scan, c: Content) -> Scan
 fn verdict(header: bool, field: u32, good: bool, drawer: u32, c: Content) -> Row
     ensures { λ r. ⌜ r ≡ Scanning.verdict header field good drawer c ⌝ }
 {
-    if good & csv_fields::good(header, field, c) {
-        if field == 2 {
+    if field == 2 {
+        if good & csv_fields::good(header, field, c) {
             if header {
                 return Row::Header;
             }
             let score = csv_fields::score(c);
             return Row::Sound(Entry { drawer, score });
         }
-        return Row::Faulty(Refusal::Row);
+        return Row::Faulty(Refusal::of_faulty_row(header));
     }
-    Row::Faulty(Refusal::of_bad_field((field != 2) | header))
+    Row::Faulty(Refusal::of_faulty_row(true))
 }
 
 // The scan behind a row. `taken` and `finish` both call it, so it is small and apart from `verdict`: then it is inlined, and the scan stays in registers.

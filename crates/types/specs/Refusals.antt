@@ -27,9 +27,9 @@ answered (Refused why) = number why
 abbrev pub ofMisfit : Bool → Refusal
 ofMisfit sizesFit = cond sizesFit Length Range
 
--- A row of an export with a bad field: 9 for its shape comes before 10 for the field.
-abbrev pub ofBadField : Bool → Refusal
-ofBadField misshapen = cond misshapen Row Field
+-- A faulty row of an export: 9 for its shape comes before 10 for a field.
+abbrev pub ofFaultyRow : Bool → Refusal
+ofFaultyRow misshapen = cond misshapen Row Field
 
 -- The answer to a reading that fits: the smallest of 4, 5 and 6 whose test fails.
 abbrev pub ofFitting : (finite seenOk countsOk : Bool) → Answer

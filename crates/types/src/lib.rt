@@ -94,9 +94,9 @@ impl Refusal {
         Refusal::Range
     }
 
-    // A row of an export with a bad field: 9 for its shape comes before 10 for the field.
-    pub fn of_bad_field(misshapen: bool) -> Refusal
-        ensures { λ r. ⌜ r ≡ Refusals.ofBadField misshapen ⌝ }
+    // A faulty row of an export: 9 for its shape comes before 10 for a field.
+    pub fn of_faulty_row(misshapen: bool) -> Refusal
+        ensures { λ r. ⌜ r ≡ Refusals.ofFaultyRow misshapen ⌝ }
     {
         if misshapen {
             return Refusal::Row;

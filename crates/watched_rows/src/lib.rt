@@ -12,10 +12,7 @@ const FIRST_NUMBER: u64 = 1;
 pub fn is_watched(watched: u32, drawer: u32) -> bool
     ensures { λ r. ⌜ r ≡ Deciding.isWatched watched drawer ⌝ }
 {
-    if watched == 0 {
-        return true;
-    }
-    watched == drawer
+    (watched == 0) | (watched == drawer)
 }
 
 // Whether a drawer with so many quiet and raised rows may have one more.
