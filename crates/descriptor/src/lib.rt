@@ -369,28 +369,30 @@ pub fn answer(
         out_high,
         out_low,
     };
-    let fits = range_ok(r.shingle_size, r.base_dimension, state_base);
-    if fits & lengths_ok(r, l, n) {
-        return Answer::of_fitting(
-            finite_ok(
-                r,
-                l,
-                point,
-                scale,
-                shift,
-                difference_deviations,
-                last_expected,
-                last_anomalous,
-                high,
-                low,
-                median,
-                ideal_high,
-                ideal_low,
-                neighbours,
-            ),
-            seen_ok(r.values_seen, l.has_anomaly, anomaly.values_seen),
-            counts_ok,
-        );
+    if range_ok(r.shingle_size, r.base_dimension, state_base) {
+        if lengths_ok(r, l, n) {
+            return Answer::of_fitting(
+                finite_ok(
+                    r,
+                    l,
+                    point,
+                    scale,
+                    shift,
+                    difference_deviations,
+                    last_expected,
+                    last_anomalous,
+                    high,
+                    low,
+                    median,
+                    ideal_high,
+                    ideal_low,
+                    neighbours,
+                ),
+                seen_ok(r.values_seen, l.has_anomaly, anomaly.values_seen),
+                counts_ok,
+            );
+        }
+        return Answer::Refused(Refusal::Length);
     }
-    Answer::Refused(Refusal::of_misfit(fits))
+    Answer::Refused(Refusal::Range)
 }

@@ -1,7 +1,5 @@
-use mathlib.Core.Path.{_∙_, ap}
-use Rattle.types.specs.declared.Answer.the-variants.{Refused}
-use Rattle.descriptor.specs.Checks.{lengthsOf}
-use Rattle.descriptor.proofs.Answered.{fitting, misfit}
+use mathlib.Core.Path.{_∙_, sym}
+use Rattle.descriptor.specs.Checks.{answerOf, lengthsOf}
 use borrow.Author.Needs.{needs}
 use Rattle.descriptor.proofs.answer.Statement.{statement}
 use Rattle.descriptor.proofs.answer.Tie as tie
@@ -22,15 +20,16 @@ of-fitting-requires : tie.Need-of-fitting-requires
 of-fitting-requires c κs = search needs
 
 returns : tie.Need-returns
-unfolding lengthsOf
-returns c = c .of-fitting .ensures ∙ fitting (c .before .before .before .before .before .before .before .before .before .before .before .before .before .before .before .before .before .before .before .args .r) (c .before .before .before .before .before .before .before .before .before .before .before .before .before .before .before .before .before .before .before .args .l) _ _ _ _ _ _ (c .before .before .before .before .before .range-ok .ensures) (c .before .before .before .before .lengths-ok .ensures) (c .before .before .finite-ok .ensures) (c .before .seen-ok .ensures) (c .before .before .before .if1 .taken)
-
-of-misfit-requires : tie.Need-of-misfit-requires
-of-misfit-requires c κs = search needs
+unfolding answerOf lengthsOf
+returns c = simp (c .of-fitting .ensures, c .before .seen-ok .ensures, c .before .before .finite-ok .ensures, sym (c .before .before .before .before .before .before .range-ok .ensures) ∙ c .before .before .before .before .before .if1 .taken, sym (c .before .before .before .before .lengths-ok .ensures) ∙ c .before .before .before .if2 .taken)
 
 returns-2 : tie.Need-returns-2
-unfolding lengthsOf
-returns-2 c = ap Refused (c .of-misfit .ensures) ∙ misfit (c .before .before .before .before .before .before .before .before .before .before .before .before .before .before .before .before .before .args .r) (c .before .before .before .before .before .before .before .before .before .before .before .before .before .before .before .before .before .args .l) _ _ _ _ _ _ (c .before .before .before .range-ok .ensures) (c .before .before .lengths-ok .ensures) (c .before .if1 .left)
+unfolding answerOf lengthsOf
+returns-2 c = simp (sym (c .before .before .before .range-ok .ensures) ∙ c .before .before .if1 .taken, sym (c .before .lengths-ok .ensures) ∙ c .if2 .left)
+
+returns-3 : tie.Need-returns-3
+unfolding answerOf lengthsOf
+returns-3 c = simp (sym (c .before .range-ok .ensures) ∙ c .if1 .left)
 
 pub answer-spec : {M : Type 1} → statement M
 answer-spec =
@@ -42,5 +41,5 @@ answer-spec =
     seen-ok-requires
     of-fitting-requires
     returns
-    of-misfit-requires
-    returns-2)
+    returns-2
+    returns-3)
