@@ -5,25 +5,32 @@ use libc::STDIN_FILENO;
 use libc::STDOUT_FILENO;
 use score_rows::PART;
 use score_rows::ROOM;
-ghost use Prim.Native.Nat.{_≤_, _<_};
+ghost use Prim.Native.Nat.{_≤_, _-_};
 ghost use lib.ListN.{length};
 
-enum Watch {
-    Scores(score_lines::Run),
-    Export(export_bytes::Run),
+// The first n bytes are a file's, the rest zeros. One that cannot be read counts as full, and no case's file is.
+struct File {
+    bytes: [u8; PART],
+    n: usize,
 }
 
-// What a call of a watch answers: the run after it, and where in the lent buffer the written bytes end.
-struct Printed {
-    run: Watch,
-    written: usize,
-}
-
-// A run, and how far it has printed what is expected.
+// A run of the watch that is fed, the other as it began; and the place up to which it has printed what is expected, past the end where it differs.
 struct Going {
-    run: Watch,
+    scores: score_lines::Run,
+    export: export_bytes::Run,
+    is_export: bool,
     at: usize,
-    ok: bool,
+}
+
+// What is fed before a case's input: so much of an export's head, then a block over and over, in parts of that length. Where it is not looked at, neither is the
+// header that a run prints.
+struct Lead {
+    is_export: bool,
+    is_seen: bool,
+    head: usize,
+    block: [u8; 36],
+    length: usize,
+    parts: usize,
 }
 
 struct Tally {
@@ -31,258 +38,217 @@ struct Tally {
     differ: u64,
 }
 
-fn scores() -> Watch {
-    Watch::Scores(score_lines::begin())
-}
-
-fn export() -> Watch {
-    Watch::Export(export_bytes::begin())
-}
-
-fn feed(run: Watch, input: &[u8; PART], n: usize, out: &mut [u8; ROOM]) -> Printed
-    ensures { λ r. ⌜ r .written ≤ length (now (out .exit)) ⌝ }
-{
-    match run {
-        Watch::Scores(before) => {
-            let fed = score_lines::feed(before, input, n, out);
-            let after = fed.run;
-            Printed {
-                run: Watch::Scores(after),
-                written: fed.written,
-            }
-        }
-        Watch::Export(before) => {
-            let fed = export_bytes::feed(before, input, n, out);
-            let after = fed.run;
-            Printed {
-                run: Watch::Export(after),
-                written: fed.written,
-            }
-        }
+// By the letter behind the dot of the input's name; `.in` and `.csv` have nothing before them.
+fn lead_of(kind: u8) -> Lead {
+    match kind {
+        b'l' => Lead {
+            is_export: false,
+            is_seen: false,
+            head: 0,
+            block: *b"3f800000\n3f800000\n3f800000\n3f800000\n",
+            length: 2304,
+            parts: 256,
+        },
+        b'r' => Lead {
+            is_export: true,
+            is_seen: false,
+            head: 18,
+            block: *b"1,1,1\n1,1,1\n1,1,1\n1,1,1\n1,1,1\n1,1,1\n",
+            length: 3072,
+            parts: 128,
+        },
+        b'z' => Lead {
+            is_export: true,
+            is_seen: false,
+            head: 18,
+            block: *b"1,1,0\n1,1,0\n1,1,0\n1,1,0\n1,1,0\n1,1,0\n",
+            length: 3072,
+            parts: 128,
+        },
+        b'm' => Lead {
+            is_export: true,
+            is_seen: true,
+            head: 24,
+            block: *b"2,1,1\n2,1,1\n2,1,1\n2,1,1\n2,1,1\n2,1,1\n",
+            length: 3750,
+            parts: 1600,
+        },
+        _ => Lead {
+            is_export: kind == b'c',
+            is_seen: true,
+            head: 0,
+            block: [0u8; 36],
+            length: 0,
+            parts: 0,
+        },
     }
 }
 
-fn finish(run: Watch, out: &mut [u8; ROOM]) -> Printed
-    ensures { λ r. ⌜ r .written ≤ length (now (out .exit)) ⌝ }
-{
-    match run {
-        Watch::Scores(before) => {
-            let fed = score_lines::finish(before, out);
-            let after = fed.run;
-            Printed {
-                run: Watch::Scores(after),
-                written: fed.written,
-            }
-        }
-        Watch::Export(before) => {
-            let fed = export_bytes::finish(before, out);
-            let after = fed.run;
-            Printed {
-                run: Watch::Export(after),
-                written: fed.written,
-            }
-        }
-    }
-}
-
-// The first n bytes, or all where there are fewer.
-fn front(text: &[u8], n: usize) -> &[u8] {
-    if n <= text.len() {
-        return &text[..n];
-    }
-    text
-}
-
-// The bytes from n on, or none.
-fn behind(text: &[u8], n: usize) -> &[u8] {
-    if n <= text.len() {
-        return &text[n..];
-    }
-    &text[..0]
-}
-
-// What the run has printed, held against what is expected from there on.
-fn held(run: Watch, before: Going, expected: &[u8], printed: &[u8]) -> Going {
-    let due = front(behind(expected, before.at), printed.len());
-    Going {
-        run,
-        at: std::num::wrapping_add_usize(before.at, printed.len()),
-        ok: before.ok & check::same(due, printed),
-    }
-}
-
-// A run of which nothing was looked at.
-fn fresh(run: Watch) -> Going {
-    Going {
-        run,
-        at: 0,
-        ok: true,
-    }
-}
-
-fn begun(run: Watch, expected: &[u8]) -> Going {
-    held(run, fresh(run), expected, &score_rows::header())
-}
-
-// Feeds a text that is no longer than a part of the input.
-fn fed(before: Going, text: &[u8], expected: &[u8]) -> Going {
-    let mut input = [0u8; PART];
-    if text.len() <= PART {
-        bytes::copy(text, &mut input);
-    }
-    let mut out = [0u8; ROOM];
-    let run = before.run;
-    let printed = feed(run, &input, text.len(), &mut out);
-    let written = printed.written;
-    let next = printed.run;
-    held(next, before, expected, &out[..written])
-}
-
-// Whether the run ends with the rest of what is expected.
-fn ends(before: Going, expected: &[u8]) -> bool {
-    let mut out = [0u8; ROOM];
-    let run = before.run;
-    let printed = finish(run, &mut out);
-    let written = printed.written;
-    let last = printed.run;
-    let after = held(last, before, expected, &out[..written]);
-    after.ok & (after.at == expected.len())
-}
-
-// Whether the input, cut at that place, prints what is expected.
-fn prints(start: Going, input: &[u8], cut: usize, expected: &[u8]) -> bool {
-    let first = fed(start, front(input, cut), expected);
-    ends(fed(first, behind(input, cut), expected), expected)
-}
-
-fn prints_at_every_cut(start: Going, input: &[u8], expected: &[u8]) -> bool {
-    let mut cut = 0usize;
-    while cut <= input.len() {
-        if !prints(start, input, cut, expected) {
-            return false;
-        }
-        cut += 1;
-    }
-    true
-}
-
-// Fills the buffer with the line, over and over.
-fn fill(buffer: &mut [u8], line: &[u8])
-    requires { ⌜ 0 < length (now line) ⌝ }
-{
+// The place behind the header that every output begins with, or one past the end where it does not.
+fn behind_header(expected: [u8; PART]) -> usize {
+    let header = score_rows::header();
     let mut i = 0usize;
-    while i < buffer.len() {
-        buffer[i] = line[i % line.len()];
+    while i < 21 {
+        if expected[i] != header[i] {
+            return PART + 1;
+        }
         i += 1;
     }
+    i
 }
 
-// Feeds the line over and over, in parts of n bytes.
-fn repeated(before: Going, line: &[u8], n: usize, parts: usize, expected: &[u8]) -> Going
-    requires { ⌜ 0 < length (now line) ⌝ }
-{
-    let mut lines = io::buffer();
-    fill(&mut lines, line);
-    let part = front(&lines, n);
-    let mut going = before;
+// The first n bytes printed, held against what is expected from a place on: the place behind them, or one past the end where they differ.
+fn held(expected: [u8; PART], at: usize, printed: &[u8; ROOM], n: usize) -> usize {
+    if PART < at {
+        return PART + 1;
+    }
+    if PART - at < n {
+        return PART + 1;
+    }
     let mut i = 0usize;
-    while i < parts {
-        going = fed(going, part, expected);
+    while i < n {
+        if expected[at + i] != printed[i] {
+            return PART + 1;
+        }
         i += 1;
+    }
+    at + n
+}
+
+// The bytes from that place on, moved to the front.
+fn behind(input: [u8; PART], cut: usize) -> [u8; PART] {
+    let mut out = [0u8; PART];
+    let mut i = cut;
+    while i < PART {
+        out[i - cut] = input[i];
+        i += 1;
+    }
+    out
+}
+
+// A part of the input that has those bytes over and over.
+fn filled(block: [u8; 36]) -> [u8; PART] {
+    let mut out = [0u8; PART];
+    let mut i = 0usize;
+    while i < PART {
+        out[i] = block[i % 36];
+        i += 1;
+    }
+    out
+}
+
+fn begun(is_export: bool, at: usize) -> Going {
+    Going {
+        scores: score_lines::begin(),
+        export: export_bytes::begin(),
+        is_export,
+        at,
+    }
+}
+
+// Feeds the first n bytes of a part of the input.
+fn fed(before: Going, input: [u8; PART], n: usize, expected: [u8; PART]) -> Going {
+    let mut after = before;
+    let mut out = [0u8; ROOM];
+    if before.is_export {
+        let fed = export_bytes::feed(before.export, &input, n, &mut out);
+        let run = fed.run;
+        after.export = run;
+        after.at = held(expected, before.at, &out, fed.written);
+        return after;
+    }
+    let fed = score_lines::feed(before.scores, &input, n, &mut out);
+    let run = fed.run;
+    after.scores = run;
+    after.at = held(expected, before.at, &out, fed.written);
+    after
+}
+
+// The place behind what the run has printed once its input has ended.
+fn ended(before: Going, expected: [u8; PART]) -> usize {
+    let mut out = [0u8; ROOM];
+    if before.is_export {
+        let fed = export_bytes::finish(before.export, &mut out);
+        return held(expected, before.at, &out, fed.written);
+    }
+    let fed = score_lines::finish(before.scores, &mut out);
+    held(expected, before.at, &out, fed.written)
+}
+
+// Whether the input prints what is expected, wherever it is cut.
+fn prints(start: Going, input: File, expected: File) -> bool {
+    let given = input.bytes;
+    let wanted = expected.bytes;
+    let mut cut = input.n;
+    let mut ok = true;
+    while ok {
+        let first = fed(start, given, cut, wanted);
+        let second = fed(first, behind(given, cut), input.n - cut, wanted);
+        ok = ended(second, wanted) == expected.n;
+        if cut == 0 {
+            return ok;
+        }
+        cut -= 1;
+    }
+    ok
+}
+
+// A run that has been fed what stands before a case's input.
+fn led(lead: Lead, expected: [u8; PART]) -> Going {
+    let start = begun(lead.is_export, behind_header(expected));
+    let head = filled(*b"drawer,seen,score\n1,1,1\n1,1,1\n1,1,1\n");
+    let mut going = fed(start, head, lead.head, expected);
+    let block = lead.block;
+    let part = filled(block);
+    let mut left = lead.parts;
+    while left != 0 {
+        going = fed(going, part, lead.length, expected);
+        left -= 1;
+    }
+    if !lead.is_seen {
+        going.at = 0;
     }
     going
 }
 
-// The same run, what it has printed left aside.
-fn unseen(going: Going) -> Going {
-    let run = going.run;
-    fresh(run)
+// The letter behind the dot of a name.
+fn kind_of(name: &[u8]) -> u8 {
+    let dot = bytes::scan::find(name, 0, name.len(), b'.');
+    if dot + 1 < name.len() {
+        return name[dot + 1];
+    }
+    0
 }
 
-// A run that has read 65,536 lines of the score 1, 256 a part.
-fn full_scores() -> Going {
-    unseen(repeated(fresh(scores()), b"3f800000\n", 2304, 256, b""))
+fn read_file(name: &[u8]) -> File {
+    let mut bytes = [0u8; PART];
+    let file = os::open_read(name);
+    if file < 0 {
+        return File { bytes, n: PART };
+    }
+    let n = io::read_full(file, &mut bytes);
+    libc::close(file);
+    File { bytes, n }
 }
 
-// An export's run that has read the header and 65,536 times that row of six bytes, 512 a part.
-fn read_rows(row: &[u8]) -> Going
-    requires { ⌜ 0 < length (now row) ⌝ }
+// Whether the files of a case agree.
+fn agrees(input: &[u8], output: &[u8]) -> bool {
+    let given = read_file(input);
+    let expected = read_file(output);
+    let wanted = expected.bytes;
+    let start = led(lead_of(kind_of(input)), wanted);
+    (given.n < PART) & prints(start, given, expected)
+}
+
+// The line that starts at that place, without its end; none where the text is over.
+fn line(text: &[u8], at: usize) -> &[u8]
+    ensures { λ r. ⌜ length (now r) ≤ length (now (text .entry)) - at ⌝ }
 {
-    let headed = fed(fresh(export()), b"drawer,seen,score\n", b"");
-    unseen(repeated(headed, row, 3072, 128, b""))
-}
-
-// An export's run that has read the header, a row of drawer 1 and a million rows of drawer 2, 625 a part.
-fn million(expected: &[u8]) -> Going {
-    let first = fed(
-        begun(export(), expected),
-        b"drawer,seen,score\n1,1,1\n",
-        expected,
-    );
-    repeated(first, b"2,1,1\n", 3750, 1600, expected)
-}
-
-fn ends_in(name: &[u8], end: &[u8]) -> bool {
-    if end.len() <= name.len() {
-        return check::same(&name[name.len() - end.len()..], end);
+    if at < text.len() {
+        let end = bytes::scan::find(text, at, text.len(), b'\n');
+        return &text[at..end];
     }
-    false
-}
-
-// What has been read before the input of a file with that name.
-fn start_for(name: &[u8], expected: &[u8]) -> Going {
-    if ends_in(name, b".csv") {
-        return begun(export(), expected);
-    }
-    if ends_in(name, b".rows") {
-        return read_rows(b"1,1,1\n");
-    }
-    if ends_in(name, b".zeros") {
-        return read_rows(b"1,1,0\n");
-    }
-    if ends_in(name, b".million") {
-        return million(expected);
-    }
-    if ends_in(name, b".lines") {
-        return full_scores();
-    }
-    begun(scores(), expected)
-}
-
-// Whether the files of a case can be read and agree.
-fn agrees(input: &[u8], expected: &[u8]) -> bool {
-    let from = os::open_read(input);
-    if from < 0 {
-        return false;
-    }
-    let mut given = io::buffer();
-    let n = io::read_full(from, &mut given);
-    libc::close(from);
-    let to = os::open_read(expected);
-    if to < 0 {
-        return false;
-    }
-    let mut wanted = io::large_buffer();
-    let m = io::read_full(to, &mut wanted);
-    libc::close(to);
-    let due = &wanted[..m];
-    prints_at_every_cut(start_for(input, due), &given[..n], due)
-}
-
-// One more case, named where it differs.
-fn noted(tally: Tally, name: &[u8], ok: bool) -> Tally {
-    if ok {
-        return Tally {
-            cases: std::num::wrapping_add_u64(tally.cases, 1),
-            differ: tally.differ,
-        };
-    }
-    io::write_all(STDOUT_FILENO, name);
-    io::write_all(STDOUT_FILENO, b" differs\n");
-    Tally {
-        cases: std::num::wrapping_add_u64(tally.cases, 1),
-        differ: std::num::wrapping_add_u64(tally.differ, 1),
-    }
+    &text[..0]
 }
 
 fn stored(names: &[u8]) -> Tally {
@@ -292,16 +258,16 @@ fn stored(names: &[u8]) -> Tally {
     };
     let mut at = 0usize;
     while at < names.len() {
-        let end = bytes::scan::find(names, at, names.len(), b'\n');
-        if end == names.len() {
-            return noted(tally, b"the list of cases", false);
+        let input = line(names, at);
+        let next = at + input.len() + 1;
+        let output = line(names, next);
+        if !agrees(input, output) {
+            io::write_all(STDOUT_FILENO, input);
+            io::write_all(STDOUT_FILENO, b" differs\n");
+            tally.differ = std::num::wrapping_add_u64(tally.differ, 1);
         }
-        let next = end + 1;
-        let last = bytes::scan::find(names, next, names.len(), b'\n');
-        let input = &names[at..end];
-        let ok = agrees(input, &names[next..last]);
-        tally = noted(tally, input, ok);
-        at = last + 1;
+        tally.cases = std::num::wrapping_add_u64(tally.cases, 1);
+        at = next + output.len() + 1;
     }
     tally
 }

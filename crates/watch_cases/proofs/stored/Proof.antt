@@ -3,60 +3,55 @@ use lib.ListN.{length}
 use borrow.Author.Needs.{needs}
 use Rattle.watch_cases.proofs.stored.Statement.{statement}
 use Rattle.watch_cases.proofs.stored.Tie as tie
+use Rattle.io.proofs.write_all.Reads as write-all-reads
+use Rattle.std.proofs.num.wrapping_add_u64.Reads as wrapping-add-u64-reads
+use Rattle.watch_cases.proofs.agrees.Reads as agrees-reads
+use Rattle.watch_cases.proofs.line.Reads as line-reads
 
 abbrev Inv-loop : tie.InvT-loop
-Inv-loop names tally₀ at₀ t9 tally at = Unit {0}
+Inv-loop names tally₀ at₀ t7 tally at = Unit {0}
 
 abbrev μ-loop : tie.MeasureT-loop
-μ-loop names tally₀ at₀ t9 tally at = length names - at
+μ-loop names tally₀ at₀ t7 tally at = length names - at
 
 loop-holds : tie.Need-loop-holds Inv-loop μ-loop
 loop-holds c = search needs
 
-find-requires : tie.Need-find-requires Inv-loop μ-loop
-find-requires c κs = search needs
-
-slice-aggregate-noted : tie.Need-slice-aggregate-noted Inv-loop μ-loop
-slice-aggregate-noted c = search needs
-
-noted-requires : tie.Need-noted-requires Inv-loop μ-loop
-noted-requires c κs = search needs
-
-returns : tie.Need-returns Inv-loop μ-loop
-returns c = search needs
+line-requires : tie.Need-line-requires Inv-loop μ-loop
+line-requires c κs = search needs
 
 add-next : tie.Need-add-next Inv-loop μ-loop
 add-next c = search needs
 
-find-requires-2 : tie.Need-find-requires-2 Inv-loop μ-loop
-find-requires-2 c κs = search needs
+add-next-2 : tie.Need-add-next-2 Inv-loop μ-loop
+add-next-2 c = search needs
 
-sub-input : tie.Need-sub-input Inv-loop μ-loop
-sub-input c = search needs
-
-part-input-start : tie.Need-part-input-start Inv-loop μ-loop
-part-input-start c = search needs
-
-part-input-end : tie.Need-part-input-end Inv-loop μ-loop
-part-input-end c = search needs
-
-sub-agrees : tie.Need-sub-agrees Inv-loop μ-loop
-sub-agrees c = search needs
-
-part-agrees-start : tie.Need-part-agrees-start Inv-loop μ-loop
-part-agrees-start c = search needs
-
-part-agrees-end : tie.Need-part-agrees-end Inv-loop μ-loop
-part-agrees-end c = search needs
+line-requires-2 : tie.Need-line-requires-2 Inv-loop μ-loop
+line-requires-2 c κs = search needs
 
 agrees-requires : tie.Need-agrees-requires Inv-loop μ-loop
 agrees-requires c κs = search needs
 
-noted-requires-2 : tie.Need-noted-requires-2 Inv-loop μ-loop
-noted-requires-2 c κs = search needs
+write-all-requires : tie.Need-write-all-requires Inv-loop μ-loop
+write-all-requires c κs = search needs
+
+slice-aggregate-write-all : tie.Need-slice-aggregate-write-all Inv-loop μ-loop
+slice-aggregate-write-all c = search needs
+
+write-all-requires-2 : tie.Need-write-all-requires-2 Inv-loop μ-loop
+write-all-requires-2 c κs = search needs
+
+wrapping-add-u64-requires : tie.Need-wrapping-add-u64-requires Inv-loop μ-loop
+wrapping-add-u64-requires c κs = search needs
+
+wrapping-add-u64-requires-2 : tie.Need-wrapping-add-u64-requires-2 Inv-loop μ-loop
+wrapping-add-u64-requires-2 c κs = search needs
 
 add-at : tie.Need-add-at Inv-loop μ-loop
 add-at c = search needs
+
+add-at-2 : tie.Need-add-at-2 Inv-loop μ-loop
+add-at-2 c = search needs
 
 loop-less : tie.Need-loop-less Inv-loop μ-loop
 loop-less c = search needs
@@ -64,8 +59,8 @@ loop-less c = search needs
 loop-again : tie.Need-loop-again Inv-loop μ-loop
 loop-again c = search needs
 
-returns-2 : tie.Need-returns-2 Inv-loop μ-loop
-returns-2 c = search needs
+returns : tie.Need-returns Inv-loop μ-loop
+returns c = search needs
 
 pub stored-spec : {M : Type 1} → statement M
 stored-spec =
@@ -74,21 +69,18 @@ stored-spec =
     Inv-loop
     μ-loop
     loop-holds
-    find-requires
-    slice-aggregate-noted
-    noted-requires
-    returns
+    line-requires
     add-next
-    find-requires-2
-    sub-input
-    part-input-start
-    part-input-end
-    sub-agrees
-    part-agrees-start
-    part-agrees-end
+    add-next-2
+    line-requires-2
     agrees-requires
-    noted-requires-2
+    write-all-requires
+    slice-aggregate-write-all
+    write-all-requires-2
+    wrapping-add-u64-requires
+    wrapping-add-u64-requires-2
     add-at
+    add-at-2
     loop-less
     loop-again
-    returns-2)
+    returns)
