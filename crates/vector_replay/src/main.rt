@@ -14,19 +14,17 @@ fn wide(b: u8) -> u64
     b as u64
 }
 
-fn four(a: u8, b: u8, c: u8, d: u8) -> u64
-    ensures { λ r. ⌜ r < 0x1_0000_0000 ⌝ }
-{
-    wide(a) + 0x100 * wide(b) + 0x1_0000 * wide(c) + 0x100_0000 * wide(d)
-}
-
+// A word takes its bytes one after the other, and is right with the last.
 fn word(b: &[u8; 320], k: usize) -> u64
     requires { ⌜ k ≤ 39 ⌝ }
 {
-    let at = 8 * k;
-    let low = four(b[at], b[at + 1], b[at + 2], b[at + 3]);
-    let high = four(b[at + 4], b[at + 5], b[at + 6], b[at + 7]);
-    low + 0x1_0000_0000 * high
+    let mut out = 0u64;
+    let mut i = 0usize;
+    while i < 8 {
+        out = (out >> 8) | (wide(b[8 * k + i]) << 56);
+        i += 1;
+    }
+    out
 }
 
 fn float(b: &[u8; 320], k: usize) -> f64
@@ -101,6 +99,40 @@ fn said_answer(x: Answer) -> Said {
     }
 }
 
+// The calls that change nothing.
+fn asked(operation: u64, high: &[f64], low: &[f64], n: usize, gap: usize) -> Said {
+    match operation {
+        0 => said_number(divector::total(high, low)),
+        1 => said_number(divector::high_low_sum(high, low, n)),
+        5 => said_block(divector::max_gap_contribution(high, low, n, gap)),
+        _ => said_block(divector::max_contribution(high, low, n)),
+    }
+}
+
+// The calls that change high and low alone.
+fn changed(operation: u64, high: &mut [f64], low: &mut [f64], n: usize, x: f64) -> Said {
+    match operation {
+        2 => said_answer(divector::scale(high, low, x)),
+        3 => said_answer(divector::divide(high, low, n)),
+        _ => said_answer(divector::normalize(high, low, x)),
+    }
+}
+
+// The calls that add high and low to the others.
+fn added(
+    operation: u64,
+    high: &[f64],
+    low: &[f64],
+    other_high: &mut [f64],
+    other_low: &mut [f64],
+    x: f64,
+) -> Said {
+    match operation {
+        8 => said_answer(divector::add_to(high, low, other_high, other_low)),
+        _ => said_answer(divector::add_to_scaled(high, low, other_high, other_low, x)),
+    }
+}
+
 fn call(
     operation: u64,
     high: &mut [f64],
@@ -112,16 +144,10 @@ fn call(
     x: f64,
 ) -> Said {
     match operation {
-        0 => said_number(divector::total(high, low)),
-        1 => said_number(divector::high_low_sum(high, low, n)),
-        2 => said_answer(divector::scale(high, low, x)),
-        3 => said_answer(divector::divide(high, low, n)),
-        4 => said_answer(divector::normalize(high, low, x)),
-        5 => said_block(divector::max_gap_contribution(high, low, n, gap)),
-        6 => said_block(divector::max_contribution(high, low, n)),
+        0 | 1 | 5 | 6 => asked(operation, high, low, n, gap),
+        2 | 3 | 4 => changed(operation, high, low, n, x),
         7 => said_answer(divector::assign(high, low, other_high, other_low)),
-        8 => said_answer(divector::add_to(high, low, other_high, other_low)),
-        _ => said_answer(divector::add_to_scaled(high, low, other_high, other_low, x)),
+        _ => added(operation, high, low, other_high, other_low, x),
     }
 }
 
@@ -129,11 +155,14 @@ fn mix(sum: u64, x: f64) -> u64 {
     std::num::wrapping_add_u64((sum << 7) | (sum >> 57), ieee::f64_to_bits(x))
 }
 
-fn mix_list(sum: u64, x: [f64; 8]) -> u64 {
-    let a = mix(mix(sum, x[0]), x[1]);
-    let b = mix(mix(a, x[2]), x[3]);
-    let c = mix(mix(b, x[4]), x[5]);
-    mix(mix(c, x[6]), x[7])
+fn mix_list(before: u64, x: [f64; 8]) -> u64 {
+    let mut sum = before;
+    let mut i = 0usize;
+    while i < 8 {
+        sum = mix(sum, x[i]);
+        i += 1;
+    }
+    sum
 }
 
 fn write_line(operation: u64, said: Said, sum: u64) {
