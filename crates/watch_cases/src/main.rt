@@ -38,6 +38,18 @@ struct Tally {
     differ: u64,
 }
 
+// 65,536 rows of an export, 512 a part.
+fn rows(block: [u8; 36]) -> Lead {
+    Lead {
+        is_export: true,
+        is_seen: false,
+        head: 18,
+        block,
+        length: 3072,
+        parts: 128,
+    }
+}
+
 // By the letter behind the dot of the input's name; `.in` and `.csv` have nothing before them.
 fn lead_of(kind: u8) -> Lead {
     match kind {
@@ -49,22 +61,8 @@ fn lead_of(kind: u8) -> Lead {
             length: 2304,
             parts: 256,
         },
-        b'r' => Lead {
-            is_export: true,
-            is_seen: false,
-            head: 18,
-            block: *b"1,1,1\n1,1,1\n1,1,1\n1,1,1\n1,1,1\n1,1,1\n",
-            length: 3072,
-            parts: 128,
-        },
-        b'z' => Lead {
-            is_export: true,
-            is_seen: false,
-            head: 18,
-            block: *b"1,1,0\n1,1,0\n1,1,0\n1,1,0\n1,1,0\n1,1,0\n",
-            length: 3072,
-            parts: 128,
-        },
+        b'r' => rows(*b"1,1,1\n1,1,1\n1,1,1\n1,1,1\n1,1,1\n1,1,1\n"),
+        b'z' => rows(*b"1,1,0\n1,1,0\n1,1,0\n1,1,0\n1,1,0\n1,1,0\n"),
         b'm' => Lead {
             is_export: true,
             is_seen: true,
@@ -85,11 +83,12 @@ fn lead_of(kind: u8) -> Lead {
 }
 
 // The place behind the header that every output begins with, or one past the end where it does not.
-fn behind_header(expected: [u8; PART]) -> usize {
+fn behind_header(expected: File) -> usize {
+    let bytes = expected.bytes;
     let header = score_rows::header();
     let mut i = 0usize;
     while i < 21 {
-        if expected[i] != header[i] {
+        if bytes[i] != header[i] {
             return PART + 1;
         }
         i += 1;
@@ -98,7 +97,8 @@ fn behind_header(expected: [u8; PART]) -> usize {
 }
 
 // The first n bytes printed, held against what is expected from a place on: the place behind them, or one past the end where they differ.
-fn held(expected: [u8; PART], at: usize, printed: &[u8; ROOM], n: usize) -> usize {
+fn held(expected: File, at: usize, printed: &[u8; ROOM], n: usize) -> usize {
+    let bytes = expected.bytes;
     if PART < at {
         return PART + 1;
     }
@@ -107,7 +107,7 @@ fn held(expected: [u8; PART], at: usize, printed: &[u8; ROOM], n: usize) -> usiz
     }
     let mut i = 0usize;
     while i < n {
-        if expected[at + i] != printed[i] {
+        if bytes[at + i] != printed[i] {
             return PART + 1;
         }
         i += 1;
@@ -116,25 +116,37 @@ fn held(expected: [u8; PART], at: usize, printed: &[u8; ROOM], n: usize) -> usiz
 }
 
 // The bytes from that place on, moved to the front.
-fn behind(input: [u8; PART], cut: usize) -> [u8; PART] {
+fn behind(input: File, cut: usize) -> File
+    requires { ⌜ cut ≤ input .n ⌝ }
+{
+    let bytes = input.bytes;
     let mut out = [0u8; PART];
     let mut i = cut;
     while i < PART {
-        out[i - cut] = input[i];
+        out[i - cut] = bytes[i];
         i += 1;
     }
-    out
+    File {
+        bytes: out,
+        n: input.n - cut,
+    }
 }
 
-// A part of the input that has those bytes over and over.
-fn filled(block: [u8; 36]) -> [u8; PART] {
-    let mut out = [0u8; PART];
+// The bytes before that place.
+fn before(input: File, cut: usize) -> File {
+    let bytes = input.bytes;
+    File { bytes, n: cut }
+}
+
+// A block over and over, of which n bytes count.
+fn filled(block: [u8; 36], n: usize) -> File {
+    let mut bytes = [0u8; PART];
     let mut i = 0usize;
     while i < PART {
-        out[i] = block[i % 36];
+        bytes[i] = block[i % 36];
         i += 1;
     }
-    out
+    File { bytes, n }
 }
 
 fn begun(is_export: bool, at: usize) -> Going {
@@ -146,45 +158,43 @@ fn begun(is_export: bool, at: usize) -> Going {
     }
 }
 
-// Feeds the first n bytes of a part of the input.
-fn fed(before: Going, input: [u8; PART], n: usize, expected: [u8; PART]) -> Going {
+fn fed(before: Going, input: File, expected: File) -> Going {
     let mut after = before;
+    let bytes = input.bytes;
     let mut out = [0u8; ROOM];
     if before.is_export {
-        let fed = export_bytes::feed(before.export, &input, n, &mut out);
+        let fed = export_bytes::feed(before.export, &bytes, input.n, &mut out);
         let run = fed.run;
         after.export = run;
         after.at = held(expected, before.at, &out, fed.written);
         return after;
     }
-    let fed = score_lines::feed(before.scores, &input, n, &mut out);
+    let fed = score_lines::feed(before.scores, &bytes, input.n, &mut out);
     let run = fed.run;
     after.scores = run;
     after.at = held(expected, before.at, &out, fed.written);
     after
 }
 
-// The place behind what the run has printed once its input has ended.
-fn ended(before: Going, expected: [u8; PART]) -> usize {
+// Whether the run ends with the rest of what is expected.
+fn ends(before: Going, expected: File) -> bool {
     let mut out = [0u8; ROOM];
     if before.is_export {
         let fed = export_bytes::finish(before.export, &mut out);
-        return held(expected, before.at, &out, fed.written);
+        return held(expected, before.at, &out, fed.written) == expected.n;
     }
     let fed = score_lines::finish(before.scores, &mut out);
-    held(expected, before.at, &out, fed.written)
+    held(expected, before.at, &out, fed.written) == expected.n
 }
 
 // Whether the input prints what is expected, wherever it is cut.
 fn prints(start: Going, input: File, expected: File) -> bool {
-    let given = input.bytes;
-    let wanted = expected.bytes;
     let mut cut = input.n;
     let mut ok = true;
     while ok {
-        let first = fed(start, given, cut, wanted);
-        let second = fed(first, behind(given, cut), input.n - cut, wanted);
-        ok = ended(second, wanted) == expected.n;
+        let first = fed(start, before(input, cut), expected);
+        let second = fed(first, behind(input, cut), expected);
+        ok = ends(second, expected);
         if cut == 0 {
             return ok;
         }
@@ -194,15 +204,15 @@ fn prints(start: Going, input: File, expected: File) -> bool {
 }
 
 // A run that has been fed what stands before a case's input.
-fn led(lead: Lead, expected: [u8; PART]) -> Going {
+fn led(lead: Lead, expected: File) -> Going {
     let start = begun(lead.is_export, behind_header(expected));
-    let head = filled(*b"drawer,seen,score\n1,1,1\n1,1,1\n1,1,1\n");
-    let mut going = fed(start, head, lead.head, expected);
+    let head = filled(*b"drawer,seen,score\n1,1,1\n1,1,1\n1,1,1\n", lead.head);
+    let mut going = fed(start, head, expected);
     let block = lead.block;
-    let part = filled(block);
+    let part = filled(block, lead.length);
     let mut left = lead.parts;
     while left != 0 {
-        going = fed(going, part, lead.length, expected);
+        going = fed(going, part, expected);
         left -= 1;
     }
     if !lead.is_seen {
@@ -235,8 +245,7 @@ fn read_file(name: &[u8]) -> File {
 fn agrees(input: &[u8], output: &[u8]) -> bool {
     let given = read_file(input);
     let expected = read_file(output);
-    let wanted = expected.bytes;
-    let start = led(lead_of(kind_of(input)), wanted);
+    let start = led(lead_of(kind_of(input)), expected);
     (given.n < PART) & prints(start, given, expected)
 }
 

@@ -4,10 +4,10 @@ use Rattle.watch_cases.proofs.behind.Statement.{statement}
 use Rattle.watch_cases.proofs.behind.Tie as tie
 
 abbrev Inv-loop : tie.InvT-loop
-Inv-loop cut input out₀ i₀ out i = cut ≤ i
+Inv-loop input cut bytes out₀ i₀ out i = cut ≤ i
 
 abbrev μ-loop : tie.MeasureT-loop
-μ-loop cut input out₀ i₀ out i = 8192 - i
+μ-loop input cut bytes out₀ i₀ out i = 8192 - i
 
 loop-holds : tie.Need-loop-holds Inv-loop μ-loop
 loop-holds c = search needs
@@ -30,6 +30,9 @@ loop-less c = search needs
 loop-again : tie.Need-loop-again Inv-loop μ-loop
 loop-again c = search needs
 
+sub-t14 : tie.Need-sub-t14 Inv-loop μ-loop
+sub-t14 c = search needs
+
 returns : tie.Need-returns Inv-loop μ-loop
 returns c = search needs
 
@@ -46,4 +49,5 @@ behind-spec =
     add-i
     loop-less
     loop-again
+    sub-t14
     returns)

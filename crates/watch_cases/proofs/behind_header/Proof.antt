@@ -5,10 +5,10 @@ use Rattle.watch_cases.proofs.behind_header.Tie as tie
 use Rattle.score_rows.proofs.header.Reads as header-reads
 
 abbrev Inv-loop : tie.InvT-loop
-Inv-loop expected header i₀ i = Unit {0}
+Inv-loop bytes header i₀ i = Unit {0}
 
 abbrev μ-loop : tie.MeasureT-loop
-μ-loop expected header i₀ i = 21 - i
+μ-loop bytes header i₀ i = 21 - i
 
 header-requires : tie.Need-header-requires Inv-loop μ-loop
 header-requires c κs = search needs

@@ -4,19 +4,19 @@ use Rattle.watch_cases.proofs.filled.Statement.{statement}
 use Rattle.watch_cases.proofs.filled.Tie as tie
 
 abbrev Inv-loop : tie.InvT-loop
-Inv-loop block out₀ i₀ out i = Unit {0}
+Inv-loop n block bytes₀ i₀ bytes i = Unit {0}
 
 abbrev μ-loop : tie.MeasureT-loop
-μ-loop block out₀ i₀ out i = 8192 - i
+μ-loop n block bytes₀ i₀ bytes i = 8192 - i
 
 loop-holds : tie.Need-loop-holds Inv-loop μ-loop
 loop-holds c = search needs
 
-array-read-out : tie.Need-array-read-out Inv-loop μ-loop
-array-read-out c = search needs
+array-read-bytes : tie.Need-array-read-bytes Inv-loop μ-loop
+array-read-bytes c = search needs
 
-array-write-out : tie.Need-array-write-out Inv-loop μ-loop
-array-write-out c = search needs
+array-write-bytes : tie.Need-array-write-bytes Inv-loop μ-loop
+array-write-bytes c = search needs
 
 add-i : tie.Need-add-i Inv-loop μ-loop
 add-i c = search needs
@@ -37,8 +37,8 @@ filled-spec =
     Inv-loop
     μ-loop
     loop-holds
-    array-read-out
-    array-write-out
+    array-read-bytes
+    array-write-bytes
     add-i
     loop-less
     loop-again

@@ -4,10 +4,10 @@ use Rattle.watch_cases.proofs.held.Statement.{statement}
 use Rattle.watch_cases.proofs.held.Tie as tie
 
 abbrev Inv-loop : tie.InvT-loop
-Inv-loop at printed n expected i₀ i = Unit {0}
+Inv-loop at printed n bytes i₀ i = Unit {0}
 
 abbrev μ-loop : tie.MeasureT-loop
-μ-loop at printed n expected i₀ i = n - i
+μ-loop at printed n bytes i₀ i = n - i
 
 add-result : tie.Need-add-result Inv-loop μ-loop
 add-result c = search needs

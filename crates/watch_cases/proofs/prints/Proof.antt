@@ -2,18 +2,22 @@ use Prim.Native.Nat.{_≤_}
 use borrow.Author.Needs.{needs}
 use Rattle.watch_cases.proofs.prints.Statement.{statement}
 use Rattle.watch_cases.proofs.prints.Tie as tie
+use Rattle.watch_cases.proofs.before.Reads as before-reads
 use Rattle.watch_cases.proofs.behind.Reads as behind-reads
-use Rattle.watch_cases.proofs.ended.Reads as ended-reads
+use Rattle.watch_cases.proofs.ends.Reads as ends-reads
 use Rattle.watch_cases.proofs.fed.Reads as fed-reads
 
 abbrev Inv-loop : tie.InvT-loop
-Inv-loop start input expected given wanted cut₀ ok₀ cut ok = cut ≤ input .n
+Inv-loop start input expected cut₀ ok₀ cut ok = cut ≤ input .n
 
 abbrev μ-loop : tie.MeasureT-loop
-μ-loop start input expected given wanted cut₀ ok₀ cut ok = cut
+μ-loop start input expected cut₀ ok₀ cut ok = cut
 
 loop-holds : tie.Need-loop-holds Inv-loop μ-loop
 loop-holds c = search needs
+
+before-requires : tie.Need-before-requires Inv-loop μ-loop
+before-requires c κs = search needs
 
 fed-requires : tie.Need-fed-requires Inv-loop μ-loop
 fed-requires c κs = search needs
@@ -21,14 +25,11 @@ fed-requires c κs = search needs
 behind-requires : tie.Need-behind-requires Inv-loop μ-loop
 behind-requires c κs = search needs
 
-sub-fed : tie.Need-sub-fed Inv-loop μ-loop
-sub-fed c = search needs
-
 fed-requires-2 : tie.Need-fed-requires-2 Inv-loop μ-loop
 fed-requires-2 c κs = search needs
 
-ended-requires : tie.Need-ended-requires Inv-loop μ-loop
-ended-requires c κs = search needs
+ends-requires : tie.Need-ends-requires Inv-loop μ-loop
+ends-requires c κs = search needs
 
 returns : tie.Need-returns Inv-loop μ-loop
 returns c = search needs
@@ -52,11 +53,11 @@ prints-spec =
     Inv-loop
     μ-loop
     loop-holds
+    before-requires
     fed-requires
     behind-requires
-    sub-fed
     fed-requires-2
-    ended-requires
+    ends-requires
     returns
     sub-cut
     loop-less
