@@ -7,7 +7,6 @@ use Rattle.export_bytes.proofs.Parts.{prints}
 use borrow.Author.Needs.{needs}
 use Rattle.export_bytes.proofs.feed.Statement.{statement}
 use Rattle.export_bytes.proofs.feed.Tie as tie
-use Rattle.export_bytes.proofs.feed.Reads as reads
 
 slice-aggregate-read : tie.Need-slice-aggregate-read
 slice-aggregate-read c =

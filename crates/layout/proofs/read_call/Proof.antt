@@ -1,6 +1,6 @@
 use lib.ListN.{length}
 use denote.Ref.{now}
-use mathlib.Core.Path.{_≡_, sym, ap, _∙_}
+use mathlib.Core.Path.{sym, ap, _∙_}
 use Rattle.types.specs.Refusals.{ofMisfit}
 use Rattle.layout.specs.Call.{readCall, slicesOk}
 use Rattle.layout.specs.declared.CallRead.the-variants.{Refused}

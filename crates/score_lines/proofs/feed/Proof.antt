@@ -7,7 +7,6 @@ use Rattle.score_lines.proofs.Parts.{prints}
 use borrow.Author.Needs.{needs}
 use Rattle.score_lines.proofs.feed.Statement.{statement}
 use Rattle.score_lines.proofs.feed.Tie as tie
-use Rattle.score_lines.proofs.feed.Reads as reads
 
 slice-aggregate-read : tie.Need-slice-aggregate-read
 slice-aggregate-read c =

@@ -2,7 +2,6 @@ use Prim.Native.Nat.{_-_}
 use borrow.Author.Needs.{needs}
 use Rattle.vector_replay.proofs.mix_list.Statement.{statement}
 use Rattle.vector_replay.proofs.mix_list.Tie as tie
-use Rattle.vector_replay.proofs.mix.Reads as mix-reads
 
 abbrev Inv-loop : tie.InvT-loop
 Inv-loop before x sum₀ i₀ sum i = Unit {0}

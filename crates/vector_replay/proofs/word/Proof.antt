@@ -2,7 +2,6 @@ use Prim.Native.Nat.{_-_}
 use borrow.Author.Needs.{needs}
 use Rattle.vector_replay.proofs.word.Statement.{statement}
 use Rattle.vector_replay.proofs.word.Tie as tie
-use Rattle.vector_replay.proofs.wide.Reads as wide-reads
 
 abbrev Inv-loop : tie.InvT-loop
 Inv-loop b k out₀ i₀ out i = Unit {0}

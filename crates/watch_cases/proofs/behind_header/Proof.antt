@@ -2,7 +2,6 @@ use Prim.Native.Nat.{_-_}
 use borrow.Author.Needs.{needs}
 use Rattle.watch_cases.proofs.behind_header.Statement.{statement}
 use Rattle.watch_cases.proofs.behind_header.Tie as tie
-use Rattle.score_rows.proofs.header.Reads as header-reads
 
 abbrev Inv-loop : tie.InvT-loop
 Inv-loop bytes header i₀ i = Unit {0}

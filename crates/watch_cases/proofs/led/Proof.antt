@@ -2,10 +2,6 @@ use Prim.Native.Nat.{}
 use borrow.Author.Needs.{needs}
 use Rattle.watch_cases.proofs.led.Statement.{statement}
 use Rattle.watch_cases.proofs.led.Tie as tie
-use Rattle.watch_cases.proofs.begun.Reads as begun-reads
-use Rattle.watch_cases.proofs.behind_header.Reads as behind-header-reads
-use Rattle.watch_cases.proofs.fed.Reads as fed-reads
-use Rattle.watch_cases.proofs.filled.Reads as filled-reads
 
 abbrev Inv-loop : tie.InvT-loop
 Inv-loop lead expected going₀ part left₀ going left = Unit {0}

@@ -2,10 +2,6 @@ use Prim.Native.Nat.{_≤_}
 use borrow.Author.Needs.{needs}
 use Rattle.watch_cases.proofs.prints.Statement.{statement}
 use Rattle.watch_cases.proofs.prints.Tie as tie
-use Rattle.watch_cases.proofs.before.Reads as before-reads
-use Rattle.watch_cases.proofs.behind.Reads as behind-reads
-use Rattle.watch_cases.proofs.ends.Reads as ends-reads
-use Rattle.watch_cases.proofs.fed.Reads as fed-reads
 
 abbrev Inv-loop : tie.InvT-loop
 Inv-loop start input expected cut₀ ok₀ cut ok = cut ≤ input .n

@@ -3,10 +3,6 @@ use lib.ListN.{length}
 use borrow.Author.Needs.{needs}
 use Rattle.watch_cases.proofs.stored.Statement.{statement}
 use Rattle.watch_cases.proofs.stored.Tie as tie
-use Rattle.io.proofs.write_all.Reads as write-all-reads
-use Rattle.std.proofs.num.wrapping_add_u64.Reads as wrapping-add-u64-reads
-use Rattle.watch_cases.proofs.agrees.Reads as agrees-reads
-use Rattle.watch_cases.proofs.line.Reads as line-reads
 
 abbrev Inv-loop : tie.InvT-loop
 Inv-loop names tally₀ at₀ t7 tally at = Unit {0}
