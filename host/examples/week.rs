@@ -1,5 +1,5 @@
 //! Judges the recorded month and prints one week of it as a ward wants to see it: the readings that
-//! are raised, corrected or could not be judged, and each drawer's counts.
+//! are raised, corrected or could not be judged, and each drawer's figures and counts.
 
 mod ward;
 
@@ -15,8 +15,8 @@ Judges the recorded month of five drawers and prints what was said in one week o
     week [DAY]    the week that begins on this day of the month, 1 to 24; 12 if none is given
 
 For each reading that was raised (recount the drawer), corrected (something explains it) or not
-judged: its score beside the threshold that it was held to. At the end each drawer's counts, and the
-range of its scores and thresholds.
+judged: its score beside the threshold that it was held to. At the end what each drawer shows after the
+week (mean and deviation of its scores so far), its counts, and the range of its scores and thresholds.
 ";
 
 /// How often each answer came up in the week, and how far scores and thresholds went.
@@ -122,10 +122,13 @@ fn report(month: &str, first: u32) -> Result<String, String> {
     let mut drawers = ward().map_err(|why| why.to_string())?;
     let mut counts: Vec<Counts> = drawers.iter().map(|_| Counts::default()).collect();
     for line in lines(month)? {
+        if line.day >= first + 7 {
+            break;
+        }
         let known = drawers.iter().position(|d| d.about.name == line.drawer);
         let k = known.ok_or_else(|| format!("no drawer {}", line.drawer))?;
         let judged = drawers[k].judge(line.amount);
-        if !(first..first + 7).contains(&line.day) {
+        if line.day < first {
             continue;
         }
         counts[k].add(&judged);
@@ -136,9 +139,9 @@ fn report(month: &str, first: u32) -> Result<String, String> {
         }
     }
     out.push('\n');
-    for (drawer, counts) in drawers.iter().zip(&counts) {
-        let (name, drug) = (drawer.about.name, drawer.about.drug);
-        writeln!(out, "drawer {name}  {drug:<9}  {}", counts.show()).expect("a string");
+    for (Watched { about, drawer, .. }, counts) in drawers.iter().zip(&counts) {
+        let (name, drug, shown) = (about.name, about.drug, counts.show());
+        writeln!(out, "drawer {name}  {drug:<9}  {drawer:.2}; {shown}").expect("a string");
     }
     Ok(out)
 }
@@ -180,6 +183,15 @@ mod tests {
     #[test]
     fn prints_the_stored_week() {
         assert_eq!(report(MONTH, 12).unwrap(), include_str!("week.stdout"));
+    }
+
+    #[test]
+    fn a_drawer_without_scores_says_so() {
+        let said = report("1 06:00 A 2\n1 06:10 B spoiled\n", 1).unwrap();
+        let shown: Vec<&str> = said.lines().skip(2).map(|line| &line[21..50]).collect();
+        assert_eq!(shown[0], "no scores yet; 1 readings: 0 ");
+        assert_eq!(shown[1], "no scores yet; 1 readings: 0 ");
+        assert_eq!(shown[2], "no scores yet; 0 readings: 0 ");
     }
 
     #[test]

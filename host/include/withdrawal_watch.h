@@ -98,9 +98,14 @@
  * for them; krcf_expected_point writes the expected point, its position being the row's start.
  *
  * Single numbers that a call writes: krcf_threshold and krcf_primary_grade an f32 (4 bytes);
- * krcf_*threshold_and_grade* two f32, threshold and grade (8); krcf_deviation_mean,
- * krcf_deviation_deviation, krcf_total and krcf_high_low_sum an f64 (8); krcf_max_gap_contribution,
- * krcf_max_contribution and krcf_newest_row a u64 (8); krcf_*_is_* a flag (1).
+ * krcf_*threshold_and_grade* two f32, threshold and grade (8); krcf_total and krcf_high_low_sum an
+ * f64 (8); krcf_max_gap_contribution, krcf_max_contribution and krcf_newest_row a u64 (8);
+ * krcf_*_is_* a flag (1).
+ *
+ * krcf_deviation_mean and krcf_deviation_deviation write a flag and an f64 (9): 1 and the number; or 0
+ * for a statistic that is empty, its weight at or below 0, and then the eight bytes behind it are left
+ * as they were. What a dashboard shows of a drawer is the primary statistic, 36 bytes from byte 16 of a
+ * thresholder or a state on.
  */
 
 #ifndef WITHDRAWAL_WATCH_H
@@ -119,6 +124,7 @@ extern "C" {
 #define KRCF_READING_BYTES 23
 #define KRCF_LAST_BYTES 23
 #define KRCF_VERDICT_BYTES 14
+#define KRCF_MEASURED_BYTES 9
 
 /* The functions. Written by tools/declarations from the Rattle source, which its --check compares. */
 

@@ -5,6 +5,7 @@ use crate::reading::{LastDescriptor, Reading};
 pub const READING: usize = 23;
 pub const LAST: usize = 23;
 pub const VERDICT: usize = 14;
+pub const MEASURED: usize = 9;
 
 /// A size in four bytes. One that does not fit becomes the largest, which is refused like it.
 fn size(n: usize) -> [u8; 4] {
@@ -66,11 +67,16 @@ pub fn said(verdict: &[u8; VERDICT]) -> Said {
     }
 }
 
+/// A statistic's number; behind a no there is none.
+pub fn measured(out: &[u8; MEASURED]) -> Option<f64> {
+    (out[0] == 1).then(|| f64::from_le_bytes(take(out, 1)))
+}
+
 #[cfg(test)]
 mod tests {
     use super::*;
     use crate::reading::LastAnomaly;
-    use crate::state::{STATE_BYTES, THRESHOLDER_BYTES};
+    use crate::state::{STATE_BYTES, STATISTIC_BYTES, THRESHOLDER_BYTES};
     use crate::types::{ScoringStrategy, TransformMethod};
 
     #[test]
@@ -123,11 +129,13 @@ mod tests {
     fn lengths_in_the_header() {
         let header = include_str!("../include/withdrawal_watch.h");
         for (name, length) in [
+            ("STATISTIC", STATISTIC_BYTES),
             ("THRESHOLDER", THRESHOLDER_BYTES),
             ("STATE", STATE_BYTES),
             ("READING", READING),
             ("LAST", LAST),
             ("VERDICT", VERDICT),
+            ("MEASURED", MEASURED),
         ] {
             let line = format!("\n#define KRCF_{name}_BYTES {length}\n");
             assert!(header.contains(&line), "{line}");
@@ -138,6 +146,14 @@ mod tests {
     fn a_size_beyond_four_bytes_is_the_largest() {
         assert_eq!(size(usize::MAX), [0xff; 4]);
         assert_eq!(size(u32::MAX as usize), [0xff; 4]);
+    }
+
+    #[test]
+    fn a_number_behind_a_yes_only() {
+        let yes = [1, 0, 0, 0, 0, 0, 0, 0xf8, 0x3f];
+        assert_eq!(measured(&yes), Some(1.5));
+        assert_eq!(measured(&[1, 0, 0, 0, 0, 0, 0, 0, 0]), Some(0.0));
+        assert_eq!(measured(&[0, 0, 0, 0, 0, 0, 0, 0xf8, 0x3f]), None);
     }
 
     #[test]

@@ -1,12 +1,12 @@
 //! The calls over C, and the only unsafe code. A slice is passed as its start and its length, so
 //! it is enough that each is borrowed for the whole call: none that is written overlaps another.
 
-use crate::bytes;
+use crate::bytes::{self, MEASURED};
 use crate::declarations as c;
 use crate::forest::AskedOfForest;
 use crate::reading::{LastAnomaly, LentAttribution, Reading};
 use crate::refusal::Refusal;
-use crate::state::{STATE_BYTES, THRESHOLDER_BYTES};
+use crate::state::{STATE_BYTES, STATISTIC_BYTES, THRESHOLDER_BYTES};
 use crate::types::ScoringStrategy;
 
 /// What a judgment writes: the first three for a raised reading only.
@@ -53,6 +53,26 @@ setters! {
     set_lower_threshold = krcf_chain_set_lower_threshold;
     set_initial_threshold = krcf_chain_set_initial_threshold;
     set_horizon = krcf_chain_set_horizon;
+}
+
+/// A safe function over one of the numbers that a statistic has; none of an empty one. The lengths are
+/// right by their types, so it is never refused.
+macro_rules! measures {
+    ($($name:ident = $function:ident;)*) => {$(
+        pub fn $name(statistic: &[u8; STATISTIC_BYTES]) -> Option<f64> {
+            let (start, len) = (statistic.as_ptr(), statistic.len());
+            let mut out = [0; MEASURED];
+            // SAFETY: `statistic` is borrowed for reading, `out` alone, and each goes with its own length.
+            let number = unsafe { c::$function(start, len, out.as_mut_ptr(), out.len()) };
+            Refusal::answered(number).ok()?;
+            bytes::measured(&out)
+        }
+    )*};
+}
+
+measures! {
+    mean = krcf_deviation_mean;
+    deviation = krcf_deviation_deviation;
 }
 
 /// A call with a slice to change, slices to read and slices to write, in this order.

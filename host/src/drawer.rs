@@ -232,6 +232,16 @@ impl Drawer {
         Ok(judged.trial.verdict)
     }
 
+    /// As [`Watch::primary_mean`]: `None` while the drawer has no scores.
+    pub fn primary_mean(&self) -> Option<f64> {
+        self.watch.primary_mean()
+    }
+
+    /// As [`Watch::primary_deviation`]: `None` while the drawer has no scores.
+    pub fn primary_deviation(&self) -> Option<f64> {
+        self.watch.primary_deviation()
+    }
+
     /// What the next reading is told of those before.
     pub fn last_descriptor(&self) -> LastDescriptor<'_> {
         self.kept.descriptor()
@@ -254,6 +264,29 @@ impl Drawer {
 
     pub(crate) fn kept(&self) -> &Kept {
         &self.kept
+    }
+}
+
+/// What a dashboard shows of a drawer: mean and deviation of its scores, in the format asked for, or
+/// that it has none. A skipped or refused withdrawal has no score to count.
+///
+/// ```
+/// use withdrawal_watch::Drawer;
+///
+/// assert_eq!(Drawer::new(0.01, false, 1)?.to_string(), "no scores yet");
+/// # Ok::<(), withdrawal_watch::Refused>(())
+/// ```
+impl fmt::Display for Drawer {
+    fn fmt(&self, f: &mut fmt::Formatter) -> fmt::Result {
+        match (self.primary_mean(), self.primary_deviation()) {
+            (Some(mean), Some(deviation)) => {
+                f.write_str("mean ")?;
+                fmt::Display::fmt(&mean, f)?;
+                f.write_str(", deviation ")?;
+                fmt::Display::fmt(&deviation, f)
+            }
+            _ => f.write_str("no scores yet"),
+        }
     }
 }
 

@@ -15,15 +15,20 @@ pub const LARGEST_COUNT: i64 = 16_777_215;
 /// The largest `values_seen`.
 pub const LARGEST_SEEN: usize = 16_777_216;
 
-/// Where a statistic has its count, and how long it is.
+/// How many bytes a statistic has.
+pub const STATISTIC_BYTES: usize = 36;
+
+/// Where it has its count.
 const COUNT_WITHIN: usize = 32;
-const STATISTIC: usize = 36;
+
+/// Where the thresholder has the statistic of the scores.
+const PRIMARY: usize = 16;
 
 const AUTO_ADJUST: usize = THRESHOLDER_BYTES;
 const RUN_LENGTH: usize = AUTO_ADJUST + 1;
 const BASE_DIMENSION: usize = RUN_LENGTH + 4;
 const ACTUAL: usize = BASE_DIMENSION + 4;
-const EXPECTED: usize = ACTUAL + 16 * STATISTIC;
+const EXPECTED: usize = ACTUAL + 16 * STATISTIC_BYTES;
 
 fn auto_adjust(bytes: &[u8; STATE_BYTES]) -> bool {
     bytes[AUTO_ADJUST] == 1
@@ -31,6 +36,10 @@ fn auto_adjust(bytes: &[u8; STATE_BYTES]) -> bool {
 
 pub fn base_dimension(bytes: &[u8; STATE_BYTES]) -> usize {
     u32::from_le_bytes(take(bytes, BASE_DIMENSION)) as usize
+}
+
+pub fn primary_statistic(bytes: &[u8; STATE_BYTES]) -> [u8; STATISTIC_BYTES] {
+    take(bytes, PRIMARY)
 }
 
 /// The counts that exist, each with its name.
@@ -53,7 +62,7 @@ pub fn counts(bytes: &[u8; STATE_BYTES]) -> Vec<(String, i64)> {
     };
     for (start, kind) in [(ACTUAL, "actual"), (EXPECTED, "expected")] {
         let each = (0..existing).map(|k| {
-            let at = start + k * STATISTIC + COUNT_WITHIN;
+            let at = start + k * STATISTIC_BYTES + COUNT_WITHIN;
             (format!("count of {kind} values, number {k}"), signed(at))
         });
         all.extend(each);

@@ -235,6 +235,37 @@ impl Watch {
             .map_err(|refusal| culprit::of_reading(refusal, reading, &self.state))
     }
 
+    /// The mean of the scores counted, the discount weighing older ones less. `None` where there is
+    /// none: a drawer without scores is not a calm one. In a state that was made by hand it is `None`
+    /// exactly if the weight of the scores is at or below 0.
+    ///
+    /// ```
+    /// use withdrawal_watch::{LentAttribution, Reading, Watch};
+    ///
+    /// let mut watch = Watch::new(0.01, false, 1)?;
+    /// assert_eq!((watch.primary_mean(), watch.primary_deviation()), (None, None));
+    /// let reading = Reading {
+    ///     shingle_size: 1, base_dimension: 1, values_seen: 1, score: 1.25,
+    ///     rcf_point: &[2.0], median: &[2.0],
+    ///     scale: &[1.0], shift: &[0.0], difference_deviations: &[0.5],
+    ///     attribution: LentAttribution { high: &[0.0], low: &[0.0] },
+    ///     expected_attribution: LentAttribution { high: &[0.0], low: &[0.0] },
+    ///     ..Reading::default()
+    /// };
+    /// watch.judge(&reading)?;
+    /// assert_eq!((watch.primary_mean(), watch.primary_deviation()), (Some(1.25), Some(0.0)));
+    /// # Ok::<(), withdrawal_watch::Refused>(())
+    /// ```
+    pub fn primary_mean(&self) -> Option<f64> {
+        calls::mean(&state::primary_statistic(&self.state))
+    }
+
+    /// The deviation of the scores counted; `None` as of [`primary_mean`](Watch::primary_mean). Of one
+    /// score it is 0.
+    pub fn primary_deviation(&self) -> Option<f64> {
+        calls::deviation(&state::primary_statistic(&self.state))
+    }
+
     /// What judging a reading would leave. The watch stays as it is.
     pub(crate) fn trial(&mut self, reading: &Reading) -> Result<Trial, Refused> {
         let mut state = self.state;

@@ -67,6 +67,61 @@ fn field() -> Call {
     Call::Field(vec![3], POINT.to_vec(), 1.0, false, 0)
 }
 
+/// A drawer without scores is not a calm one. What is skipped or refused counts no score.
+#[test]
+fn an_empty_drawer_shows_no_scores_yet() {
+    let mut drawer = drawer(true);
+    let skipped = Scripted {
+        scores: vec![0.0],
+        ..Scripted::raised()
+    };
+    assert_eq!(drawer.judge(&withdrawal(5), &skipped), Ok(Verdict::Skipped));
+    assert!(drawer.judge(&withdrawal(0), &skipped).is_err());
+    assert_eq!((drawer.primary_mean(), drawer.primary_deviation()), (None, None));
+    assert_eq!(format!("{drawer:.2}"), "no scores yet");
+}
+
+/// Nor is a drawer with one score: its deviation is 0, and a number.
+#[test]
+fn a_drawer_shows_mean_and_deviation_of_its_scores() {
+    let mut drawer = drawer(false);
+    for (seen, answer) in [(5, 1.25), (6, 1.375)] {
+        let forest = Scripted {
+            scores: vec![answer],
+            ..Scripted::raised()
+        };
+        let verdict = drawer.judge(&withdrawal(seen), &forest);
+        assert_eq!(verdict, Ok(Verdict::Quiet { threshold: 1.5 }));
+        if seen == 5 {
+            assert_eq!(drawer.to_string(), "mean 1.25, deviation 0");
+        }
+    }
+    assert_eq!(format!("{drawer:.2}"), "mean 1.31, deviation 0.06");
+    let again = Drawer::of_bytes(&drawer.to_bytes()).unwrap();
+    assert_eq!(again.to_string(), drawer.to_string());
+}
+
+/// The weight alone decides: at or below 0 there is no number, and NaN is neither.
+#[test]
+fn a_state_made_by_hand_is_empty_by_its_weight() {
+    let of_weight = |weight: f64| {
+        let mut bytes = *Watch::new(0.0, false, 1).unwrap().state_bytes();
+        bytes[24..32].copy_from_slice(&weight.to_le_bytes());
+        bytes[40..48].copy_from_slice(&3.0f64.to_le_bytes());
+        Watch::of_state_bytes(&bytes).unwrap()
+    };
+    for weight in [0.0, -0.0, -1.0, f64::NEG_INFINITY] {
+        assert_eq!(of_weight(weight).primary_mean(), None);
+        assert_eq!(of_weight(weight).primary_deviation(), None);
+    }
+    assert_eq!(of_weight(2.0).primary_mean(), Some(1.5));
+    let smallest = of_weight(f64::from_bits(1));
+    assert_eq!(smallest.primary_mean(), Some(f64::INFINITY));
+    let nan = of_weight(f64::NAN);
+    assert!(nan.primary_mean().unwrap().is_nan());
+    assert_eq!(nan.primary_deviation(), Some(0.0));
+}
+
 #[test]
 fn a_skipped_or_quiet_reading_costs_one_score() {
     for answer in [0.0, -0.0, 1.25] {

@@ -23,6 +23,9 @@ const NUMBERS: u64 = 240;
 const STATISTICS: u64 = 180;
 const THRESHOLDERS: u64 = 90;
 
+/// What the program has behind the yes/no of a mean or a deviation before the call.
+const BEFORE: u64 = 0xa5a5_a5a5_a5a5_a5a5;
+
 /// The file that the program reads, from the repository's folder.
 const PATH: &str = "crates/replay/stdin";
 
@@ -121,14 +124,14 @@ fn statistic(sample: &mut Sample, random: &mut Random) {
     after.reset();
     sample.case(34, 0, &[], 0);
     sample.states(&before, &after.plain().bytes());
-    for (operation, result) in [
-        (35, bits64(d.mean())),
-        (36, bits64(d.deviation())),
-        (37, d.is_empty() as u64),
-    ] {
-        sample.case(operation, 0, &[], result);
+    for (operation, x) in [(35, d.mean()), (36, d.deviation())] {
+        // Of an empty statistic the Rust's 0 is left out: a no, and the bytes behind it as they were.
+        let result = if d.is_empty() { BEFORE } else { bits64(x) };
+        sample.case(operation, 0, &[!d.is_empty() as u64], result);
         sample.states(&before, &before);
     }
+    sample.case(37, 0, &[], d.is_empty() as u64);
+    sample.states(&before, &before);
 }
 
 /// A call's operation and its arguments.

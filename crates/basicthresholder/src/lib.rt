@@ -1,6 +1,7 @@
 // basicthresholder.rs: turns the statistics of past scores into a threshold, and a score into a grade. `&mut self` becomes the
 // state in and the state out; each statistic's root is computed at most once in a call.
 use deviation::Deviation;
+use deviation::Measured;
 use ieee::narrow;
 use types::Answer;
 use types::Refusal;
@@ -12,7 +13,7 @@ ghost use lib.Ieee.{binary32};
 ghost use lib.Ieee as Ieee;
 ghost use Rattle.ieee.specs.Round as Round;
 ghost use Rattle.deviation.specs.Const.{zero64};
-ghost use Rattle.deviation.specs.Statistics.{mean, deviation};
+ghost use Rattle.deviation.specs.Statistics.{mean, deviation, measuredMean, measuredDeviation};
 ghost use Rattle.grading.specs.Grading.{surpriseIndex};
 ghost use Rattle.basicthresholder.specs.Grades as Grades;
 ghost use Rattle.basicthresholder.specs.Updates as Updates;
@@ -128,7 +129,7 @@ fn counted_gap(third: Deviation, gap: f32) -> Deviation
 pub fn counted_over(third: Deviation, primary: Deviation, score: f32) -> Deviation
     ensures { λ r. ⌜ r ≡ Updates.countedOver third primary score ⌝ }
 {
-    counted_gap(third, score - narrow(primary.mean()))
+    counted_gap(third, score - narrow(primary.mean_or_zero()))
 }
 
 // An update's answer by the counts before it: refusal 6 hands the state back as it came.
@@ -206,8 +207,8 @@ impl BasicThresholder {
         requires { ⌜ first ≡ deviation (self .«primary_deviation») ⌝ }
         ensures { λ r. ⌜ r ≡ Grades.smallestDeviation self ⌝ }
     {
-        let t = ROOT_OF_TWO * self.threshold_deviation.deviation();
-        let second = self.secondary_deviation.deviation();
+        let t = ROOT_OF_TWO * self.threshold_deviation.deviation_or_zero();
+        let second = self.secondary_deviation.deviation_or_zero();
         grading::mixed(
             self.score_differencing,
             grading::smaller(second, grading::smaller(t, first)),
@@ -221,7 +222,10 @@ impl BasicThresholder {
         ensures { λ r. ⌜ r ≡ Grades.longTermDeviation self differenced «shingle_size» ⌝ }
     {
         if (shingle_size == 1) & !differenced {
-            return minf32(narrow(ROOT_OF_TWO * self.threshold_deviation.mean()), t);
+            return minf32(
+                narrow(ROOT_OF_TWO * self.threshold_deviation.mean_or_zero()),
+                t,
+            );
         }
         self.smallest_deviation(first)
     }
@@ -263,8 +267,8 @@ impl BasicThresholder {
     {
         let ready = self.is_deviation_ready();
         let fraction = grading::intermediate_fraction(self.count);
-        let t = narrow(self.primary_deviation.mean());
-        let first = self.primary_deviation.deviation();
+        let t = narrow(self.primary_deviation.mean_or_zero());
+        let first = self.primary_deviation.deviation_or_zero();
         let limit = self.factor_adjustment_threshold;
         let new_factor = grading::adjusted_factor(t, factor, limit, method.is_none());
         let long_term = self.long_term_deviation(t, first, method.is_differenced(), shingle_size);
@@ -293,9 +297,9 @@ impl BasicThresholder {
         ensures { λ r. ⌜ r ≡ Grades.threshold self ⌝ }
     {
         grading::threshold_by(
-            narrow(self.primary_deviation.mean()),
+            narrow(self.primary_deviation.mean_or_zero()),
             self.z_factor,
-            narrow(self.primary_deviation.deviation()),
+            narrow(self.primary_deviation.deviation_or_zero()),
         )
     }
 
@@ -309,8 +313,8 @@ impl BasicThresholder {
     pub fn primary_threshold_and_grade(self, score: f32) -> Graded
         ensures { λ r. ⌜ r ≡ Grades.primaryThresholdAndGrade self score ⌝ }
     {
-        let mean = narrow(self.primary_deviation.mean());
-        let deviation = narrow(self.primary_deviation.deviation());
+        let mean = narrow(self.primary_deviation.mean_or_zero());
+        let deviation = narrow(self.primary_deviation.deviation_or_zero());
         let threshold = grading::threshold_by(mean, self.z_factor, deviation);
         if self.is_deviation_ready() {
             return Graded {
@@ -466,14 +470,15 @@ impl BasicThresholder {
         self.last_score
     }
 
-    pub fn primary_mean(self) -> f64
-        ensures { λ r. ⌜ r ≡ mean (self .«primary_deviation») ⌝ }
+    // What a dashboard reads of a drawer, here and in `primary_deviation`.
+    pub fn primary_mean(self) -> Measured
+        ensures { λ r. ⌜ r ≡ measuredMean (self .«primary_deviation») ⌝ }
     {
         self.primary_deviation.mean()
     }
 
-    pub fn primary_deviation(self) -> f64
-        ensures { λ r. ⌜ r ≡ deviation (self .«primary_deviation») ⌝ }
+    pub fn primary_deviation(self) -> Measured
+        ensures { λ r. ⌜ r ≡ measuredDeviation (self .«primary_deviation») ⌝ }
     {
         self.primary_deviation.deviation()
     }

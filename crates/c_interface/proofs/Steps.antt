@@ -1,11 +1,15 @@
 -- The shapes that the calls share: a slice written or refused, a state changed in place or read. Assumes nothing.
 use mathlib.Core.Path.{_≡_, sym, ap, _∙_}
 use mathlib.Core.Bool.{true, false}
-use mathlib.Core.List.{List}
+use mathlib.Core.List.{List, [], _∷_, _++_, append-nil}
 use Prim.Native.Nat.{ℕ}
+use native.Mathlib.Omega.{arith}
 use lib.Dec.{eqb, leb}
-use lib.ListN.{length}
+use lib.ListN.{length, take, drop, set, length-take, drop-of-length-le}
+use lib.Ieee.{Float}
 use Rattle.deviation.specs.declared.Deviation.{Deviation}
+use Rattle.deviation.specs.declared.Measured.{Measured}
+use Rattle.deviation.specs.declared.Measured.the-variants.{Empty, Number}
 use Rattle.deviation.specs.declared.Updated as Statistic
 use Rattle.deviation.specs.declared.Made as MadeStatistic
 use Rattle.deviation.specs.declared.Made.the-variants as Statistics
@@ -22,20 +26,24 @@ use Rattle.types.specs.declared.TransformMethod.{TransformMethod}
 use Rattle.types.specs.declared.MethodCode.{MethodCode}
 use Rattle.types.specs.declared.MethodCode.the-variants as Code
 use Rattle.layout.specs.Places.{deviationLength, thresholderLength}
-use Rattle.layout.specs.Numbers.{writtenOf}
+use Rattle.layout.specs.Numbers.{writtenOf, f64Bytes}
 use Rattle.layout.specs.States.{encodeDeviation, encodeThresholder, encodeGraded}
 use Rattle.layout.specs.Left.{Left, left, putInto}
 use Rattle.layout.specs.declared.DeviationRead.{DeviationRead}
 use Rattle.layout.specs.declared.DeviationRead.the-variants as Stored
 use Rattle.layout.specs.declared.ThresholderRead.{ThresholderRead}
 use Rattle.layout.specs.declared.ThresholderRead.the-variants as Held
-use Rattle.c_interface.specs.Calls.{stored, deviationMade, deviationStored, deviationChanged, deviationRead, thresholderMade, thresholderStored, thresholderChanged, thresholderRead, gradedBy}
+use Rattle.c_interface.specs.Calls.{stored, deviationMade, deviationStored, deviationChanged, deviationRead, measuredOver, thresholderMade, thresholderStored, thresholderChanged, thresholderRead, gradedBy}
 
 -- ---- a slice that must have n bytes.
 module _ (n : ℕ) (xs ys : List ℕ) where
   pub put-done : (zs : List ℕ) → eqb (length xs) n ≡ true → zs ≡ writtenOf n xs ys → left 0 zs ≡ putInto n xs ys
   unfolding putInto writtenOf
   put-done zs h e = simp (e, h)
+
+  pub put-over : (zs : List ℕ) → eqb (length xs) n ≡ true → zs ≡ ys → left 0 zs ≡ putInto n xs ys
+  unfolding putInto
+  put-over zs h e = simp (e, h)
 
   pub put-refused : eqb (length xs) n ≡ false → left 3 xs ≡ putInto n xs ys
   unfolding putInto
@@ -49,6 +57,21 @@ module _ (n : ℕ) (xs ys : List ℕ) where
     pub stored-refused : (r : Refusal) (why : ℕ) → a ≡ Answers.Refused r → why ≡ number r → left why xs ≡ stored a n xs ys
     unfolding stored
     stored-refused r why h p = rw (h, p)
+
+-- ---- a yes/no byte, and the eight bytes behind it.
+module _ (m : Measured) where
+  pub set-no : (xs : List ℕ) → length xs ≡ 9 → m ≡ Empty → set xs 0 0 ≡ measuredOver m xs
+  unfolding measuredOver
+  set-no [] h e = absurd (omega (arith, h))
+  set-no (x ∷ xs) h e = rw e
+
+  pub set-yes : (x : Float) (xs ys : List ℕ) → length xs ≡ 9 → m ≡ Number x → ys ≡ writtenOf 8 (take 8 (drop 1 xs)) (f64Bytes x)
+      → set (take 1 xs ++ (ys ++ drop 8 (drop 1 xs))) 0 1 ≡ measuredOver m xs
+  unfolding measuredOver writtenOf
+  set-yes x [] ys h e w = absurd (omega (arith, h))
+  set-yes x (y ∷ xs) ys h e w =
+      let eight : length xs ≡ 8 = omega (arith, h) in
+      simp (e, w, drop-of-length-le xs {i = 8} (omega (arith, eight)), length-take 8 xs, eight, append-nil)
 
 -- ---- a stored statistic, as k was read.
 module _ (k b : DeviationRead) (e : k ≡ b) (xs : List ℕ) where

@@ -1,9 +1,10 @@
 -- What a call over C answers and leaves: document 01's refusal number, 0 where it is done, and the bytes of the slice that it may write. Of several refusals the
 -- smallest is answered, and a refused call writes nothing. What the bytes mean is the crate layout's.
 use Prim.Native.Nat.{ℕ}
-use mathlib.Core.Bool.{cond}
-use mathlib.Core.List.{List}
+use mathlib.Core.Bool.{true, false, cond}
+use mathlib.Core.List.{List, _∷_}
 use lib.Dec.{leb}
+use lib.ListN.{drop}
 use Rattle.types.specs.Refusals.{number}
 use Rattle.types.specs.declared.Refusal.the-variants.{Range}
 use Rattle.types.specs.declared.Answer.{Answer}
@@ -12,6 +13,8 @@ use Rattle.types.specs.declared.TransformMethod.{TransformMethod}
 use Rattle.types.specs.declared.MethodCode.{MethodCode}
 use Rattle.types.specs.declared.MethodCode.the-variants as Code
 use Rattle.deviation.specs.declared.Deviation.{Deviation}
+use Rattle.deviation.specs.declared.Measured.{Measured}
+use Rattle.deviation.specs.declared.Measured.the-variants.{Empty, Number}
 use Rattle.deviation.specs.declared.Updated as Statistic
 use Rattle.deviation.specs.declared.Made as MadeStatistic
 use Rattle.deviation.specs.declared.Made.the-variants as Statistics
@@ -21,6 +24,7 @@ use Rattle.basicthresholder.specs.declared.Updated.{Updated}
 use Rattle.basicthresholder.specs.declared.Made.{Made}
 use Rattle.basicthresholder.specs.declared.Made.the-variants.{Ready, Refused}
 use Rattle.layout.specs.Places.{deviationLength, thresholderLength}
+use Rattle.layout.specs.Numbers.{f64Bytes, flagByte}
 use Rattle.layout.specs.States.{encodeDeviation, encodeThresholder, encodeGraded}
 use Rattle.layout.specs.declared.DeviationRead.{DeviationRead}
 use Rattle.layout.specs.declared.DeviationRead.the-variants as Stored
@@ -56,6 +60,11 @@ deviationDone d = record { answer = Answers.Done; deviation = d }
 unfoldable pub deviationRead : (Deviation → List ℕ) → ℕ → DeviationRead → List ℕ → Left
 deviationRead f n (Stored.Read d) out = putInto n out (f d)
 deviationRead f n (Stored.Refused why) out = left (number why) out
+
+-- What a statistic says of its scores, over the slice `out` of 9 bytes: a yes and the number; or a no, and what stands behind it stays.
+unfoldable pub measuredOver : Measured → List ℕ → List ℕ
+measuredOver Empty out = flagByte false ∷ drop 1 out
+measuredOver (Number x) out = flagByte true ∷ f64Bytes x
 
 -- ---- a stored thresholder.
 

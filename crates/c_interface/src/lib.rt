@@ -3,6 +3,7 @@
 use basicthresholder::BasicThresholder;
 use basicthresholder::Graded;
 use deviation::Deviation;
+use deviation::Measured;
 use layout::DeviationRead;
 use layout::ThresholderRead;
 use types::Answer;
@@ -10,6 +11,7 @@ use types::MethodCode;
 use types::TransformMethod;
 ghost use mathlib.Core.Path.{_≡_};
 ghost use lib.Dec.{eqb};
+ghost use lib.ListN.{length};
 ghost use lib.IntN.{pos};
 ghost use lib.Ieee.{binary32, binary64, ofBits, toBits, ofInt};
 ghost use Rattle.ieee.specs.Round as Round;
@@ -19,10 +21,10 @@ ghost use Rattle.deviation.specs.Statistics as Statistics;
 ghost use Rattle.basicthresholder.specs.Grades as Grades;
 ghost use Rattle.basicthresholder.specs.Updates as Updates;
 ghost use Rattle.layout.specs.Places.{deviationLength, thresholderLength};
-ghost use Rattle.layout.specs.Numbers.{f32Bytes, f64Bytes, flagBytes};
+ghost use Rattle.layout.specs.Numbers.{f32Bytes, flagBytes};
 ghost use Rattle.layout.specs.States.{encodeDeviation, encodeThresholder, encodeGraded, readDeviation, readThresholder};
 ghost use Rattle.layout.specs.Left.{left, putInto};
-ghost use Rattle.c_interface.specs.Calls.{deviationMade, deviationStored, deviationChanged, deviationDone, deviationRead, thresholderMade, thresholderStored, thresholderChanged, thresholderDone, thresholderRead, gradedBy};
+ghost use Rattle.c_interface.specs.Calls.{deviationMade, deviationStored, deviationChanged, deviationDone, deviationRead, measuredOver, thresholderMade, thresholderStored, thresholderChanged, thresholderDone, thresholderRead, gradedBy};
 
 // Document 01's refusals of a yes/no byte or a code, and of a length.
 const RANGE: u8 = 2;
@@ -145,21 +147,37 @@ fn put_f32(out: &mut [u8], x: f32) -> u8
     LENGTH
 }
 
-fn put_f64(out: &mut [u8], x: f64) -> u8
-    ensures { λ r. ⌜ left r (now (out .exit)) ≡ putInto 8 (now (out .entry)) (f64Bytes x) ⌝ }
-{
-    if out.len() == 8 {
-        layout::write_f64(out, x);
-        return 0;
-    }
-    LENGTH
-}
-
 fn put_flag(out: &mut [u8], b: bool) -> u8
     ensures { λ r. ⌜ left r (now (out .exit)) ≡ putInto 1 (now (out .entry)) (flagBytes b) ⌝ }
 {
     if out.len() == 1 {
         layout::write_flag(out, b);
+        return 0;
+    }
+    LENGTH
+}
+
+// A yes and the number; or a no, and what stands behind it is left alone.
+fn write_measured(out: &mut [u8], m: Measured)
+    requires { ⌜ length (now out) ≡ 9 ⌝ }
+    ensures { λ _. ⌜ now (out .exit) ≡ measuredOver m (now (out .entry)) ⌝ }
+{
+    match m {
+        Measured::Empty => {
+            out[0] = 0;
+        }
+        Measured::Number(x) => {
+            layout::write_f64(&mut out[1..9], x);
+            out[0] = 1;
+        }
+    }
+}
+
+fn put_measured(out: &mut [u8], m: Measured) -> u8
+    ensures { λ r. ⌜ left r (now (out .exit)) ≡ putInto 9 (now (out .entry)) (measuredOver m (now (out .entry))) ⌝ }
+{
+    if out.len() == 9 {
+        write_measured(out, m);
         return 0;
     }
     LENGTH
@@ -256,20 +274,20 @@ pub extern "C" fn krcf_deviation_reset(state: &mut [u8]) -> u8
 
 #[no_mangle]
 pub extern "C" fn krcf_deviation_mean(state: &[u8], out: &mut [u8]) -> u8
-    ensures { λ r. ⌜ left r (now (out .exit)) ≡ deviationRead (λ d. f64Bytes (Statistics.mean d)) 8 (readDeviation (now (state .entry))) (now (out .entry)) ⌝ }
+    ensures { λ r. ⌜ left r (now (out .exit)) ≡ deviationRead (λ d. measuredOver (Statistics.measuredMean d) (now (out .entry))) 9 (readDeviation (now (state .entry))) (now (out .entry)) ⌝ }
 {
     match layout::read_deviation(state) {
-        DeviationRead::Read(d) => put_f64(out, d.mean()),
+        DeviationRead::Read(d) => put_measured(out, d.mean()),
         DeviationRead::Refused(why) => why.number(),
     }
 }
 
 #[no_mangle]
 pub extern "C" fn krcf_deviation_deviation(state: &[u8], out: &mut [u8]) -> u8
-    ensures { λ r. ⌜ left r (now (out .exit)) ≡ deviationRead (λ d. f64Bytes (Statistics.deviation d)) 8 (readDeviation (now (state .entry))) (now (out .entry)) ⌝ }
+    ensures { λ r. ⌜ left r (now (out .exit)) ≡ deviationRead (λ d. measuredOver (Statistics.measuredDeviation d) (now (out .entry))) 9 (readDeviation (now (state .entry))) (now (out .entry)) ⌝ }
 {
     match layout::read_deviation(state) {
-        DeviationRead::Read(d) => put_f64(out, d.deviation()),
+        DeviationRead::Read(d) => put_measured(out, d.deviation()),
         DeviationRead::Refused(why) => why.number(),
     }
 }

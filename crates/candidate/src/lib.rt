@@ -71,10 +71,10 @@ fn near_means(
 ) -> bool
     ensures { λ r. ⌜ r ≡ Candidate.nearMeans actual expected newest «newest_expected» noise ⌝ }
 {
-    let mean = actual.mean();
-    let spread = narrow(actual.deviation());
-    let expected_mean = expected.mean();
-    let expected_spread = narrow(expected.deviation());
+    let mean = actual.mean_or_zero();
+    let spread = narrow(actual.deviation_or_zero());
+    let expected_mean = expected.mean_or_zero();
+    let expected_spread = narrow(expected.deviation_or_zero());
     (absf32(narrow(mean) - newest) < maxf32(2.0 * spread, 1.0 * noise))
         & (absf32(narrow(expected_mean) - newest_expected)
             < 2.0 * maxf32(expected_spread, spread) + 0.1 * absf32(narrow(mean - expected_mean)))

@@ -1,8 +1,9 @@
-// The course's drawers (docs/COURSE.md) that the score watch cannot show: a discount, sums that were cleared without their count, a first score under
-// either strategy. Floats are printed as their bits.
+// The course's drawers (docs/COURSE.md) that the score watch cannot show: a discount, a drawer's mean and deviation, sums that were cleared without their count,
+// a first score under either strategy. Floats are printed as their bits.
 use basicthresholder::BasicThresholder;
 use basicthresholder::Graded;
 use deviation::Deviation;
+use deviation::Measured;
 use libc::STDOUT_FILENO;
 use types::TransformMethod;
 
@@ -13,6 +14,16 @@ fn say(text: &[u8]) {
 fn say_number(name: &[u8], x: f32) {
     say(name);
     io::print_hex(STDOUT_FILENO, ieee::f32_to_bits(x) as u64, 8);
+}
+
+fn say_measured(name: &[u8], m: Measured) {
+    match m {
+        Measured::Empty => {
+            say(name);
+            say(b"empty");
+        }
+        Measured::Number(x) => say_number(name, ieee::narrow(x)),
+    }
 }
 
 fn say_graded(graded: Graded) {
@@ -30,7 +41,14 @@ fn discounted(discount: f64) {
     say_number(b": sum ", ieee::narrow(two.sum()));
     say_number(b" squares ", ieee::narrow(two.sum_squared()));
     say_number(b" weight ", ieee::narrow(two.weight()));
-    say_number(b" mean ", ieee::narrow(two.mean()));
+    say_measured(b" mean ", two.mean());
+    say(b"\n");
+}
+
+// What a dashboard shows of a drawer.
+fn say_dashboard(drawer: BasicThresholder) {
+    say_measured(b" mean ", drawer.primary_mean());
+    say_measured(b" deviation ", drawer.primary_deviation());
     say(b"\n");
 }
 
@@ -73,6 +91,10 @@ fn main() {
     say(b"scores 1 and 2\n");
     discounted(0.0);
     discounted(0.5);
+    say(b"on the dashboard\nno scores yet:");
+    say_dashboard(fresh());
+    say(b"a score of 2:");
+    say_dashboard(counted(fresh(), 2.0, 1));
     say(b"a score of 2, then 9\nnew drawer:");
     two_then_nine(fresh());
     say(b"sums cleared after ten scores of 2, count not:");

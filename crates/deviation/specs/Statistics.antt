@@ -1,5 +1,6 @@
 -- deviation.rs: discounted statistics of a run of scores. One definition for each function, in the Rust's order. Operators are those of f64, every step
 -- rounded; `sqrt` is the correctly rounded root.
+use mathlib.Core.Path.{_≡_}
 use mathlib.Core.Bool.{Bool, false, cond, _&&_}
 use lib.IntN.{ℤ, pos, negsuc, _+ℤ_}
 use lib.Dec.{leb}
@@ -10,6 +11,8 @@ use Rattle.types.specs.declared.Refusal.the-variants.{Discount, Count}
 use Rattle.types.specs.declared.Answer.the-variants as Answers
 use Rattle.deviation.specs.Const.{zero64, one64, countLimit}
 use Rattle.deviation.specs.declared.Deviation.{Deviation}
+use Rattle.deviation.specs.declared.Measured.{Measured}
+use Rattle.deviation.specs.declared.Measured.the-variants.{Empty, Number}
 use Rattle.deviation.specs.declared.Made.{Made}
 use Rattle.deviation.specs.declared.Made.the-variants.{Ready, Refused}
 use Rattle.deviation.specs.declared.Updated.{Updated}
@@ -90,6 +93,26 @@ unfoldable pub deviation : Deviation → Float
 deviation d =
     let temp = d .sum / d .weight in
     cond (isEmpty d) zero64 (positiveRoot (d .«sum_squared» / d .weight - temp * temp))
+
+-- Document 02, A2: what a statistic says of its scores. It is empty, with no number, exactly where its weight is at or below 0, which NaN is not; otherwise the
+-- number is the Rust's.
+abbrev pub measured : Deviation → Float → Measured
+measured d x = cond (isEmpty d) Empty (Number x)
+
+unfoldable pub measuredMean : Deviation → Measured
+measuredMean d = measured d (mean d)
+
+unfoldable pub measuredDeviation : Deviation → Measured
+measuredDeviation d = measured d (deviation d)
+
+-- What the chain takes of it.
+unfoldable pub orZero : Measured → Float
+orZero Empty = zero64
+orZero (Number x) = x
+
+-- Number-or-0 of both answers is what they were, and what the Rust's are.
+abbrev pub OrZeroAsBefore : Type 0
+OrZeroAsBefore = (d : Deviation) → (orZero (measuredMean d) ≡ mean d) × (orZero (measuredDeviation d) ≡ deviation d)
 
 -- The record with another discount, and with another count.
 abbrev pub withDiscount : Deviation → Float → Deviation

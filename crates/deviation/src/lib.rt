@@ -28,6 +28,12 @@ pub struct Updated {
     pub deviation: Deviation,
 }
 
+// What a statistic says of its scores. An empty one, its weight at or below 0, has no number.
+pub enum Measured {
+    Empty,
+    Number(f64),
+}
+
 // The largest count that an update takes.
 const COUNT_LIMIT: i32 = 16777215;
 
@@ -84,6 +90,18 @@ fn positive_root(x: f64) -> f64
     if x > 0.0 { ieee::sqrt(x) } else { 0.0 }
 }
 
+impl Measured {
+    // What the chain takes: 0 where there is no number.
+    pub fn or_zero(self) -> f64
+        ensures { λ r. ⌜ r ≡ Statistics.orZero self ⌝ }
+    {
+        match self {
+            Measured::Empty => 0.0,
+            Measured::Number(x) => x,
+        }
+    }
+}
+
 impl Deviation {
     pub fn new(discount: f64) -> Made
         ensures { λ r. ⌜ r ≡ Statistics.new discount ⌝ }
@@ -118,13 +136,20 @@ impl Deviation {
         Deviation::create(self.discount, 0.0, 0.0, 0.0, 0)
     }
 
-    pub fn mean(self) -> f64
-        ensures { λ r. ⌜ r ≡ Statistics.mean self ⌝ }
+    pub fn mean(self) -> Measured
+        ensures { λ r. ⌜ r ≡ Statistics.measuredMean self ⌝ }
     {
         if self.is_empty() {
-            return 0.0;
+            return Measured::Empty;
         }
-        self.sum / self.weight
+        Measured::Number(self.sum / self.weight)
+    }
+
+    // The Rust's `mean`, which the chain takes.
+    pub fn mean_or_zero(self) -> f64
+        ensures { λ r. ⌜ r ≡ Statistics.mean self ⌝ }
+    {
+        self.mean().or_zero()
     }
 
     fn next(self, score: f64) -> Deviation
@@ -165,14 +190,22 @@ impl Deviation {
         after.deviation
     }
 
-    pub fn deviation(self) -> f64
+    pub fn deviation(self) -> Measured
+        ensures { λ r. ⌜ r ≡ Statistics.measuredDeviation self ⌝ }
+    {
+        match self.mean() {
+            Measured::Empty => Measured::Empty,
+            Measured::Number(temp) => {
+                Measured::Number(positive_root(self.sum_squared / self.weight - temp * temp))
+            }
+        }
+    }
+
+    // The Rust's `deviation`, which the chain takes.
+    pub fn deviation_or_zero(self) -> f64
         ensures { λ r. ⌜ r ≡ Statistics.deviation self ⌝ }
     {
-        if self.is_empty() {
-            return 0.0;
-        }
-        let temp = self.sum / self.weight;
-        positive_root(self.sum_squared / self.weight - temp * temp)
+        self.deviation().or_zero()
     }
 
     pub fn is_empty(self) -> bool
@@ -227,3 +260,8 @@ impl Deviation {
         out
     }
 }
+
+// Number-or-0 of both answers is what they were before they could be empty. Nothing calls it: the check asks for its proof.
+fn or_zero_as_before()
+    ensures { λ _. ⌜ Statistics.OrZeroAsBefore ⌝ }
+{}

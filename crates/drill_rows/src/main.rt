@@ -2,6 +2,7 @@
 // from the Rust.
 use basicthresholder::BasicThresholder;
 use deviation::Deviation;
+use deviation::Measured;
 use divector::Block;
 use types::TransformMethod;
 
@@ -24,6 +25,15 @@ fn end() {
     io::write_all(1, b"\n");
 }
 
+fn measured(m: Measured) {
+    match m {
+        Measured::Empty => {
+            io::write_all(1, b" empty");
+        }
+        Measured::Number(x) => wide(x),
+    }
+}
+
 fn sums(d: Deviation) {
     wide(d.sum());
     wide(d.sum_squared());
@@ -41,8 +51,8 @@ fn statistics() {
     io::write_all(1, b"discount 0, scores 1, 2:");
     let d = scored(0.0);
     sums(d);
-    wide(d.mean());
-    wide(d.deviation());
+    measured(d.mean());
+    measured(d.deviation());
     end();
     io::write_all(1, b"discount 0.5, scores 1, 2:");
     sums(scored(0.5));

@@ -53,7 +53,7 @@ unfoldable pub lines : BasicThresholder → List Reading → List ℕ
 lines s [] = []
 lines s (r ∷ rs) = row (r .number) (shown s (r .score)) ++ lines (counted s (r .score)) rs
 
--- How an output ends: with the counts, with the line of the drawer's 65,537th row, or with that of a faulty row. The line of a judged row begins with a digit and these
+-- How an output ends: with the counts, with the line of the drawer's 65,537th sound row, or with that of a faulty row. The line of a judged row begins with a digit and these
 -- with a letter, so that no such line can hide among them.
 pub data End : Type 0 where
   Counts : ℕ → ℕ → End

@@ -31,7 +31,7 @@ judgedAt w e grade =
 
 -- What is printed for the rows from number n on: a line for each row of the watched drawer, the counts behind the last row. Rows of other drawers are passed over.
 -- (`Nothing` is no row; `readingsOf` has none.)
--- "A faulty row prints `bad line`, its row number and the error; the drawer's 65,537th sound row prints the first two; either ends the run without counts."
+-- "A faulty row prints `bad line`, its row number and the error, a space between; the drawer's 65,537th sound row prints the first two; either ends the run without counts."
 unfoldable pub rows : ℕ → Watch → List Row → List ℕ
 rows n w [] = counts (w .quiet) (w .raised)
 rows n w (Nothing ∷ rest) = rows n w rest

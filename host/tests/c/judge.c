@@ -1,5 +1,5 @@
 /* Judges three readings of one drawer and prints what was said: one that is quiet, one that is
- * raised, and one that is refused. */
+ * raised, and one that is refused; and before and after the first two what the drawer shows. */
 
 #include <stdio.h>
 #include <string.h>
@@ -23,6 +23,10 @@ static uint32_t get_u32(const uint8_t *at) {
 
 static float get_f32(const uint8_t *at) {
     return krcf_f32_from_bits(get_u32(at));
+}
+
+static double get_f64(const uint8_t *at) {
+    return krcf_f64_from_bits((uint64_t)get_u32(at) | (uint64_t)get_u32(at + 4) << 32);
 }
 
 /* What is lent of the forest; the same for every reading here. */
@@ -60,6 +64,19 @@ static void judge(uint8_t *state, uint32_t values_seen, float score) {
     printf("\n");
 }
 
+/* What a dashboard shows of the drawer: byte 0 of the answer says whether there is a number. */
+static void show(const uint8_t *state) {
+    uint8_t mean[KRCF_MEASURED_BYTES], deviation[KRCF_MEASURED_BYTES];
+    const uint8_t *primary = state + 16;
+    krcf_deviation_mean(primary, KRCF_STATISTIC_BYTES, mean, sizeof mean);
+    krcf_deviation_deviation(primary, KRCF_STATISTIC_BYTES, deviation, sizeof deviation);
+    if (mean[0] == 0) {
+        printf("no scores yet\n");
+        return;
+    }
+    printf("mean %g, deviation %g\n", get_f64(mean + 1), get_f64(deviation + 1));
+}
+
 int main(void) {
     uint8_t state[KRCF_STATE_BYTES], before[KRCF_STATE_BYTES];
     uint8_t answer = krcf_new(0.01, 0, BASE, state, sizeof state);
@@ -67,8 +84,10 @@ int main(void) {
         printf("new: refusal %d\n", answer);
         return 1;
     }
+    show(state);
     judge(state, 5, 1.25f);
     judge(state, 6, 1.75f);
+    show(state);
     memcpy(before, state, sizeof state);
     judge(state, 0, 1.75f);
     printf("state %s\n", memcmp(before, state, sizeof state) == 0 ? "kept" : "changed");

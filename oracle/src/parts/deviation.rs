@@ -17,6 +17,10 @@ const RUNS: u64 = 100_000;
 /// The length of a state.
 const STATISTIC: usize = Deviation::SIZE;
 
+/// A yes/no and a number, and what stands there before a call.
+const MEASURED: usize = 9;
+const BEFORE: [u8; MEASURED] = [0xa5; MEASURED];
+
 fn packed(d: &Deviation) -> [u8; STATISTIC] {
     let mut out = [0; STATISTIC];
     d.put(&mut out);
@@ -46,18 +50,32 @@ fn reset(tally: &mut Tally, d: &Deviation) {
     tally.compare(&ours, &(0, rust), || format!("reset of {}", d.show()));
 }
 
+/// What ours is to answer where the Rust answers `rust`: a yes and the number. Of an empty statistic the Rust's
+/// 0 is held to be one; ours is a no, and the bytes behind it stay.
+fn measured(tally: &mut Tally, d: &Deviation, rust: f64) -> (u8, [u8; MEASURED]) {
+    let mut out = BEFORE;
+    let is_number = !(d.weight() <= 0.0);
+    out[0] = is_number as u8;
+    if is_number {
+        rust.plain().put(&mut out[1..]);
+    } else {
+        tally.compare(&rust, &0.0, || format!("the Rust's number of {}", d.show()));
+    }
+    (0, out)
+}
+
 /// The calls that answer a number about a state.
 fn ask(tally: &mut Tally, d: &Deviation) {
     let state = packed(d);
-    let mut out = [0xa5; 8];
+    let mut out = BEFORE;
     let refusal = ours::deviation_mean(&state, &mut out);
-    let ours = (refusal, f64::get(&out));
-    tally.compare(&ours, &(0, d.mean()), || format!("mean of {}", d.show()));
+    let rust = measured(tally, d, d.mean());
+    tally.compare(&(refusal, out), &rust, || format!("mean of {}", d.show()));
 
-    let mut out = [0xa5; 8];
+    let mut out = BEFORE;
     let refusal = ours::deviation_deviation(&state, &mut out);
-    let ours = (refusal, f64::get(&out));
-    tally.compare(&ours, &(0, d.deviation()), || {
+    let rust = measured(tally, d, d.deviation());
+    tally.compare(&(refusal, out), &rust, || {
         format!("deviation of {}", d.show())
     });
 
@@ -114,17 +132,17 @@ fn lengths(tally: &mut Tally) {
             ours::deviation_update(b, 1.0)
         });
         refused(tally, len, LENGTH, "reset", ours::deviation_reset);
-        refused(tally, 8, LENGTH, "mean", |b| {
+        refused(tally, MEASURED, LENGTH, "mean", |b| {
             ours::deviation_mean(&vec![0; len], b)
         });
-        refused(tally, 8, LENGTH, "deviation", |b| {
+        refused(tally, MEASURED, LENGTH, "deviation", |b| {
             ours::deviation_deviation(&vec![0; len], b)
         });
         refused(tally, 1, LENGTH, "is_empty", |b| {
             ours::deviation_is_empty(&vec![0; len], b)
         });
     }
-    for len in (0..=40).filter(|&len| len != 8) {
+    for len in (0..=40).filter(|&len| len != MEASURED) {
         refused(tally, len, LENGTH, "mean", |b| {
             ours::deviation_mean(&state, b)
         });

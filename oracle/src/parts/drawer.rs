@@ -8,6 +8,7 @@ use rcflib::common::descriptor::{AnomalyInformation, Descriptor};
 use rcflib::common::divector::DiVector;
 use rcflib::errors::RCFError;
 use rcflib::rcf::{AugmentedRCF, Call, RCFLarge};
+use rcflib::trcf::basicthresholder::BasicThresholder;
 use rcflib::trcf::predictorcorrector::PredictorCorrector;
 use rcflib::trcf::types::{CorrectionMode, ScoringStrategy, TransformMethod};
 use withdrawal_watch as host;
@@ -306,6 +307,22 @@ fn kept_by_host(drawer: &Drawer) -> Kept {
     }
 }
 
+/// Mean and deviation as the drawer shows them, none of an empty statistic, and the Rust's where its own is
+/// not empty.
+fn shown_by_host(drawer: &Drawer) -> Vec<f64> {
+    let deviation = drawer.primary_deviation();
+    drawer.primary_mean().into_iter().chain(deviation).collect()
+}
+
+fn shown_by_rust(rust: &PredictorCorrector) -> Vec<f64> {
+    let numbers = rust.state().basic_thresholder;
+    if numbers.primary_deviation.is_empty() {
+        return vec![];
+    }
+    let thresholder = BasicThresholder::of_numbers(numbers);
+    vec![thresholder.primary_mean(), thresholder.primary_deviation()]
+}
+
 /// One of the setters on both sides.
 fn set(random: &mut Random, drawer: &mut Drawer, rust: &mut PredictorCorrector) {
     let x = match random.below(8) {
@@ -400,6 +417,9 @@ fn sequence(tally: &mut Tally, random: &mut Random, seen: &mut Seen) {
         seen.spoiled += !keep(&mut last, &reading, &result) as u64;
         tally.compare(&kept_by_host(&drawer), &kept_by_rust(&last), || {
             format!("what is kept: {reading:?}")
+        });
+        tally.compare(&shown_by_host(&drawer), &shown_by_rust(&rust), || {
+            format!("mean and deviation: {reading:?}")
         });
         maker.judged(&reading, &result);
     }

@@ -3,20 +3,20 @@ use borrow.Author.Needs.{needs}
 use Rattle.candidate.proofs.near_means.Statement.{statement}
 use Rattle.candidate.proofs.near_means.Tie as tie
 
-mean-requires : tie.Need-mean-requires
-mean-requires c κs = search needs
+mean-or-zero-requires : tie.Need-mean-or-zero-requires
+mean-or-zero-requires c κs = search needs
 
-deviation-requires : tie.Need-deviation-requires
-deviation-requires c κs = search needs
+deviation-or-zero-requires : tie.Need-deviation-or-zero-requires
+deviation-or-zero-requires c κs = search needs
 
 narrow-requires : tie.Need-narrow-requires
 narrow-requires c κs = search needs
 
-mean-requires-2 : tie.Need-mean-requires-2
-mean-requires-2 c κs = search needs
+mean-or-zero-requires-2 : tie.Need-mean-or-zero-requires-2
+mean-or-zero-requires-2 c κs = search needs
 
-deviation-requires-2 : tie.Need-deviation-requires-2
-deviation-requires-2 c κs = search needs
+deviation-or-zero-requires-2 : tie.Need-deviation-or-zero-requires-2
+deviation-or-zero-requires-2 c κs = search needs
 
 narrow-requires-2 : tie.Need-narrow-requires-2
 narrow-requires-2 c κs = search needs
@@ -47,17 +47,17 @@ absf32-requires-3 c κs = search needs
 
 returns : tie.Need-returns
 unfolding nearMeans
-returns c = simp (c .before .before .before .before .before .before .absf32 .ensures, c .before .before .before .absf322 .ensures, c .absf323 .ensures, c .before .before .before .before .before .maxf32 .ensures, c .before .before .maxf322 .ensures, c .before .before .before .before .before .before .before .before .before .before .before .narrow .ensures, c .before .before .before .before .before .before .before .before .narrow2 .ensures, c .before .before .before .before .before .before .before .narrow3 .ensures, c .before .before .before .before .narrow4 .ensures, c .before .narrow5 .ensures, c .before .before .before .before .before .before .before .before .before .before .before .before .before .mean .ensures, c .before .before .before .before .before .before .before .before .before .before .mean2 .ensures, c .before .before .before .before .before .before .before .before .before .before .before .before .deviation .ensures, c .before .before .before .before .before .before .before .before .before .deviation2 .ensures)
+returns c = simp (c .before .before .before .before .before .before .absf32 .ensures, c .before .before .before .absf322 .ensures, c .absf323 .ensures, c .before .before .before .before .before .maxf32 .ensures, c .before .before .maxf322 .ensures, c .before .before .before .before .before .before .before .before .before .before .before .narrow .ensures, c .before .before .before .before .before .before .before .before .narrow2 .ensures, c .before .before .before .before .before .before .before .narrow3 .ensures, c .before .before .before .before .narrow4 .ensures, c .before .narrow5 .ensures, c .before .before .before .before .before .before .before .before .before .before .before .before .before .mean-or-zero .ensures, c .before .before .before .before .before .before .before .before .before .before .mean-or-zero2 .ensures, c .before .before .before .before .before .before .before .before .before .before .before .before .deviation-or-zero .ensures, c .before .before .before .before .before .before .before .before .before .deviation-or-zero2 .ensures)
 
 pub near-means-spec : {M : Type 1} → statement M
 near-means-spec =
     tie.close
     (tie.spec
-    mean-requires
-    deviation-requires
+    mean-or-zero-requires
+    deviation-or-zero-requires
     narrow-requires
-    mean-requires-2
-    deviation-requires-2
+    mean-or-zero-requires-2
+    deviation-or-zero-requires-2
     narrow-requires-2
     narrow-requires-3
     absf32-requires

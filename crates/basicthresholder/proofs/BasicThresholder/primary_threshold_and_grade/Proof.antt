@@ -6,14 +6,14 @@ use Rattle.basicthresholder.proofs.BasicThresholder.primary_threshold_a
 }
 use Rattle.basicthresholder.proofs.BasicThresholder.primary_threshold_and_grade.Tie as tie
 
-mean-requires : tie.Need-mean-requires
-mean-requires c κs = search needs
+mean-or-zero-requires : tie.Need-mean-or-zero-requires
+mean-or-zero-requires c κs = search needs
 
 narrow-requires : tie.Need-narrow-requires
 narrow-requires c κs = search needs
 
-deviation-requires : tie.Need-deviation-requires
-deviation-requires c κs = search needs
+deviation-or-zero-requires : tie.Need-deviation-or-zero-requires
+deviation-or-zero-requires c κs = search needs
 
 narrow-requires-2 : tie.Need-narrow-requires-2
 narrow-requires-2 c κs = search needs
@@ -29,19 +29,19 @@ grade-over-requires c κs = search needs
 
 returns : tie.Need-returns
 unfolding primaryThresholdAndGrade primaryGrade threshold
-returns c = simp (sym (c .before .before .is-deviation-ready .ensures) ∙ c .before .if1 .taken, c .grade-over .ensures, c .before .before .before .threshold-by .ensures, c .before .before .before .before .before .before .narrow .ensures, c .before .before .before .before .narrow2 .ensures, c .before .before .before .before .before .before .before .mean .ensures, c .before .before .before .before .before .deviation .ensures)
+returns c = simp (sym (c .before .before .is-deviation-ready .ensures) ∙ c .before .if1 .taken, c .grade-over .ensures, c .before .before .before .threshold-by .ensures, c .before .before .before .before .before .before .narrow .ensures, c .before .before .before .before .narrow2 .ensures, c .before .before .before .before .before .before .before .mean-or-zero .ensures, c .before .before .before .before .before .deviation-or-zero .ensures)
 
 returns-2 : tie.Need-returns-2
 unfolding primaryThresholdAndGrade primaryGrade threshold
-returns-2 c = simp (sym (c .before .is-deviation-ready .ensures) ∙ c .if1 .left, c .before .before .threshold-by .ensures, c .before .before .before .before .before .narrow .ensures, c .before .before .before .narrow2 .ensures, c .before .before .before .before .before .before .mean .ensures, c .before .before .before .before .deviation .ensures)
+returns-2 c = simp (sym (c .before .is-deviation-ready .ensures) ∙ c .if1 .left, c .before .before .threshold-by .ensures, c .before .before .before .before .before .narrow .ensures, c .before .before .before .narrow2 .ensures, c .before .before .before .before .before .before .mean-or-zero .ensures, c .before .before .before .before .deviation-or-zero .ensures)
 
 pub primary-threshold-and-grade-spec : {M : Type 1} → statement M
 primary-threshold-and-grade-spec =
     tie.close
     (tie.spec
-    mean-requires
+    mean-or-zero-requires
     narrow-requires
-    deviation-requires
+    deviation-or-zero-requires
     narrow-requires-2
     threshold-by-requires
     is-deviation-ready-requires
