@@ -7,7 +7,7 @@ const PRINTED: &str = "\
 no scores yet
 score 1.25: quiet, threshold 1.5
 score 1.75: raised, threshold 1.5, grade 1, row 0, 2 expected, attribution 1.5
-mean 1.50251, deviation 0.249987
+mean 1.55, deviation 0.244949
 score 1.75: refusal 5
 state kept
 ";

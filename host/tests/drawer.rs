@@ -77,14 +77,17 @@ fn an_empty_drawer_shows_no_scores_yet() {
     };
     assert_eq!(drawer.judge(&withdrawal(5), &skipped), Ok(Verdict::Skipped));
     assert!(drawer.judge(&withdrawal(0), &skipped).is_err());
-    assert_eq!((drawer.primary_mean(), drawer.primary_deviation()), (None, None));
+    assert_eq!(
+        (drawer.primary_mean(), drawer.primary_deviation()),
+        (None, None)
+    );
     assert_eq!(format!("{drawer:.2}"), "no scores yet");
 }
 
 /// Nor is a drawer with one score: its deviation is 0, and a number.
 #[test]
 fn a_drawer_shows_mean_and_deviation_of_its_scores() {
-    let mut drawer = drawer(false);
+    let mut drawer = Drawer::new(0.0, false, 1).unwrap();
     for (seen, answer) in [(5, 1.25), (6, 1.375)] {
         let forest = Scripted {
             scores: vec![answer],
@@ -96,6 +99,7 @@ fn a_drawer_shows_mean_and_deviation_of_its_scores() {
             assert_eq!(drawer.to_string(), "mean 1.25, deviation 0");
         }
     }
+    assert_eq!(drawer.to_string(), "mean 1.3125, deviation 0.0625");
     assert_eq!(format!("{drawer:.2}"), "mean 1.31, deviation 0.06");
     let again = Drawer::of_bytes(&drawer.to_bytes()).unwrap();
     assert_eq!(again.to_string(), drawer.to_string());

@@ -14,7 +14,7 @@ pub(crate) struct Case {
     pub result: u64,
 }
 
-fn wide(b: u8) -> u64
+pub(crate) fn wide(b: u8) -> u64
     ensures { λ r. ⌜ r < 0x100 ⌝ }
 {
     b as u64

@@ -6,6 +6,7 @@ use crate::input::double;
 use crate::input::is_answer;
 use crate::input::is_equal;
 use crate::input::only;
+use crate::input::wide;
 use crate::input::word_at;
 
 // What stands behind a yes/no before the call that writes it.
@@ -40,13 +41,14 @@ fn is_empty(state: &[u8]) -> Answer {
     let number = c_interface::krcf_deviation_is_empty(state, &mut out);
     Answer {
         number: number,
-        result: out[0] as u64,
+        result: wide(out[0]),
     }
 }
 
 // An operation that there is not answers 255.
 fn call(case: Case, state: &mut [u8]) -> Answer {
-    match case.operation {
+    let operation = case.operation;
+    match operation {
         32 => only(c_interface::krcf_deviation_new(double(case.a), state)),
         33 => only(c_interface::krcf_deviation_update(state, double(case.a))),
         34 => only(c_interface::krcf_deviation_reset(state)),
