@@ -9,7 +9,7 @@ use native.Mathlib.Omega.{arith}
 use lib.ListN.{length, getD, length-append}
 use lib.Dec.{T, leb, ltb, eqb}
 use borrow.Author.Tests.{leb-true, eqb-true, eqb-false, lt-ltb}
-use lib.Ieee.{Float, nan, le}
+use lib.Ieee.{Float, nan}
 use Rattle.ieee.specs.F64.{_>=_}
 use Rattle.attributors.specs.Const.{maxAttributors}
 use Rattle.attributors.specs.Attributors.{forUpTo, highLowSum, attributionLimit, reaches, reaching, likelyMissingIndices}

@@ -12,7 +12,6 @@ use Rattle.basicthresholder.specs.Const.{zero32, two32}
 use Rattle.basicthresholder.specs.Grades.{graded, gradedOr, gradeAgainst, sixteenths, isDeviationReady, threshold, gradeOver, primaryGrade, primaryThresholdAndGrade}
 use Rattle.basicthresholder.specs.Updates.{freshThresholder, newAdjustible, done, refused, withScoreDifferencing, isHorizon, setScoreDifferencing, updated, updateThreshold, updatePrimary, updateBoth, update, thresholdCounted, primaryCounted, bothCounted, countedOver, countsOk}
 use Rattle.basicthresholder.specs.declared.BasicThresholder.{BasicThresholder}
-use Rattle.basicthresholder.specs.declared.Graded.{Graded}
 use Rattle.basicthresholder.specs.declared.Made.{Made}
 use Rattle.basicthresholder.specs.declared.Made.the-variants.{Ready, Refused}
 

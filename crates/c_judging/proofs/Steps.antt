@@ -1,10 +1,10 @@
 -- The calls' shapes over plain variables. Assumes nothing.
 use mathlib.Core.Path.{_≡_, refl, sym, ap, _∙_, subst}
-use mathlib.Core.Bool.{Bool, true, false, cond, _&&_}
+use mathlib.Core.Bool.{Bool, true, false, cond}
 use mathlib.Core.List.{List}
 use Prim.Native.Nat.{ℕ}
 use native.Mathlib.Omega.{arith}
-use lib.Dec.{eqb, leb}
+use lib.Dec.{eqb}
 use lib.IntN.{ℤ}
 use lib.ListN.{length}
 use lib.Ieee.{Float}
@@ -12,7 +12,7 @@ use borrow.Author.Tests.{le-leb}
 use Rattle.types.specs.Refusals.{number}
 use Rattle.types.specs.declared.Refusal.{Refusal}
 use Rattle.types.specs.declared.Refusal.the-variants.{Range, Length}
-use Rattle.descriptor.specs.Checks.{sizesOk, rangeOk}
+use Rattle.descriptor.specs.Checks.{rangeOk}
 use Rattle.descriptor.specs.Lent.{Lent}
 use Rattle.descriptor.proofs.Bounds.{both}
 use Rattle.descriptor.specs.declared.Reading.{Reading}

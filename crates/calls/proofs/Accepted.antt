@@ -1,19 +1,17 @@
 -- What a call that is not refused gives: the step below it fits. Assumes nothing.
-use mathlib.Core.Path.{_≡_, refl, sym, ap, _∙_, subst}
-use mathlib.Core.Bool.{Bool, true, false, cond, _&&_}
+use mathlib.Core.Path.{_≡_, refl, sym, _∙_, subst}
+use mathlib.Core.Bool.{Bool, true, false, cond}
 use mathlib.Core.List.{List}
-use Prim.Native.Nat.{ℕ, _+_, _-_, _*_, _≤_, _<_}
-use native.Mathlib.Nat.{mul-le-mul-right, one-mul}
+use Prim.Native.Nat.{ℕ, _-_, _≤_, _<_}
 use native.Mathlib.Omega.{arith}
 use lib.Dec.{leb, eqb}
 use lib.ListN.{length}
 use lib.Ieee.{Float}
 use borrow.Author.Tests.{leb-true, eqb-true, eqb-false}
-use Rattle.types.specs.declared.Refusal.the-variants.{Range, Length, NotFinite, ValuesSeen}
+use Rattle.types.specs.declared.Refusal.the-variants.{ValuesSeen}
 use Rattle.types.specs.declared.Answer.{Answer}
 use Rattle.types.specs.declared.Answer.the-variants.{Done, Refused}
 use Rattle.corrector.specs.Corrector.{expectedFits, correctorFits}
-use Rattle.corrector.specs.Steps.{Expecting, Correcting}
 use Rattle.corrector.proofs.Kept.{expects, corrects}
 use Rattle.descriptor.specs.Checks.{sizesOk, dimension, lastPointsOk}
 use Rattle.descriptor.proofs.Bounds.{both, sizes, dimension-is, base-inside, last-points}

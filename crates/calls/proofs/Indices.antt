@@ -1,6 +1,6 @@
 -- The block that an accepted attribution names lies in it, so the indices are those of its row. Assumes nothing.
 use mathlib.Core.Path.{_≡_, refl, sym, ap, subst, _∙_}
-use mathlib.Core.Bool.{Bool, true, false, _&&_}
+use mathlib.Core.Bool.{_&&_}
 use mathlib.Core.List.{List}
 use Prim.Native.Nat.{ℕ, _+_, _*_, _/_, _%_, _<_, _≤_}
 use native.Mathlib.Nat.{mul-mod-left, mul-pos}
@@ -14,12 +14,12 @@ use Rattle.types.specs.declared.Answer.{Answer}
 use Rattle.types.specs.declared.Answer.the-variants.{Done, Refused}
 use Rattle.descriptor.specs.Checks.{sizesOk, dimension, allFinite}
 use Rattle.descriptor.proofs.Bounds.{both, sizes, dimension-is}
-use Rattle.divector.specs.DiVector.{maxGapContribution, firstBlock, winner}
+use Rattle.divector.specs.DiVector.{maxGapContribution}
 use Rattle.divector.specs.declared.Block.{Block}
 use Rattle.divector.specs.declared.Block.the-variants.{At}
 use Rattle.divector.proofs.Laws as Search
 use Rattle.divector.proofs.Blocks.{row-within, whole}
-use Rattle.attributors.specs.Attributors.{asked, askedIndices, missing}
+use Rattle.attributors.specs.Attributors.{asked}
 use Rattle.attributors.proofs.Laws.{Row, asked-row}
 use Rattle.corrector.specs.Corrector.{predicted, expectedPoint}
 use Rattle.corrector.proofs.Rows.{all-are}

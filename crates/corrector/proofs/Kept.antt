@@ -10,7 +10,7 @@ use lib.ListN.{length, getD, set, length-append, length-drop, length-set}
 use lib.Seq.{getD-set-other}
 use lib.Dec.{ltb, eqb}
 use lib.IntN.{ℤ}
-use borrow.Author.Tests.{eqb-true, eq-eqb, le-leb, lt-ltb, ltb-true}
+use borrow.Author.Tests.{eq-eqb, le-leb, lt-ltb, ltb-true}
 use lib.Ieee.{Float, nan}
 use Rattle.types.specs.Refusals.{answered}
 use Rattle.types.specs.declared.Refusal.the-variants.{Range, Length}

@@ -1,18 +1,18 @@
 -- What loops and callers cite: a turn of a loop and its end, copies, what a test that held says. Assumes nothing.
 use mathlib.Core.Path.{_≡_, refl, sym, ap, ap₂, _∙_}
-use mathlib.Core.Bool.{Bool, true, false, cond, not, _&&_, _||_}
+use mathlib.Core.Bool.{Bool, true, false, cond, _||_}
 use mathlib.Core.List.{List, [], append-nil}
 use mathlib.Core.Logic.{inl, inr}
 use Prim.Native.Nat.{ℕ, zero, suc, _+_, _*_, _<_, _≤_, _-_}
-use native.Mathlib.Nat.{eq-or-lt-of-le, suc-mul, le-antisymm, mul-le-mul-right, one-mul, zero-add}
+use native.Mathlib.Nat.{eq-or-lt-of-le, suc-mul, zero-add}
 use native.Mathlib.Numerals.{add-one}
 use native.Mathlib.Omega.{arith}
 use lib.ListN.{length, getD, set, take, drop, length-drop, drop-of-length-le}
-use lib.Seq.{set-getD, paste, paste-suc, getD-drop, take-length, take-paste, length-paste, take-all, drop-length, take-nil}
-use lib.Dec.{leb, ltb, eqb}
+use lib.Seq.{paste, paste-suc, getD-drop, take-length, take-paste, length-paste, take-all, drop-length, take-nil}
+use lib.Dec.{ltb, eqb}
 use borrow.Author.Tests.{ltb-true, leb-true, eqb-true, ne-eqb, lt-ltb, le-ltb}
 use lib.IntN.{ℤ, pos, negsuc}
-use lib.Ieee.{Float, nan}
+use lib.Ieee.{Float}
 use mir.Syntax.{w32}
 use mir.Val.{SFits, toZ, ofZ}
 use mir.ValLaws.{toZ-ofZ}

@@ -1,12 +1,11 @@
 -- The premises of demand 3 can be met: eleven calm readings are judged in turn, and the entry checks accept each. Assumes nothing.
 use mathlib.Core.Path.{_≡_, refl, subst, sym}
 use mathlib.Core.Logic.{inr}
-use mathlib.Core.Bool.{Bool, true, false, not}
-use mathlib.Core.List.{List, [], _∷_}
+use mathlib.Core.Bool.{false}
+use mathlib.Core.List.{_∷_}
 use Prim.Native.Nat.{ℕ, zero, suc, _≤_}
 use lib.Dec.{T, lit≤}
-use lib.Ieee.{Float, binary64, fits, round, add, sub, mul, div, lt, le, eq, ne, ofInt, ofBits}
-use Rattle.types.specs.declared.Answer.the-variants as Answers
+use lib.Ieee.{fits, round, add, sub, mul, div, lt, le, eq, ne, ofInt, ofBits}
 use Rattle.util.specs.Util.{minf32}
 use Rattle.ieee.specs.Round.{narrow}
 use Rattle.deviation.specs.Statistics as Statistics
@@ -18,11 +17,11 @@ use Rattle.ledger.specs.Statement.{mostReadings, accepted, Sized, Sizes, InBoun
 use Rattle.descriptor.specs.Checks.{every, sizesOk, dimension, rangeOk, lengthsOf, pointsOk, rowsOk, neighboursOk, lastPointsOk, lengthsOk, numbersFinite, lastFinite, finiteOk, isLater, seenOk, answerOf}
 use Rattle.predictorcorrector.specs.State as State
 use Rattle.predictorcorrector.specs.State.{freshState, freshList, stateCountsOk, runEnded}
-use Rattle.predictorcorrector.specs.Lists.{listCountable, firstCountable, changed}
+use Rattle.predictorcorrector.specs.Lists.{listCountable, firstCountable}
 use Rattle.predictorcorrector.specs.declared.PredictorCorrector.{PredictorCorrector}
 use Rattle.detection.specs.Judging as Exits
 use Rattle.detection.specs.Judged.{outcome, outcomeOf, stateAfter}
-use Rattle.demand3.specs.Calls.{new, JudgedInTurn, SetInTurn, InTurn, Made, zOf, toldOf}
+use Rattle.demand3.specs.Calls.{new, JudgedInTurn, InTurn, Made, zOf, toldOf}
 use Rattle.demand3.specs.Calm.{nought, one, judging, judgings, made, eleven}
 
 kept : (n : ℕ) (s : PredictorCorrector) → JudgedInTurn s (judgings n s)

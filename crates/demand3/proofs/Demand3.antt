@@ -15,11 +15,10 @@ use Rattle.ledger.specs.Theorem.{New}
 use Rattle.ledger.proofs.Laws.{new-fresh, new-z, new-horizon}
 use Rattle.ledger.proofs.WholeList as WholeList
 use Rattle.predictorcorrector.specs.State as State
-use Rattle.predictorcorrector.specs.State.{freshState, refusedNew, zFactorSet, setHorizon}
+use Rattle.predictorcorrector.specs.State.{freshState, refusedNew, setHorizon}
 use Rattle.predictorcorrector.specs.declared.PredictorCorrector.{PredictorCorrector}
 use Rattle.predictorcorrector.specs.declared.Updated.{Updated}
-use Rattle.detection.specs.declared.Outcome.{Outcome}
-use Rattle.demand3.specs.Calls.{Judging, Call, new, set-z-factor, set-horizon, detect-and-modify, Contract, JudgedInTurn, SetInTurn, InTurn, Made, zAfter, zOf, answerAt, isRefusal, toldOf, shownBy, shownOf}
+use Rattle.demand3.specs.Calls.{Judging, Call, new, set-z-factor, set-horizon, detect-and-modify, Contract, JudgedInTurn, SetInTurn, InTurn, zAfter, zOf, answerAt, isRefusal, toldOf, shownBy, shownOf}
 use Rattle.demand3.specs.Statement.{Returned, Demand3OfCalls}
 use Rattle.demand3.proofs.Keeps.{Lending, watch, returned-at, watch-keeps}
 use Rattle.demand3.proofs.Calmness.{calm-met}

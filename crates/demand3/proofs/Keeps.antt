@@ -36,7 +36,7 @@ use Rattle.detection.specs.declared.Verdict.{Verdict}
 use Rattle.detection.specs.declared.Verdict.the-variants.{Quiet, Corrected, Raised, Skipped}
 use Rattle.detection.specs.declared.Outcome.{Outcome}
 use Rattle.detection.specs.declared.Outcome.the-variants.{Accepted, Refused}
-use Rattle.demand3.specs.Calls.{Judging, answerAt, isRefusal, opened, gradeOf, shownBy}
+use Rattle.demand3.specs.Calls.{Judging, answerAt, isRefusal, opened, shownBy}
 use Rattle.demand3.specs.Statement.{isSkipped, Shows, Returned}
 use Rattle.demand3.proofs.Opens.{verdict-shows, zero-skips, quiet-ends}
 

@@ -1,7 +1,7 @@
 -- A verdict shows its opening: of a score that is not 0, for every strategy. Assumes nothing.
-use mathlib.Core.Path.{_≡_, refl, sym, ap, _∙_}
+use mathlib.Core.Path.{_≡_, refl, sym}
 use mathlib.Core.Bool.{Bool, true, false, not, cond, _&&_, true≢false}
-use lib.Dec.{T, ltb}
+use lib.Dec.{ltb}
 use lib.Ieee as Ieee
 use lib.Ieee.{Float, binary32, eq}
 use Rattle.basicthresholder.specs.Const.{zero32}

@@ -1,8 +1,8 @@
 -- What a reading leaves can be stored: each float is a value of its format, each number fits its bytes. Assumes nothing.
 use mathlib.Core.Path.{_≡_, refl, sym, ap, _∙_, subst}
-use mathlib.Core.Bool.{Bool, true, false, not, cond, _&&_, _||_}
+use mathlib.Core.Bool.{Bool, true, false, cond, _&&_}
 use mathlib.Core.List.{List, [], _∷_}
-use Prim.Native.Nat.{ℕ, zero, suc, _+_, _-_, _*_, _<_, _≤_}
+use Prim.Native.Nat.{ℕ, zero, suc, _+_, _*_, _<_, _≤_}
 use native.Mathlib.Omega.{arith}
 use lib.Dec.{T, leb, ltb, leb→le}
 use borrow.Author.Tests.{le-leb, leb-true}
@@ -12,30 +12,30 @@ use lib.ListN.{length, getD}
 use lib.Ieee as Ieee
 use lib.Ieee.{Float, nan, inf, fin, binary32, binary64, fits}
 use lib.Ieee.Bits.{ofBits-fits}
-use lib.Ieee.Fits.{round-fits, cond-fits, nan-fits, inf-fits, add-fits, sub-fits, mul-fits, div-fits}
+use lib.Ieee.Fits.{round-fits, cond-fits, nan-fits, inf-fits, add-fits}
 use Rattle.ieee.specs.Round.{narrow}
 use Rattle.util.specs.Util.{minf32, maxf32}
 use Rattle.types.specs.Codes.{isHeight}
 use Rattle.types.specs.declared.Refusal.the-variants as Refusals
 use Rattle.types.specs.declared.Answer.the-variants as Answers
 use Rattle.types.specs.declared.ScoringStrategy.{ScoringStrategy}
-use Rattle.deviation.specs.Const.{zero64, one64, countLimit}
+use Rattle.deviation.specs.Const.{zero64, countLimit}
 use Rattle.deviation.specs.Statistics as Statistics
 use Rattle.deviation.specs.Statistics.{fresh, reset, mean, counted, next, countable, oneMore}
 use Rattle.deviation.specs.declared.Deviation.{Deviation}
 use Rattle.deviation.specs.declared.Updated as Counted
-use Rattle.basicthresholder.specs.Const.{zero32, two32, two64}
-use Rattle.basicthresholder.specs.Updates.{freshThresholder, withCounted, countedGap, countedOver, primaryCounted, bothCounted, countsOk, done, refused, updated, updatePrimary, updateBoth, update, withZFactor, withScoreDifferencing}
+use Rattle.basicthresholder.specs.Const.{zero32, two32}
+use Rattle.basicthresholder.specs.Updates.{withCounted, countedGap, countedOver, primaryCounted, bothCounted, countsOk, done, refused, updated, updatePrimary, updateBoth, update, withZFactor, withScoreDifferencing}
 use Rattle.basicthresholder.specs.declared.BasicThresholder.{BasicThresholder}
 use Rattle.predictorcorrector.specs.Lists.{changed, stepped, rowFits}
 use Rattle.predictorcorrector.proofs.Rows.{both, fits-within}
-use Rattle.predictorcorrector.specs.State.{existing, freshList, freshState, withRun, withThresholder, longerRun, runEnded, autoAdjusted, candidateCounted, runGrown, heightScore, updateScore}
+use Rattle.predictorcorrector.specs.State.{withRun, withThresholder, longerRun, runEnded, autoAdjusted, candidateCounted, runGrown, heightScore, updateScore}
 use Rattle.predictorcorrector.specs.declared.PredictorCorrector.{PredictorCorrector}
 use Rattle.descriptor.specs.Lent.{Lent}
 use Rattle.descriptor.specs.declared.Reading.{Reading}
 use Rattle.descriptor.specs.declared.LastDescriptor.{LastDescriptor}
 use Rattle.detection.specs.Judging as Exits
-use Rattle.detection.specs.Judging.{entered, candidateWith, candidateState, isDriftMode, correctedScore, after}
+use Rattle.detection.specs.Judging.{entered, candidateWith, candidateState, isDriftMode, after}
 use Rattle.detection.specs.declared.Verdict.{Verdict}
 use Rattle.detection.specs.declared.Verdict.the-variants.{Quiet, Corrected, Raised, Skipped}
 use Rattle.layout.specs.Chain.{entries}

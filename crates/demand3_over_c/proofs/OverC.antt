@@ -1,33 +1,23 @@
 -- Demand 3 of the C functions: a construction, settings of z and horizon, then judgments in turn, over one lent state. Assumes nothing.
-use mathlib.Core.Path.{_≡_, refl, sym, ap, ap₂, _∙_, subst}
-use mathlib.Core.Logic.{_⊎_}
-use mathlib.Core.Bool.{Bool, true, false, not, cond, _&&_, true≢false}
+use mathlib.Core.Path.{_≡_, refl, sym, ap, _∙_, subst}
+use mathlib.Core.Bool.{Bool, true, false, not, cond, _&&_}
 use mathlib.Core.List.{List, [], _∷_}
-use Prim.Native.Nat.{ℕ, zero, suc, _+_, _*_, _<_, _≤_}
+use Prim.Native.Nat.{ℕ, _+_, _*_, _≤_}
 use native.Mathlib.Nat.{mul-one, zero-mul}
 use native.Mathlib.Omega.{arith}
-use lib.Dec.{T, eqb, ltb, eqb→eq, ltb→lt}
-use lib.IntN.{ℤ, pos}
-use lib.ListN.{length, getD}
-use lib.Ieee.{Float, nan, inf, fin, binary64, fits, eq, lt, le, up, down, ofBits}
+use lib.Dec.{T, eqb, eqb→eq, ltb→lt}
+use lib.ListN.{getD}
+use lib.Ieee.{Float, nan, inf, fin, binary64, fits, eq, lt, up, down, ofBits}
 use lib.Ieee.Bits.{is-false}
 use lib.Ieee.Positive.{num as numOf}
 use borrow.Author.Tests.{eq-eqb, ne-eqb, eqb-true, eqb-false}
-use Rattle.types.specs.Codes.{isHeight}
-use Rattle.types.specs.declared.Answer.{Answer}
-use Rattle.types.specs.declared.Answer.the-variants as Answers
-use Rattle.types.specs.declared.ScoringStrategy.{ScoringStrategy}
 use Rattle.types.specs.declared.ScoringStrategy.the-variants.{«EXPECTED_INVERSE_HEIGHT», DISTANCE}
 use Rattle.basicthresholder.specs.Const.{zero32, one32, zFactorDefault}
-use Rattle.basicthresholder.specs.declared.Graded.{Graded}
 use Rattle.ledger.specs.Fractions.{Fraction, none, plusZero, plain, fractionOf, plus, minus, part, larger}
 use Rattle.ledger.specs.Ledger.{Ledger, blank, enter, AtOrUnder, AtOrOver, Over}
 use Rattle.ledger.specs.Statement.{closeness, clearance, enoughScores, mostReadings, Told, Shown, Judged, Either, Agree, Demand3, counted, accepted, Sizes, InBounds}
 use Rattle.ledger.specs.Theorem.{New}
 use Rattle.ledger.proofs.Laws.{new-z, new-horizon}
-use Rattle.descriptor.specs.Lent.{Lent}
-use Rattle.descriptor.specs.declared.Reading.{Reading}
-use Rattle.descriptor.specs.declared.LastDescriptor.{LastDescriptor}
 use Rattle.deviation.specs.Statistics.{isDiscount}
 use Rattle.predictorcorrector.specs.State.{new, zFactorSet, setHorizon}
 use Rattle.predictorcorrector.specs.declared.PredictorCorrector.{PredictorCorrector}
@@ -41,12 +31,12 @@ use Rattle.layout.specs.Chain.{decodeState}
 use Rattle.layout.specs.Left.{left}
 use Rattle.layout.specs.Readings.{decodeReading, strategyFrom}
 use Rattle.c_chain.specs.States.{chainMade}
-use Rattle.demand3.specs.Calls.{opened, gradeOf, shownBy, isRefusal, answerAt, detect-and-modify}
+use Rattle.demand3.specs.Calls.{opened, shownBy, isRefusal, answerAt, detect-and-modify}
 use Rattle.demand3.specs.Calls as ByValue
 use Rattle.demand3.proofs.Demand3.{judged-in-turn, fresh}
 use Rattle.demand3_over_c.specs.Calls.{Judging, Call, krcf-new, krcf-chain-set-z-factor, krcf-chain-set-horizon, krcf-detect-and-modify, Kept, JudgedInTurn, SetInTurn, InTurn, zAfter, zOf, isRefused, scoreOf, kindIn, thresholdIn, gradeIn, openingIn, toldOf, shownOf}
 use Rattle.demand3_over_c.specs.Statement.{Opens, Demand3OverC}
-use Rattle.demand3_over_c.proofs.Simulation.{stateOf, readingOf, lastOf, over, byValue, Taken, taken, said, through, score-is, refused-keeps, accepted-reads, accepted-left, simulated, opens-over-c}
+use Rattle.demand3_over_c.proofs.Simulation.{stateOf, readingOf, lastOf, byValue, Taken, taken, said, through, score-is, refused-keeps, accepted-reads, accepted-left, simulated, opens-over-c}
 use Rattle.demand3_over_c.proofs.Start.{Holds, new-holds, z-holds, horizon-holds}
 use Rattle.demand3_over_c.proofs.Witness.{calm-met}
 

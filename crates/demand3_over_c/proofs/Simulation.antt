@@ -1,16 +1,16 @@
 -- A judgment over C is the judgment by value of the decoded state: its answer, the state's bytes and the verdict's. Assumes nothing.
 use mathlib.Core.Path.{_≡_, refl, sym, ap, _∙_, subst}
-use mathlib.Core.Bool.{Bool, true, false, not, cond, _&&_, true≢false}
-use mathlib.Core.List.{List, [], _∷_}
+use mathlib.Core.Bool.{Bool, true, false, not, cond, true≢false}
+use mathlib.Core.List.{List}
 use Prim.Native.Nat.{ℕ, _<_, _≤_}
 use native.Mathlib.Omega.{arith}
-use lib.Dec.{T, leb, eqb}
+use lib.Dec.{T, eqb}
 use lib.IntN.{ℤ}
 use lib.Signed.{mag}
-use lib.ListN.{length, getD}
+use lib.ListN.{length}
 use lib.Ieee.{Float, binary32, fits, eq}
 use lib.Ieee.Bits.{ofBits-fits, is-false}
-use borrow.Author.Tests.{eq-eqb, eqb-true, eqb-false}
+use borrow.Author.Tests.{eqb-true}
 use Rattle.types.specs.Refusals.{number}
 use Rattle.types.specs.declared.Refusal.{Refusal}
 use Rattle.types.specs.declared.Refusal.the-variants.{Discount, Range, Length, NotFinite, ValuesSeen, Count, Horizon, Blocks, Row, Field}
@@ -19,7 +19,6 @@ use Rattle.types.specs.declared.Answer.the-variants as Answers
 use Rattle.basicthresholder.specs.Const.{zero32}
 use Rattle.divector.specs.DiVector.{normalized}
 use Rattle.descriptor.specs.Checks.{answerOf, lengthsOf, sizesOk, rangeOk, lengthsOk, finiteOk, seenOk}
-use Rattle.descriptor.specs.Lent.{Lent}
 use Rattle.descriptor.specs.declared.Reading.{Reading}
 use Rattle.descriptor.specs.declared.LastDescriptor.{LastDescriptor}
 use Rattle.descriptor.proofs.Bounds.{both, sizes}
@@ -37,7 +36,7 @@ use Rattle.layout.specs.Numbers.{le4, f32At}
 use Rattle.layout.specs.Chain.{decodeState, encodeStateOver}
 use Rattle.layout.specs.Readings.{decodeReading, decodeLast}
 use Rattle.verdict_bytes.specs.Bytes.{told, changesState, stored, stateLeft, verdictLeft}
-use Rattle.c_judging.specs.Judging.{codesOk, slicesOk, sizesFit, outcomeOver, stateOver, indexOver, Answered}
+use Rattle.c_judging.specs.Judging.{codesOk, slicesOk, sizesFit, outcomeOver, stateOver, indexOver}
 use Rattle.stored_state.specs.Fits.{StateFits}
 use Rattle.stored_state.proofs.Back.{state-back, state-length}
 use Rattle.stored_state.proofs.Decoded.{decoded-fits, counted-numbers}

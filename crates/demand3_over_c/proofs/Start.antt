@@ -1,8 +1,8 @@
 -- A state that `krcf_new` made and the two setters set, in its bytes. Assumes nothing.
 use mathlib.Core.Path.{_≡_, refl, sym, ap, _∙_, subst}
 use mathlib.Core.Bool.{Bool, true, false, cond, _&&_, true≢false}
-use mathlib.Core.List.{List, [], _∷_}
-use Prim.Native.Nat.{ℕ, zero, suc, _+_, _<_, _≤_}
+use mathlib.Core.List.{List}
+use Prim.Native.Nat.{ℕ, _<_, _≤_}
 use native.Mathlib.Decide.{decLt}
 use native.Mathlib.Omega.{arith}
 use lib.Dec.{T, leb, eqb, leb→le}
@@ -13,7 +13,6 @@ use lib.Ieee.Bits.{ofBits-fits}
 use lib.Ieee.Fits.{div-fits}
 use borrow.Author.Tests.{eq-eqb, eqb-true, eqb-false, le-leb}
 use Rattle.types.specs.Refusals.{number, answered}
-use Rattle.types.specs.declared.Refusal.{Refusal}
 use Rattle.types.specs.declared.Refusal.the-variants as Refusals
 use Rattle.types.specs.declared.Answer.{Answer}
 use Rattle.types.specs.declared.Answer.the-variants as Answers
@@ -22,8 +21,6 @@ use Rattle.deviation.specs.Statistics.{fresh, isDiscount}
 use Rattle.deviation.specs.declared.Deviation.{Deviation}
 use Rattle.basicthresholder.specs.Const.{two64}
 use Rattle.basicthresholder.specs.Updates.{freshThresholder, done, refused, isHorizon, withScoreDifferencing, setScoreDifferencing}
-use Rattle.basicthresholder.specs.declared.BasicThresholder.{BasicThresholder}
-use Rattle.predictorcorrector.specs.Lists.{changed}
 use Rattle.predictorcorrector.specs.State.{new, freshState, freshList, refusedNew, existing, zFactorSet, setHorizon, updated, withThresholder}
 use Rattle.predictorcorrector.specs.declared.PredictorCorrector.{PredictorCorrector}
 use Rattle.predictorcorrector.specs.declared.Updated.{Updated}

@@ -1,23 +1,21 @@
 -- A verdict comes back from its bytes, and they show its opening. Assumes nothing.
 use mathlib.Core.Path.{_≡_, refl, sym, ap, _∙_, subst}
 use mathlib.Core.Bool.{Bool, true, false, not, cond, _&&_, _||_, true≢false}
-use mathlib.Core.List.{List, [], _∷_}
+use mathlib.Core.List.{List}
 use Prim.Native.Nat.{ℕ, _<_}
 use native.Mathlib.Omega.{arith}
 use lib.Dec.{T, eqb}
 use lib.IntN.{ℤ}
 use lib.Signed.{mag}
 use lib.Ieee as Ieee
-use lib.Ieee.{Float, binary32, eq, fits, ofBits}
+use lib.Ieee.{Float, binary32, eq, fits}
 use lib.Ieee.Bits.{ofBits-fits}
 use lib.Ieee.Fits.{cond-fits, add-fits, div-fits}
 use Rattle.util.specs.Util.{maxf32}
-use Rattle.ieee.specs.Round.{narrow}
-use Rattle.types.specs.Codes.{isHeight, modeCode, isNone, isDifferenced}
+use Rattle.types.specs.Codes.{isHeight, modeCode}
 use Rattle.types.specs.declared.TransformMethod.{TransformMethod}
-use Rattle.deviation.specs.Statistics.{mean, deviation}
 use Rattle.basicthresholder.specs.Const.{zero32, one32}
-use Rattle.basicthresholder.specs.Grades.{threshold, primaryThresholdAndGrade, thresholdAndGrade, thresholdAndGradeWithFactor, gradeAgainst, gradedOr, graded, absoluteOf, easedAbsolute, thresholdFrom, thresholdBy, sixteenths, isDeviationReady, intermediateFraction, adjustedFactor, longTermDeviation, surpriseIndex}
+use Rattle.basicthresholder.specs.Grades.{threshold, primaryThresholdAndGrade, thresholdAndGrade, thresholdAndGradeWithFactor, gradeAgainst, gradedOr, graded, absoluteOf, easedAbsolute, thresholdFrom, thresholdBy, sixteenths, isDeviationReady, intermediateFraction}
 use Rattle.basicthresholder.specs.declared.BasicThresholder.{BasicThresholder}
 use Rattle.basicthresholder.specs.declared.Graded.{Graded}
 use Rattle.descriptor.specs.Lent.{Lent}

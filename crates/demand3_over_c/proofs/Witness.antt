@@ -1,14 +1,13 @@
 -- The premises can be met: `krcf_new` makes a state in any 1,310 bytes, and `krcf_detect_and_modify` accepts a calm DISTANCE reading eleven times in turn over it. Assumes nothing.
 use mathlib.Core.Path.{_≡_, refl, sym, ap, ap₂, _∙_, subst}
 use mathlib.Core.Logic.{inr}
-use mathlib.Core.Bool.{Bool, true, false, not, cond, _&&_}
-use mathlib.Core.List.{List, [], _∷_}
+use mathlib.Core.Bool.{Bool, true, false, not, cond}
+use mathlib.Core.List.{List, _∷_}
 use Prim.Native.Nat.{ℕ, zero, suc, _+_, _≤_}
 use native.Mathlib.Omega.{arith}
 use lib.Dec.{T, lit≤}
-use lib.IntN.{pos}
-use lib.ListN.{length, getD, replicate}
-use lib.Ieee.{Float, fin, binary32, binary64, fits, round, add, sub, mul, div, lt, le, eq, ne, ofInt, ofBits}
+use lib.ListN.{length, getD}
+use lib.Ieee.{binary32, binary64, fits, round, add, sub, mul, div, lt, le, eq, ne, ofInt, ofBits}
 use borrow.Author.Tests.{eq-eqb, le-leb}
 use Rattle.ieee.specs.Round.{narrow}
 use Rattle.util.specs.Util.{minf32}
@@ -26,7 +25,7 @@ use Rattle.descriptor.specs.declared.Reading.{Reading}
 use Rattle.descriptor.specs.declared.LastDescriptor.{LastDescriptor}
 use Rattle.predictorcorrector.specs.State as State
 use Rattle.predictorcorrector.specs.State.{new, freshState, freshList, stateCountsOk, runEnded}
-use Rattle.predictorcorrector.specs.Lists.{listCountable, firstCountable, changed}
+use Rattle.predictorcorrector.specs.Lists.{listCountable, firstCountable}
 use Rattle.predictorcorrector.specs.declared.PredictorCorrector.{PredictorCorrector}
 use Rattle.detection.specs.Judging.{verdict, decided, opening, after, entered, updateScore}
 use Rattle.detection.specs.Judged.{outcomeNumber, stateAfter}
@@ -35,12 +34,12 @@ use Rattle.detection.specs.declared.Verdict.the-variants.{Quiet, Corrected, Rai
 use Rattle.detection.specs.declared.Outcome.{Outcome}
 use Rattle.layout.specs.Places.{autoThresholdAt, stateLength, autoAdjustAt}
 use Rattle.layout.specs.Numbers.{le4, f32At, i32At, signed, flagAt}
-use Rattle.layout.specs.Chain.{decodeState, encodeStateOver, stateCodesOk}
+use Rattle.layout.specs.Chain.{decodeState, stateCodesOk}
 use Rattle.layout.specs.Left.{left}
 use Rattle.layout.specs.Readings.{readingCodesOk, lastCodesOk, decodeReading, decodeLast, decodeAnomaly, strategyFrom, methodFrom}
-use Rattle.verdict_bytes.specs.Bytes.{changesState, stored, stateLeft, verdictLeft}
+use Rattle.verdict_bytes.specs.Bytes.{changesState, stored, stateLeft}
 use Rattle.c_chain.specs.States.{chainMade}
-use Rattle.c_judging.specs.Judging.{codesOk, slicesOk, outcomeOver, stateOver, indexOver}
+use Rattle.c_judging.specs.Judging.{codesOk, slicesOk, stateOver}
 use Rattle.demand3_over_c.specs.Calls.{krcf-new, JudgedInTurn, InTurn, Made, zOf, toldOf}
 use Rattle.demand3_over_c.specs.Calm.{nought, one, reading, last, said, judging, judgings, made, eleven}
 use Rattle.demand3.specs.Calm.{buffers}

@@ -2,7 +2,7 @@
 use mathlib.Core.Path.{_≡_, refl, sym, ap, _∙_, subst}
 use mathlib.Core.Bool.{Bool, true, false, cond}
 use mathlib.Core.List.{List}
-use Prim.Native.Nat.{ℕ, zero, suc, _+_, _-_, _≤_, _<_}
+use Prim.Native.Nat.{ℕ, zero, suc, _-_, _≤_, _<_}
 use native.Mathlib.Nat.{not-suc-le-zero}
 use native.Mathlib.Omega.{arith}
 use lib.IntN.{ℤ}
@@ -29,7 +29,7 @@ use Rattle.detection.specs.Const.{zero32}
 use Rattle.detection.specs.Judging.{opening, start, expected, newestOf, candidateState, isDataDrift, isDriftMode, decided, verdict, correctedScore, entered, after}
 use Rattle.detection.specs.Judged.{Judged, outcome, outcomeOf, stateAfter}
 use Rattle.detection.specs.Decided.{noRow, newestExpected, rowAfter, driftOf, decision, Decided}
-use Rattle.detection.specs.Steps.{Branching, Counting, Fitting, rowsCounted, afterRows, stateRows}
+use Rattle.detection.specs.Steps.{Branching, Fitting, rowsCounted, afterRows, stateRows}
 use Rattle.detection.specs.declared.Verdict.{Verdict}
 use Rattle.detection.specs.declared.Verdict.the-variants.{Quiet, Corrected, Raised, Skipped}
 use Rattle.detection.specs.declared.Outcome.{Outcome}

@@ -6,13 +6,13 @@ use mathlib.Core.Logic.{_⊎_, inl, inr}
 use Prim.Native.Nat.{ℕ, zero, suc, _+_, _-_, _≤_, _<_}
 use native.Mathlib.Omega.{arith}
 use lib.Dec.{leb, eqb}
-use lib.ListN.{length, take, drop, getD, length-take, length-drop}
+use lib.ListN.{length, take, drop, getD, length-drop}
 use lib.Seq.{getD-take, getD-drop, take-all, length-take-le, drop-set-lt}
 use lib.Ieee.{Float, nan}
 use borrow.Author.Tests.{le-leb, eq-eqb, ne-eqb}
 use Rattle.attributors.specs.Attributors.{padded}
 use Rattle.attributors.proofs.Laws.{take-padded}
-use Rattle.corrector.specs.Corrector.{expectedPoint, expectedRow}
+use Rattle.corrector.specs.Corrector.{expectedRow}
 use Rattle.corrector.proofs.Kept.{expected-keeps, expected-length}
 use Rattle.corrector.proofs.Rows.{row-is-part}
 use Rattle.descriptor.specs.Lent.{Lent}

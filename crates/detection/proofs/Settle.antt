@@ -11,7 +11,6 @@ use lib.Ieee as Ieee
 use lib.Ieee.{Float, binary32}
 use Rattle.types.specs.declared.Answer.{Answer}
 use Rattle.types.specs.declared.Answer.the-variants as Answers
-use Rattle.types.specs.declared.CorrectionMode.{CorrectionMode}
 use Rattle.types.specs.declared.CorrectionMode.the-variants as Modes
 use Rattle.divector.specs.DiVector.{normalized}
 use Rattle.divector.proofs.Laws.{one-length-true}

@@ -1,16 +1,13 @@
 -- Watches that demand 3 excludes, each by a closed list of twelve accepted readings on which the statement is false. Discount 0, z 3. Assumes nothing.
 use mathlib.Core.Path.{_≡_, refl, subst}
 use mathlib.Core.Logic.{inr}
-use mathlib.Core.Bool.{Bool, false, cond}
+use mathlib.Core.Bool.{Bool}
 use mathlib.Core.List.{List, [], _∷_}
 use Prim.Native.Nat.{ℕ, zero, suc, _*_, _≤_, _<_}
 use native.Mathlib.Omega.{arith}
-use lib.IntN.{pos, negsuc}
 use lib.Dec.{lit≤}
-use lib.Signed.{ltZ}
-use lib.Ieee.{Float, fin, round, add, sub, mul, div, lt, le, eq, ne, ofInt, ofBits}
+use lib.Ieee.{Float, round, add, sub, mul, div, lt, le, eq, ne, ofInt, ofBits}
 use lib.Ieee.Positive.{den-pos}
-use Rattle.basicthresholder.specs.Const.{zero32}
 use Rattle.basicthresholder.specs.declared.BasicThresholder.{BasicThresholder}
 use Rattle.basicthresholder.specs.Grades.{threshold, primaryGrade, primaryThresholdAndGrade, thresholdBy, gradeOver, isDeviationReady, countsReady}
 use Rattle.basicthresholder.specs.Updates.{freshThresholder, primaryCounted, countedOver, countedGap}
@@ -20,7 +17,7 @@ use Rattle.ieee.specs.Round.{narrow}
 use Rattle.util.specs.Util.{minf32}
 use Rattle.ledger.specs.Fractions.{over, fractionOf, plusZero}
 use Rattle.ledger.specs.Ledger.{blank, factor}
-use Rattle.ledger.specs.Statement.{mostReadings, Judged, Told, Shown, Demand3, accepted, Sized, Sizes, showed}
+use Rattle.ledger.specs.Statement.{mostReadings, Judged, accepted, Sized, Sizes}
 use Rattle.ledger.specs.Faithful.{after, raisedOnly, one, three, half, thousand, ones, jump, dip, takes, accepts, shows, Broken, Breaks}
 
 -- ---- grades all 0, whatever its thresholds: the 1024 has to be raised

@@ -2,7 +2,7 @@
 use mathlib.Core.Path.{_≡_, refl, sym, _∙_, subst}
 use mathlib.Core.Bool.{Bool, true, false, not, cond}
 use lib.Dec.{T, lit≤}
-use lib.Ieee.{Float, eq, round, add, sub, mul, div, lt, le, ofInt, ofBits}
+use lib.Ieee.{eq, round, add, sub, mul, div, lt, le, ofInt, ofBits}
 use Rattle.basicthresholder.specs.Const.{zero32}
 use Rattle.basicthresholder.specs.declared.BasicThresholder.{BasicThresholder}
 use Rattle.basicthresholder.specs.Grades.{threshold, thresholdBy}

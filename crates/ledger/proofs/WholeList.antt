@@ -19,7 +19,7 @@ use Rattle.basicthresholder.specs.declared.BasicThresholder.{BasicThresholder}
 use Rattle.basicthresholder.specs.Grades.{primaryThresholdAndGrade, threshold, primaryGrade, isDeviationReady, countsReady}
 use Rattle.ledger.specs.Fractions.{Fraction, over, none, plus, minus, part, larger, Le, plain, fractionOf, plusZero}
 use Rattle.ledger.specs.Ledger.{Ledger, blank, enter, AtOrUnder, AtOrOver, Over}
-use Rattle.ledger.specs.Statement.{closeness, clearance, enoughScores, counted, Told, Judged, Either, Agree, accepted, Sized, Sizes, InBounds, Judge, told, showed}
+use Rattle.ledger.specs.Statement.{closeness, clearance, enoughScores, counted, Told, Judged, Either, Agree, accepted, Sized, Sizes, Judge, told, showed}
 use Rattle.ledger.specs.Theorem.{Laws, New, Theorem}
 use Rattle.ledger.proofs.Factor.{eq-is, zero-num, Discount, discount-of}
 use Rattle.ledger.proofs.OneScore.{compared, openingGrade}

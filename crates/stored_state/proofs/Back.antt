@@ -1,22 +1,21 @@
 -- The chain's state comes back from its bytes, put over any 1,310. Assumes nothing.
 use mathlib.Core.Path.{_≡_, refl, sym, ap, ap₂, _∙_}
 use mathlib.Core.Bool.{Bool, true, false, cond}
-use mathlib.Core.List.{List, [], _∷_, _++_}
+use mathlib.Core.List.{List}
 use Prim.Native.Nat.{ℕ, zero, suc, _+_, _*_, _<_, _≤_, zero-le}
 use native.Mathlib.Nat.{not-suc-le-zero}
 use native.Mathlib.Decide.{decLt}
 use native.Mathlib.Omega.{arith}
 use lib.Dec.{leb, leb→le, T}
-use lib.ListN.{length, getD, set, replicate, length-set, length-replicate, getD-replicate}
+use lib.ListN.{length, getD, set, replicate, length-set, getD-replicate}
 use lib.Seq.{ext-getD, getD-set-same, getD-set-other}
 use Rattle.deviation.specs.Const.{zero64}
 use Rattle.deviation.specs.Statistics.{fresh}
 use Rattle.deviation.specs.declared.Deviation.{Deviation}
-use Rattle.basicthresholder.specs.declared.BasicThresholder.{BasicThresholder}
 use Rattle.predictorcorrector.specs.State.{state}
 use Rattle.predictorcorrector.specs.declared.PredictorCorrector.{PredictorCorrector}
 use Rattle.layout.specs.Places.{deviationLength, thresholderLength, stateLength, autoAdjustAt, runLengthAt, baseDimensionAt, actualAt, expectedAt}
-use Rattle.layout.specs.Numbers.{le4, le8, bytes4, bytes8, f32At, f64At, i32At, flagAt, f32Bytes, f64Bytes, i32Bytes, flagBytes, pasted}
+use Rattle.layout.specs.Numbers.{le4, bytes4, bytes8, flagAt, f32Bytes, f64Bytes, i32Bytes, flagBytes, pasted}
 use Rattle.layout.specs.States.{joined, deviationAt, encodeDeviation, decodeThresholder, encodeThresholder}
 use Rattle.layout.specs.Chain.{entries, filled, emptyList, listAt, decodeState, listOver, encodeHead, encodeStateOver}
 use Rattle.layout.specs.Fits.{DeviationFits, ThresholderFits}

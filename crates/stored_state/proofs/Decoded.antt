@@ -9,7 +9,7 @@ use native.Mathlib.Omega.{arith}
 use lib.Dec.{T, leb, ltb, leb→le}
 use lib.IntN.{ℤ, pos, negsuc}
 use lib.Signed.{mag}
-use lib.ListN.{length, getD, replicate, getD-replicate, length-replicate, List·getD-eq-default}
+use lib.ListN.{length, getD, replicate, getD-replicate, List·getD-eq-default}
 use lib.Ieee.{binary32, binary64}
 use lib.Ieee.Bits.{ofBits-fits}
 use borrow.Author.Tests.{lt-ltb, le-ltb}
@@ -23,10 +23,10 @@ use Rattle.predictorcorrector.specs.declared.PredictorCorrector.{PredictorCorre
 use Rattle.layout.specs.Places.{deviationLength, weightAt, sumSquaredAt, sumAt, lastScoreAt, primaryAt, secondaryAt, thirdAt, absoluteThresholdAt, absoluteScoreFractionAt, lowerThresholdAt, factorAdjustmentThresholdAt, initialThresholdAt, zFactorAt, stateLength, autoAdjustAt, baseDimensionAt, actualAt, expectedAt}
 use Rattle.layout.specs.Numbers.{le4, le8, signed, f32At, f64At, i32At, flagAt}
 use Rattle.layout.specs.States.{deviationAt, decodeThresholder}
-use Rattle.layout.specs.Chain.{entries, emptyList, listAt, decodeState, encodeStateOver}
-use Rattle.layout.specs.Fits.{DeviationFits, ThresholderFits}
+use Rattle.layout.specs.Chain.{entries, emptyList, listAt, decodeState}
+use Rattle.layout.specs.Fits.{DeviationFits}
 use Rattle.stored_state.specs.Fits.{ListFits, StateFits, NumbersFit}
-use Rattle.stored_state.specs.Canonical.{canonical, Plain}
+use Rattle.stored_state.specs.Canonical.{canonical}
 use Rattle.stored_state.specs.RoundTrip.{Stored, RoundTrip}
 use Rattle.stored_state.proofs.Back.{entries-most, filled-length, filled-other, state-length, state-back}
 use Rattle.stored_state.proofs.Again.{le4-small}

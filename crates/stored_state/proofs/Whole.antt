@@ -1,24 +1,22 @@
 -- A decoded state written back over its own bytes: the bytes in canonical form. Assumes nothing.
-use mathlib.Core.Path.{_≡_, refl, sym, ap, ap₂, _∙_, subst}
-use mathlib.Core.Bool.{Bool, true, false, not, cond}
-use mathlib.Core.List.{List, [], _∷_, _++_}
-use Prim.Native.Nat.{ℕ, zero, suc, _+_, _-_, _*_, _<_, _≤_}
-use native.Mathlib.Nat.{not-suc-le-zero}
+use mathlib.Core.Path.{_≡_, refl, sym, ap, ap₂, _∙_}
+use mathlib.Core.List.{List, [], _∷_}
+use Prim.Native.Nat.{ℕ, zero, suc, _+_, _*_, _<_, _≤_}
 use native.Mathlib.Omega.{arith}
-use lib.ListN.{length, getD, length-replicate, replicate, length-append}
+use lib.ListN.{length, getD, replicate, length-append}
 use Rattle.deviation.specs.Const.{zero64}
 use Rattle.deviation.specs.Statistics.{fresh}
 use Rattle.deviation.specs.declared.Deviation.{Deviation}
 use Rattle.layout.specs.Places.{deviationLength, stateLength, autoAdjustAt, baseDimensionAt, actualAt, expectedAt}
-use Rattle.layout.specs.Numbers.{le4, le8, bytes4, bytes8, f32At, f64At, i32At, flagAt, f32Bytes, f64Bytes, i32Bytes, flagBytes, pasted}
+use Rattle.layout.specs.Numbers.{le4, bytes4, bytes8, f32At, i32At, flagAt, f32Bytes, f64Bytes, i32Bytes, flagBytes, pasted}
 use Rattle.layout.specs.States.{joined, deviationAt, encodeDeviation, decodeThresholder, encodeThresholder}
-use Rattle.layout.specs.Chain.{entries, filled, emptyList, listAt, decodeState, listOver, encodeHead, encodeStateOver}
+use Rattle.layout.specs.Chain.{entries, emptyList, listAt, decodeState, listOver, encodeHead, encodeStateOver}
 use Rattle.layout.proofs.Laws.{deviation-length}
 use Rattle.layout.proofs.Pasting.{pasted-length, pastedAll, pasted-all}
 use Rattle.stored_state.specs.Canonical.{Field, single, count, number, flag, statistic, width, canonicalField, canonicalFields, headFields, canonicalStatistic, canonicalList, canonical, PlainStatistic, PlainField, PlainAll, Plain}
-use Rattle.stored_state.proofs.Windows.{Alike, part, front, then, before, behind}
-use Rattle.stored_state.proofs.Back.{entries-most, filled-held, over-length, over-before, over-behind, head-length}
-use Rattle.stored_state.proofs.Again.{later, put-on, single-put, number-put, count-put, flag-put, statistic-put}
+use Rattle.stored_state.proofs.Windows.{Alike, part, front, then, behind}
+use Rattle.stored_state.proofs.Back.{entries-most, filled-held, over-length, over-behind, head-length}
+use Rattle.stored_state.proofs.Again.{put-on, single-put, number-put, count-put, flag-put, statistic-put}
 
 -- The bytes that a decoded field is written in.
 abbrev bytesOf : List ℕ → ℕ → Field → List ℕ

@@ -70,10 +70,11 @@ fn scored(discount: f64) -> (Deviation, Vec<u8>) {
     (rust, state)
 }
 
+/// The number behind a yes.
 fn asked(state: &[u8], call: fn(&[u8], &mut [u8]) -> u8) -> f64 {
-    let mut out = [0xa5; 8];
-    assert_eq!(call(state, &mut out), 0);
-    f64::get(&out)
+    let mut out = [0xa5; 9];
+    assert_eq!((call(state, &mut out), out[0]), (0, 1));
+    f64::get(&out[1..])
 }
 
 fn statistics() -> Vec<Row> {

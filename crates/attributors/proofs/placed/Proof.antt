@@ -5,8 +5,6 @@ use lib.Seq.{set-out}
 use borrow.Author.Needs.{needs}
 use Rattle.attributors.proofs.placed.Statement.{statement}
 use Rattle.attributors.proofs.placed.Tie as tie
-use Rattle.attributors.proofs.placed.Reads as reads
-use Rattle.attributors.proofs.placed.Lts as lts
 
 -- src/lib.rt:56:9
 mul-out : tie.Need-mul-out

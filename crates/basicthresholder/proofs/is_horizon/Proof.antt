@@ -1,6 +1,5 @@
 use mathlib.Core.Path.{refl}
 use Rattle.basicthresholder.specs.Updates.{isHorizon}
-use borrow.Author.Needs.{needs}
 use Rattle.basicthresholder.proofs.is_horizon.Statement.{statement}
 use Rattle.basicthresholder.proofs.is_horizon.Tie as tie
 

@@ -1,13 +1,8 @@
-use mathlib.Core.Path.{_≡_, sym, ap, _∙_}
+use mathlib.Core.Path.{sym, ap, _∙_}
 use Rattle.c_calls.specs.Forest.{askedBy, askedOver}
 use borrow.Author.Needs.{needs}
 use Rattle.c_calls.proofs.asked_over.Statement.{statement}
 use Rattle.c_calls.proofs.asked_over.Tie as tie
-use Rattle.c_calls.proofs.asked_over.Reads as reads
-use Rattle.c_calls.proofs.asked_over.Lts as lts
-use Rattle.c_calls.proofs.refused.Reads as refused-reads
-use Rattle.calls.proofs.asked_of_forest.Reads as asked-of-forest-reads
-use Rattle.layout.proofs.read_call.Reads as read-call-reads
 
 read-call-requires : tie.Need-read-call-requires
 read-call-requires c κs = search needs

@@ -1,4 +1,3 @@
-use mathlib.Core.Path.{_≡_, sym, _∙_}
 use mir.Syntax.{w32}
 use mir.ValLaws.{toZ-ofZ}
 use denote.Ref.{now}
@@ -7,12 +6,6 @@ use Rattle.c_judging.proofs.Steps.{judged-accepted, judged-refused, cal
 use borrow.Author.Needs.{needs}
 use Rattle.c_judging.proofs.krcf_detect_and_modify.Statement.{statement}
 use Rattle.c_judging.proofs.krcf_detect_and_modify.Tie as tie
-use Rattle.c_judging.proofs.krcf_detect_and_modify.Reads as reads
-use Rattle.c_judging.proofs.krcf_detect_and_modify.Lts as lts
-use Rattle.detection.proofs.judge.Reads as judge-reads
-use Rattle.layout.proofs.read_call.Reads as read-call-reads
-use Rattle.types.proofs.Refusal.number.Reads as number-reads
-use Rattle.verdict_bytes.proofs.put_verdict.Reads as put-verdict-reads
 
 read-call-requires : tie.Need-read-call-requires
 read-call-requires c κs = search needs

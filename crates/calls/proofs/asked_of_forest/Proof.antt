@@ -1,4 +1,4 @@
-use mathlib.Core.Path.{sym, ap, _∙_}
+use mathlib.Core.Path.{sym, _∙_}
 use Rattle.calls.specs.Calls.{askedOfForest, askedBy, unasked}
 use borrow.Author.Needs.{needs}
 use Rattle.calls.proofs.asked_of_forest.Statement.{statement}

@@ -1,11 +1,9 @@
-use mathlib.Core.Path.{_≡_, _∙_, ap, sym}
-use mathlib.Core.List.{List}
+use mathlib.Core.Path.{_∙_, ap, sym}
 use denote.Ref.{now}
 use lib.ListN.{length}
-use lib.Ieee.{Float}
 use Rattle.types.specs.declared.Answer.{Answer}
 use Rattle.corrector.specs.Corrector.{expectedPoint}
-use Rattle.calls.specs.Calls.{expectedAnswer, written}
+use Rattle.calls.specs.Calls.{written}
 use Rattle.calls.proofs.Accepted.{expected-fits, done-writes}
 use borrow.Author.Needs.{needs}
 use Rattle.calls.proofs.expected_point.Statement.{statement}

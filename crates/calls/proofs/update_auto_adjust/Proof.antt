@@ -1,7 +1,6 @@
-use mathlib.Core.Path.{_≡_, _∙_, ap, sym}
+use mathlib.Core.Path.{_∙_, ap, sym}
 use denote.Ref.{now}
 use Rattle.types.specs.declared.Answer.{Answer}
-use Rattle.predictorcorrector.specs.declared.PredictorCorrector.{PredictorCorrector}
 use Rattle.calls.specs.Calls.{updateAutoAdjust, adjustedBy}
 use borrow.Author.Needs.{needs}
 use Rattle.calls.proofs.update_auto_adjust.Statement.{statement}

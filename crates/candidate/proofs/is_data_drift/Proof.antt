@@ -2,15 +2,11 @@ use mathlib.Core.Path.{_∙_, ap}
 use mathlib.Core.Bool.{Bool, _&&_}
 use lib.Dec.{ltb}
 use denote.Ref.{now}
-use Rattle.candidate.specs.Candidate.{nearNext, driftAt, isCandidate}
+use Rattle.candidate.specs.Candidate.{nearNext, driftAt}
 use Rattle.candidate.proofs.Conditions.{and-flat}
 use borrow.Author.Needs.{needs}
 use Rattle.candidate.proofs.is_data_drift.Statement.{statement}
 use Rattle.candidate.proofs.is_data_drift.Tie as tie
-use Rattle.candidate.proofs.is_data_drift.Reads as reads
-use Rattle.candidate.proofs.is_data_drift.Lts as lts
-use Rattle.candidate.proofs.is_candidate.Reads as is-candidate-reads
-use Rattle.candidate.proofs.is_drift_at.Reads as is-drift-at-reads
 
 is-candidate-requires : tie.Need-is-candidate-requires
 is-candidate-requires c κs = search needs

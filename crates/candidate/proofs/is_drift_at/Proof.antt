@@ -1,5 +1,5 @@
 use mathlib.Core.Path.{_∙_, ap}
-use Prim.Native.Nat.{ℕ, _-_}
+use Prim.Native.Nat.{ℕ}
 use denote.Ref.{now}
 use lib.ListN.{getD}
 use lib.Ieee.{nan}
@@ -8,12 +8,6 @@ use Rattle.candidate.specs.Candidate.{nearMeans, nearNext}
 use borrow.Author.Needs.{needs}
 use Rattle.candidate.proofs.is_drift_at.Statement.{statement}
 use Rattle.candidate.proofs.is_drift_at.Tie as tie
-use Rattle.candidate.proofs.is_drift_at.Reads as reads
-use Rattle.candidate.proofs.is_drift_at.Lts as lts
-use Rattle.candidate.proofs.last_counted.Reads as last-counted-reads
-use Rattle.candidate.proofs.last_place.Reads as last-place-reads
-use Rattle.candidate.proofs.near_means.Reads as near-means-reads
-use Rattle.candidate.proofs.value_at.Reads as value-at-reads
 
 last-place-requires : tie.Need-last-place-requires
 last-place-requires c κs = search needs

@@ -3,10 +3,6 @@ use Rattle.deviation.specs.Statistics.{counted}
 use borrow.Author.Needs.{needs}
 use Rattle.candidate.proofs.last_counted.Statement.{statement}
 use Rattle.candidate.proofs.last_counted.Tie as tie
-use Rattle.candidate.proofs.last_counted.Reads as reads
-use Rattle.candidate.proofs.last_counted.Lts as lts
-use Rattle.deviation.proofs.Deviation.counted.Reads as counted-reads
-use Rattle.std.proofs.num.f32_to_f64_with_nan.Reads as f32-to-f64-with-nan-reads
 
 f32-to-f64-with-nan-requires : tie.Need-f32-to-f64-with-nan-requires
 f32-to-f64-with-nan-requires c κs = search needs

@@ -1,7 +1,6 @@
 use borrow.Author.Needs.{needs}
 use Rattle.course.proofs.counted.Statement.{statement}
 use Rattle.course.proofs.counted.Tie as tie
-use Rattle.course.proofs.counted.Reads as reads
 
 abbrev Inv-loop : tie.InvT-loop
 Inv-loop score times out₀ left₀ out left = Unit {0}

@@ -1,5 +1,4 @@
 use borrow.Author.Needs.{needs}
-use mathlib.Core.Path.{_∙_, sym}
 use Rattle.descriptor.specs.Checks.{lastFinite}
 use Rattle.descriptor.proofs.last_finite.Statement.{statement}
 use Rattle.descriptor.proofs.last_finite.Tie as tie

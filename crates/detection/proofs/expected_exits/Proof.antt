@@ -16,15 +16,6 @@ use Rattle.detection.specs.declared.Outcome.the-variants.{Accepted}
 use borrow.Author.Needs.{needs}
 use Rattle.detection.proofs.expected_exits.Statement.{statement}
 use Rattle.detection.proofs.expected_exits.Tie as tie
-use Rattle.detection.proofs.expected_exits.Reads as reads
-use Rattle.detection.proofs.expected_exits.Lts as lts
-use Rattle.corrector.proofs.expected_row.Reads as expected-row-reads
-use Rattle.detection.proofs.is_drift.Reads as is-drift-reads
-use Rattle.detection.proofs.newest_with.Reads as newest-with-reads
-use Rattle.detection.proofs.relative_index.Reads as relative-index-reads
-use Rattle.detection.proofs.within_expected.Reads as within-expected-reads
-use Rattle.detection.proofs.without_row.Reads as without-row-reads
-use Rattle.scoring.proofs.write_raised.Reads as write-raised-reads
 
 expected-row-requires : tie.Need-expected-row-requires
 expected-row-requires c κs = search needs

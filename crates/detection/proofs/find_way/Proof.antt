@@ -8,13 +8,6 @@ use Rattle.detection.specs.Steps.{passing, Accepting}
 use borrow.Author.Needs.{needs}
 use Rattle.detection.proofs.find_way.Statement.{statement}
 use Rattle.detection.proofs.find_way.Tie as tie
-use Rattle.detection.proofs.find_way.Reads as reads
-use Rattle.detection.proofs.find_way.Lts as lts
-use Rattle.detection.proofs.noise_pass.Reads as noise-pass-reads
-use Rattle.scoring.proofs.corrected_quiet.Reads as corrected-quiet-reads
-use Rattle.scoring.proofs.gap.Reads as gap-reads
-use Rattle.scoring.proofs.is_skipped.Reads as is-skipped-reads
-use Rattle.scoring.proofs.opening.Reads as opening-reads
 
 enum-known-answer : tie.Need-enum-known-answer
 enum-known-answer c = search needs

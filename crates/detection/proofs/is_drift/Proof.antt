@@ -10,9 +10,6 @@ use Rattle.detection.proofs.Work.{tail-is}
 use borrow.Author.Needs.{needs}
 use Rattle.detection.proofs.is_drift.Statement.{statement}
 use Rattle.detection.proofs.is_drift.Tie as tie
-use Rattle.detection.proofs.is_drift.Reads as reads
-use Rattle.detection.proofs.is_drift.Lts as lts
-use Rattle.candidate.proofs.is_data_drift.Reads as is-data-drift-reads
 
 sub-at : tie.Need-sub-at
 sub-at c = search needs

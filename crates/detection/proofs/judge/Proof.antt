@@ -11,12 +11,6 @@ use Rattle.detection.specs.declared.Outcome.the-variants.{Accepted, Refu
 use borrow.Author.Needs.{needs}
 use Rattle.detection.proofs.judge.Statement.{statement}
 use Rattle.detection.proofs.judge.Tie as tie
-use Rattle.detection.proofs.judge.Reads as reads
-use Rattle.detection.proofs.judge.Lts as lts
-use Rattle.descriptor.proofs.answer.Reads as answer-reads
-use Rattle.detection.proofs.find_way.Reads as find-way-reads
-use Rattle.detection.proofs.past_noise.Reads as past-noise-reads
-use Rattle.detection.proofs.without_row.Reads as without-row-reads
 
 answer-requires : tie.Need-answer-requires
 answer-requires c κs = search needs

@@ -12,15 +12,6 @@ use Rattle.detection.specs.declared.Outcome.the-variants.{Accepted}
 use borrow.Author.Needs.{needs}
 use Rattle.detection.proofs.past_noise.Statement.{statement}
 use Rattle.detection.proofs.past_noise.Tie as tie
-use Rattle.detection.proofs.past_noise.Reads as reads
-use Rattle.detection.proofs.past_noise.Lts as lts
-use Rattle.detection.proofs.block_start.Reads as block-start-reads
-use Rattle.detection.proofs.box_of.Reads as box-of-reads
-use Rattle.detection.proofs.expected_exits.Reads as expected-exits-reads
-use Rattle.detection.proofs.without_row.Reads as without-row-reads
-use Rattle.scoring.proofs.anomaly_block.Reads as anomaly-block-reads
-use Rattle.scoring.proofs.auto_explained.Reads as auto-explained-reads
-use Rattle.scoring.proofs.explained_by_last.Reads as explained-by-last-reads
 
 anomaly-block-requires : tie.Need-anomaly-block-requires
 anomaly-block-requires c κs = search needs

@@ -7,9 +7,6 @@ use Rattle.uncertainty_box.specs.Box.{withinUnertaintyBox}
 use borrow.Author.Needs.{needs}
 use Rattle.detection.proofs.within_expected.Statement.{statement}
 use Rattle.detection.proofs.within_expected.Tie as tie
-use Rattle.detection.proofs.within_expected.Reads as reads
-use Rattle.detection.proofs.within_expected.Lts as lts
-use Rattle.uncertainty_box.proofs.within_unertainty_box.Reads as within-unertainty-box-reads
 
 add-end : tie.Need-add-end
 add-end c = search needs

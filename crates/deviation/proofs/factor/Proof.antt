@@ -1,7 +1,4 @@
 use Rattle.deviation.specs.Statistics.{factor}
-use mathlib.Core.Path.{_∙_, ap}
-use lib.IntN.{ℤ, pos, _+ℤ_}
-use lib.Ieee.{ofInt, binary64}
 use mir.Syntax.{w32}
 use mir.ValLaws.{toZ-ofZ}
 use borrow.Author.Needs.{needs}

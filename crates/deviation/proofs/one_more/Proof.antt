@@ -1,5 +1,4 @@
-use mathlib.Core.Path.{_∙_, ap, ap₂, sym, subst}
-use lib.IntN.{ℤ, pos, _+ℤ_}
+use mathlib.Core.Path.{_∙_, sym, subst}
 use lib.Dec.{T}
 use mir.Syntax.{w32}
 use mir.ValLaws.{toZ-ofZ}

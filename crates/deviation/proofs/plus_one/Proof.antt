@@ -1,4 +1,3 @@
-use mathlib.Core.Path.{_∙_}
 use lib.IntN.{pos, _+ℤ_}
 use mir.Syntax.{w32}
 use mir.ValLaws.{toZ-ofZ}

@@ -1,15 +1,9 @@
-use mathlib.Core.Path.{_∙_, sym, ap}
+use mathlib.Core.Path.{_∙_, sym}
 use denote.Ref.{now}
-use Rattle.predictorcorrector.specs.State.{runGrown}
-use Rattle.predictorcorrector.specs.declared.PredictorCorrector.{PredictorCorrector}
-use Rattle.detection.specs.Judging.{correctedScore, entered}
-use Rattle.detection.specs.Steps.{afterRows}
 use Rattle.judging.proofs.Rows.{after-drift, after-adjusted, after-raised, after-quietly, after-skipped}
 use borrow.Author.Needs.{needs}
 use Rattle.judging.proofs.after.Statement.{statement}
 use Rattle.judging.proofs.after.Tie as tie
-use Rattle.judging.proofs.after.Reads as reads
-use Rattle.judging.proofs.after.Lts as lts
 
 enum-told : tie.Need-enum-told
 enum-told c = search needs

@@ -7,11 +7,6 @@ use Rattle.detection.proofs.ByState.{fitting, judged}
 use borrow.Author.Needs.{needs}
 use Rattle.judging.proofs.detect_and_modify.Statement.{statement}
 use Rattle.judging.proofs.detect_and_modify.Tie as tie
-use Rattle.judging.proofs.detect_and_modify.Reads as reads
-use Rattle.judging.proofs.detect_and_modify.Lts as lts
-use Rattle.detection.proofs.judge.Reads as judge-reads
-use Rattle.judging.proofs.standing_of.Reads as standing-of-reads
-use Rattle.judging.proofs.state_after.Reads as state-after-reads
 
 standing-of-requires : tie.Need-standing-of-requires
 standing-of-requires c κs = search needs

@@ -11,9 +11,6 @@ use Rattle.detection.proofs.Work.{tail-is}
 use borrow.Author.Needs.{needs}
 use Rattle.judging.proofs.rows_counted.Statement.{statement}
 use Rattle.judging.proofs.rows_counted.Tie as tie
-use Rattle.judging.proofs.rows_counted.Reads as reads
-use Rattle.judging.proofs.rows_counted.Lts as lts
-use Rattle.candidate.proofs.count_rows.Reads as count-rows-reads
 
 sub-at : tie.Need-sub-at
 sub-at c = search needs

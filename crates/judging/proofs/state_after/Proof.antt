@@ -6,8 +6,6 @@ use Rattle.detection.specs.declared.Outcome.{Outcome}
 use borrow.Author.Needs.{needs}
 use Rattle.judging.proofs.state_after.Statement.{statement}
 use Rattle.judging.proofs.state_after.Tie as tie
-use Rattle.judging.proofs.state_after.Reads as reads
-use Rattle.judging.proofs.state_after.Lts as lts
 
 enum-known-outcome : tie.Need-enum-known-outcome
 enum-known-outcome c = search needs

@@ -1,6 +1,3 @@
-use mathlib.Core.Path.{_≡_, _∙_, ap}
-use mathlib.Core.Bool.{Bool}
-use Prim.Native.Nat.{ℕ}
 use denote.Ref.{now}
 use lib.Dec.{ltb}
 use Rattle.descriptor.proofs.Bounds.{both}
@@ -10,15 +7,6 @@ use Rattle.layout.specs.Chain.{decodeState}
 use borrow.Author.Needs.{needs}
 use Rattle.layout.proofs.adjust.Statement.{statement}
 use Rattle.layout.proofs.adjust.Tie as tie
-use Rattle.layout.proofs.adjust.Reads as reads
-use Rattle.layout.proofs.adjust.Lts as lts
-use Rattle.layout.proofs.count_list.Reads as count-list-reads
-use Rattle.layout.proofs.enter.Reads as enter-reads
-use Rattle.layout.proofs.flag_at.Reads as flag-at-reads
-use Rattle.layout.proofs.put_entered.Reads as put-entered-reads
-use Rattle.layout.proofs.read4.Reads as read4-reads
-use Rattle.layout.proofs.settle_list.Reads as settle-list-reads
-use Rattle.predictorcorrector.proofs.longer_run.Reads as longer-run-reads
 
 flag-at-requires : tie.Need-flag-at-requires
 flag-at-requires c κs = search needs

@@ -2,11 +2,6 @@ use Rattle.layout.specs.Call.{codesOk}
 use borrow.Author.Needs.{needs}
 use Rattle.layout.proofs.codes_ok.Statement.{statement}
 use Rattle.layout.proofs.codes_ok.Tie as tie
-use Rattle.layout.proofs.codes_ok.Reads as reads
-use Rattle.layout.proofs.codes_ok.Lts as lts
-use Rattle.layout.proofs.last_codes_ok.Reads as last-codes-ok-reads
-use Rattle.layout.proofs.reading_codes_ok.Reads as reading-codes-ok-reads
-use Rattle.layout.proofs.state_codes_ok.Reads as state-codes-ok-reads
 
 state-codes-ok-requires : tie.Need-state-codes-ok-requires
 state-codes-ok-requires c κs = search needs

@@ -1,5 +1,4 @@
-use mathlib.Core.Path.{_≡_, _∙_, ap}
-use mathlib.Core.Bool.{Bool}
+use mathlib.Core.Path.{_∙_, ap}
 use Prim.Native.Nat.{ℕ}
 use denote.Ref.{now}
 use Rattle.layout.specs.InPlace.{runAfter}
@@ -9,13 +8,6 @@ use Rattle.layout.specs.Chain.{decodeState}
 use borrow.Author.Needs.{needs}
 use Rattle.layout.proofs.count.Statement.{statement}
 use Rattle.layout.proofs.count.Tie as tie
-use Rattle.layout.proofs.count.Reads as reads
-use Rattle.layout.proofs.count.Lts as lts
-use Rattle.layout.proofs.count_list.Reads as count-list-reads
-use Rattle.layout.proofs.flag_at.Reads as flag-at-reads
-use Rattle.layout.proofs.put_entered.Reads as put-entered-reads
-use Rattle.layout.proofs.read4.Reads as read4-reads
-use Rattle.layout.proofs.run_after.Reads as run-after-reads
 
 flag-at-requires : tie.Need-flag-at-requires
 flag-at-requires c κs = search needs

@@ -1,4 +1,4 @@
-use mathlib.Core.Path.{_≡_, _∙_, ap₂, refl}
+use mathlib.Core.Path.{_∙_, ap₂, refl}
 use mathlib.Core.Bool.{Bool, _&&_}
 use Prim.Native.Nat.{ℕ}
 use lib.Dec.{leb}
@@ -9,13 +9,6 @@ use Rattle.layout.proofs.InPlace.{counts-are}
 use borrow.Author.Needs.{needs}
 use Rattle.layout.proofs.counts_ok_of.Statement.{statement}
 use Rattle.layout.proofs.counts_ok_of.Tie as tie
-use Rattle.layout.proofs.counts_ok_of.Reads as reads
-use Rattle.layout.proofs.counts_ok_of.Lts as lts
-use Rattle.layout.proofs.counts_at.Reads as counts-at-reads
-use Rattle.layout.proofs.entries.Reads as entries-reads
-use Rattle.layout.proofs.flag_at.Reads as flag-at-reads
-use Rattle.layout.proofs.read4.Reads as read4-reads
-use Rattle.layout.proofs.thresholder_counts_ok.Reads as thresholder-counts-ok-reads
 
 flag-at-requires : tie.Need-flag-at-requires
 flag-at-requires c κs = search needs

@@ -1,6 +1,3 @@
-use mathlib.Core.Path.{_≡_, _∙_, ap}
-use mathlib.Core.Bool.{Bool}
-use Prim.Native.Nat.{ℕ}
 use denote.Ref.{now}
 use Rattle.layout.proofs.InPlace.{ended-lists, ended-entered}
 use Rattle.layout.specs.Parts.{entering}
@@ -8,13 +5,6 @@ use Rattle.layout.specs.Chain.{decodeState}
 use borrow.Author.Needs.{needs}
 use Rattle.layout.proofs.end.Statement.{statement}
 use Rattle.layout.proofs.end.Tie as tie
-use Rattle.layout.proofs.end.Reads as reads
-use Rattle.layout.proofs.end.Lts as lts
-use Rattle.layout.proofs.enter.Reads as enter-reads
-use Rattle.layout.proofs.flag_at.Reads as flag-at-reads
-use Rattle.layout.proofs.put_entered.Reads as put-entered-reads
-use Rattle.layout.proofs.read4.Reads as read4-reads
-use Rattle.layout.proofs.reset_list.Reads as reset-list-reads
 
 flag-at-requires : tie.Need-flag-at-requires
 flag-at-requires c κs = search needs

@@ -1,7 +1,6 @@
 use borrow.Author.Tests.{le-leb, lt-leb}
 use native.Mathlib.Omega.{arith}
 use Rattle.layout.specs.Chain.{entries}
-use borrow.Author.Needs.{needs}
 use Rattle.layout.proofs.entries.Statement.{statement}
 use Rattle.layout.proofs.entries.Tie as tie
 

@@ -1,12 +1,8 @@
-use mathlib.Core.Path.{_≡_, sym, _∙_}
+use mathlib.Core.Path.{sym, _∙_}
 use Rattle.layout.specs.Parts.{primaryScore}
 use borrow.Author.Needs.{needs}
 use Rattle.layout.proofs.primary_score.Statement.{statement}
 use Rattle.layout.proofs.primary_score.Tie as tie
-use Rattle.layout.proofs.primary_score.Reads as reads
-use Rattle.layout.proofs.primary_score.Lts as lts
-use Rattle.types.proofs.ScoringStrategy.is_height.Reads as is-height-reads
-use Rattle.util.proofs.minf32.Reads as minf32-reads
 
 is-height-requires : tie.Need-is-height-requires
 is-height-requires c κs = search needs

@@ -8,11 +8,6 @@ use Rattle.layout.proofs.InPlace.{head-pasted}
 use borrow.Author.Needs.{needs}
 use Rattle.layout.proofs.put_entered.Statement.{statement}
 use Rattle.layout.proofs.put_entered.Tie as tie
-use Rattle.layout.proofs.put_entered.Reads as reads
-use Rattle.layout.proofs.put_entered.Lts as lts
-use Rattle.layout.proofs.flag_byte.Reads as flag-byte-reads
-use Rattle.layout.proofs.put4.Reads as put4-reads
-use Rattle.layout.proofs.put_scores.Reads as put-scores-reads
 
 put-scores-requires : tie.Need-put-scores-requires
 unfolding decodeState

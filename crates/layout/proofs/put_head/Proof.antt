@@ -5,11 +5,6 @@ use Rattle.layout.proofs.InPlace.{head-pasted}
 use borrow.Author.Needs.{needs}
 use Rattle.layout.proofs.put_head.Statement.{statement}
 use Rattle.layout.proofs.put_head.Tie as tie
-use Rattle.layout.proofs.put_head.Reads as reads
-use Rattle.layout.proofs.put_head.Lts as lts
-use Rattle.layout.proofs.flag_byte.Reads as flag-byte-reads
-use Rattle.layout.proofs.put4.Reads as put4-reads
-use Rattle.layout.proofs.put_thresholder.Reads as put-thresholder-reads
 
 put-thresholder-requires : tie.Need-put-thresholder-requires
 put-thresholder-requires c κs = search needs

@@ -1,4 +1,4 @@
-use mathlib.Core.Path.{_≡_, _∙_, ap, ap₂}
+use mathlib.Core.Path.{_∙_, ap, ap₂}
 use mir.Syntax.{w32}
 use mir.ValLaws.{toZ-ofZ}
 use native.Mathlib.Omega.{arith}
@@ -12,16 +12,6 @@ use Rattle.layout.specs.Parts.{scored}
 use borrow.Author.Needs.{needs}
 use Rattle.layout.proofs.put_scored.Statement.{statement}
 use Rattle.layout.proofs.put_scored.Tie as tie
-use Rattle.layout.proofs.put_scored.Reads as reads
-use Rattle.layout.proofs.put_scored.Lts as lts
-use Rattle.basicthresholder.proofs.counted_over.Reads as counted-over-reads
-use Rattle.deviation.proofs.Deviation.counted.Reads as counted-reads
-use Rattle.deviation.proofs.one_more.Reads as one-more-reads
-use Rattle.layout.proofs.deviation_at.Reads as deviation-at-reads
-use Rattle.layout.proofs.f32_at.Reads as f32-at-reads
-use Rattle.layout.proofs.flag_at.Reads as flag-at-reads
-use Rattle.layout.proofs.i32_at.Reads as i32-at-reads
-use Rattle.layout.proofs.put_thresholder.Reads as put-thresholder-reads
 
 deviation-at-requires : tie.Need-deviation-at-requires
 deviation-at-requires c κs = search needs

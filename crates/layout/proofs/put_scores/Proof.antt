@@ -1,4 +1,4 @@
-use mathlib.Core.Path.{_≡_, _∙_, ap, ap₂}
+use mathlib.Core.Path.{_∙_, ap, ap₂}
 use denote.Floats.{passes}
 use denote.Ref.{now}
 use lib.Ieee.{binary32}
@@ -12,14 +12,6 @@ use Rattle.layout.proofs.InPlace.{by-parts}
 use borrow.Author.Needs.{needs}
 use Rattle.layout.proofs.put_scores.Statement.{statement}
 use Rattle.layout.proofs.put_scores.Tie as tie
-use Rattle.layout.proofs.put_scores.Reads as reads
-use Rattle.layout.proofs.put_scores.Lts as lts
-use Rattle.layout.proofs.deviation_at.Reads as deviation-at-reads
-use Rattle.layout.proofs.primary_score.Reads as primary-score-reads
-use Rattle.layout.proofs.put_scored.Reads as put-scored-reads
-use Rattle.layout.proofs.second_after.Reads as second-after-reads
-use Rattle.predictorcorrector.proofs.height_score.Reads as height-score-reads
-use Rattle.std.proofs.num.f32_to_f64_with_nan.Reads as f32-to-f64-with-nan-reads
 
 primary-score-requires : tie.Need-primary-score-requires
 primary-score-requires c κs = search needs

@@ -2,9 +2,6 @@ use Rattle.layout.specs.InPlace.{runAfter}
 use borrow.Author.Needs.{needs}
 use Rattle.layout.proofs.run_after.Statement.{statement}
 use Rattle.layout.proofs.run_after.Tie as tie
-use Rattle.layout.proofs.run_after.Reads as reads
-use Rattle.layout.proofs.run_after.Lts as lts
-use Rattle.predictorcorrector.proofs.longer_run.Reads as longer-run-reads
 
 longer-run-requires : tie.Need-longer-run-requires
 longer-run-requires c κs = search needs

@@ -4,9 +4,6 @@ use Rattle.layout.specs.Chain.{decodeState}
 use borrow.Author.Needs.{needs}
 use Rattle.layout.proofs.run_length.Statement.{statement}
 use Rattle.layout.proofs.run_length.Tie as tie
-use Rattle.layout.proofs.run_length.Reads as reads
-use Rattle.layout.proofs.run_length.Lts as lts
-use Rattle.layout.proofs.read4.Reads as read4-reads
 
 read4-requires : tie.Need-read4-requires
 read4-requires c κs = search needs

@@ -1,13 +1,8 @@
-use mathlib.Core.Path.{_≡_, sym, _∙_}
+use mathlib.Core.Path.{sym, _∙_}
 use Rattle.layout.specs.Parts.{secondAfter}
 use borrow.Author.Needs.{needs}
 use Rattle.layout.proofs.second_after.Statement.{statement}
 use Rattle.layout.proofs.second_after.Tie as tie
-use Rattle.layout.proofs.second_after.Reads as reads
-use Rattle.layout.proofs.second_after.Lts as lts
-use Rattle.deviation.proofs.Deviation.counted.Reads as counted-reads
-use Rattle.std.proofs.num.f32_to_f64_with_nan.Reads as f32-to-f64-with-nan-reads
-use Rattle.types.proofs.ScoringStrategy.is_height.Reads as is-height-reads
 
 is-height-requires : tie.Need-is-height-requires
 is-height-requires c κs = search needs

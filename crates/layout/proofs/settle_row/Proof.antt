@@ -3,9 +3,6 @@ use Rattle.layout.specs.Parts.{rowKeptOver}
 use borrow.Author.Needs.{needs}
 use Rattle.layout.proofs.settle_row.Statement.{statement}
 use Rattle.layout.proofs.settle_row.Tie as tie
-use Rattle.layout.proofs.settle_row.Reads as reads
-use Rattle.layout.proofs.settle_row.Lts as lts
-use Rattle.layout.proofs.settle_list.Reads as settle-list-reads
 
 settle-list-requires : tie.Need-settle-list-requires
 settle-list-requires c κs = search needs

@@ -5,11 +5,6 @@ use Rattle.layout.specs.Readings.{decodeReading}
 use borrow.Author.Needs.{needs}
 use Rattle.layout.proofs.sizes_fit.Statement.{statement}
 use Rattle.layout.proofs.sizes_fit.Tie as tie
-use Rattle.layout.proofs.sizes_fit.Reads as reads
-use Rattle.layout.proofs.sizes_fit.Lts as lts
-use Rattle.descriptor.proofs.range_ok.Reads as range-ok-reads
-use Rattle.descriptor.proofs.sizes_ok.Reads as sizes-ok-reads
-use Rattle.layout.proofs.size_at.Reads as size-at-reads
 
 size-at-requires : tie.Need-size-at-requires
 size-at-requires c κs = search needs

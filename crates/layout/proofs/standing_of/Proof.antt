@@ -3,14 +3,6 @@ use Rattle.layout.proofs.InPlace.{standing-is}
 use borrow.Author.Needs.{needs}
 use Rattle.layout.proofs.standing_of.Statement.{statement}
 use Rattle.layout.proofs.standing_of.Tie as tie
-use Rattle.layout.proofs.standing_of.Reads as reads
-use Rattle.layout.proofs.standing_of.Lts as lts
-use Rattle.layout.proofs.counts_ok_of.Reads as counts-ok-of-reads
-use Rattle.layout.proofs.entries.Reads as entries-reads
-use Rattle.layout.proofs.flag_at.Reads as flag-at-reads
-use Rattle.layout.proofs.last_entry.Reads as last-entry-reads
-use Rattle.layout.proofs.read4.Reads as read4-reads
-use Rattle.layout.proofs.thresholder_of.Reads as thresholder-of-reads
 
 flag-at-requires : tie.Need-flag-at-requires
 flag-at-requires c κs = search needs

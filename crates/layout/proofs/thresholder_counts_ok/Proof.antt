@@ -1,4 +1,4 @@
-use mathlib.Core.Path.{_≡_, _∙_, ap}
+use mathlib.Core.Path.{_∙_, ap}
 use mathlib.Core.Bool.{_&&_}
 use mir.Syntax.{w32}
 use mir.ValLaws.{toZ-ofZ}
@@ -8,10 +8,6 @@ use Rattle.layout.specs.States.{decodeThresholder, deviationAt}
 use borrow.Author.Needs.{needs}
 use Rattle.layout.proofs.thresholder_counts_ok.Statement.{statement}
 use Rattle.layout.proofs.thresholder_counts_ok.Tie as tie
-use Rattle.layout.proofs.thresholder_counts_ok.Reads as reads
-use Rattle.layout.proofs.thresholder_counts_ok.Lts as lts
-use Rattle.deviation.proofs.countable.Reads as countable-reads
-use Rattle.layout.proofs.i32_at.Reads as i32-at-reads
 
 i32-at-requires : tie.Need-i32-at-requires
 i32-at-requires c κs = search needs

@@ -1,5 +1,4 @@
-use mathlib.Core.Path.{_≡_, sym, _∙_, ap}
-use mathlib.Core.Bool.{true, _&&_}
+use mathlib.Core.Path.{sym, _∙_, ap}
 use native.Mathlib.Omega.{arith}
 use lib.Dec.{leb}
 use lib.ListN.{length}
@@ -13,10 +12,6 @@ use Rattle.layout.proofs.InPlace.{fitting}
 use borrow.Author.Needs.{needs}
 use Rattle.layout.proofs.write_counted.Statement.{statement}
 use Rattle.layout.proofs.write_counted.Tie as tie
-use Rattle.layout.proofs.write_counted.Reads as reads
-use Rattle.layout.proofs.write_counted.Lts as lts
-use Rattle.layout.proofs.count.Reads as count-reads
-use Rattle.layout.proofs.reading_answer.Reads as reading-answer-reads
 
 reading-answer-requires : tie.Need-reading-answer-requires
 reading-answer-requires c κs = search needs

@@ -1,5 +1,3 @@
-use lib.Ieee.{Float}
-use Rattle.predictorcorrector.specs.Lists.{stepped}
 use Rattle.deviation.specs.Const.{zero64}
 use borrow.Author.Needs.{needs}
 use mathlib.Core.Path.{_≡_, _∙_, ap, ap₂, refl}

@@ -1,5 +1,4 @@
 use mathlib.Core.Path.{_∙_, ap}
-use lib.Ieee.{Float}
 use Rattle.basicthresholder.specs.declared.BasicThresholder.{BasicThresholder}
 use Rattle.basicthresholder.specs.declared.Updated.{Updated}
 use Rattle.basicthresholder.specs.Updates.{setScoreDifferencing}

@@ -9,7 +9,6 @@ use Rattle.score_lines.specs.Feeding.{closed, closing}
 use borrow.Author.Needs.{needs}
 use Rattle.score_lines.proofs.close.Statement.{statement}
 use Rattle.score_lines.proofs.close.Tie as tie
-use Rattle.score_lines.proofs.close.Reads as reads
 
 returns : tie.Need-returns
 unfolding closed closing

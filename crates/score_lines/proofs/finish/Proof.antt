@@ -2,7 +2,6 @@ use Rattle.score_lines.proofs.Parts.{prints}
 use borrow.Author.Needs.{needs}
 use Rattle.score_lines.proofs.finish.Statement.{statement}
 use Rattle.score_lines.proofs.finish.Tie as tie
-use Rattle.score_lines.proofs.finish.Reads as reads
 
 close-requires : tie.Need-close-requires
 close-requires c κs = search needs

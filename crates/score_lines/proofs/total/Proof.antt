@@ -6,7 +6,6 @@ use Rattle.score_lines.specs.Feeding.{totalRun, totalSaid}
 use borrow.Author.Needs.{needs}
 use Rattle.score_lines.proofs.total.Statement.{statement}
 use Rattle.score_lines.proofs.total.Tie as tie
-use Rattle.score_lines.proofs.total.Reads as reads
 
 returns : tie.Need-returns
 unfolding totalRun totalSaid

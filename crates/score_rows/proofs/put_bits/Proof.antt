@@ -6,7 +6,6 @@ use Rattle.score_rows.specs.Text.{bits}
 use borrow.Author.Needs.{needs}
 use Rattle.score_rows.proofs.put_bits.Statement.{statement}
 use Rattle.score_rows.proofs.put_bits.Tie as tie
-use Rattle.score_rows.proofs.put_bits.Reads as reads
 
 f32-to-bits-requires : tie.Need-f32-to-bits-requires
 f32-to-bits-requires c κs = search needs

@@ -5,7 +5,6 @@ use Rattle.score_rows.specs.Text.{counts}
 use borrow.Author.Needs.{needs}
 use Rattle.score_rows.proofs.put_counts.Statement.{statement}
 use Rattle.score_rows.proofs.put_counts.Tie as tie
-use Rattle.score_rows.proofs.put_counts.Reads as reads
 
 slice-aggregate-put-all : tie.Need-slice-aggregate-put-all
 slice-aggregate-put-all c = search needs

@@ -5,7 +5,6 @@ use Rattle.score_rows.proofs.Bytes.{decimal-is, decimal-length}
 use borrow.Author.Needs.{needs}
 use Rattle.score_rows.proofs.put_decimal.Statement.{statement}
 use Rattle.score_rows.proofs.put_decimal.Tie as tie
-use Rattle.score_rows.proofs.put_decimal.Reads as reads
 
 decimal-requires : tie.Need-decimal-requires
 decimal-requires c κs = search needs

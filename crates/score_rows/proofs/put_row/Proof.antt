@@ -5,7 +5,6 @@ use Rattle.score_rows.specs.Text.{row}
 use borrow.Author.Needs.{needs}
 use Rattle.score_rows.proofs.put_row.Statement.{statement}
 use Rattle.score_rows.proofs.put_row.Tie as tie
-use Rattle.score_rows.proofs.put_row.Reads as reads
 
 put-decimal-requires : tie.Need-put-decimal-requires
 put-decimal-requires c κs = search needs

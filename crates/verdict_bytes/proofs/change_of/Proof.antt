@@ -1,11 +1,8 @@
-use mathlib.Core.Path.{_≡_, sym, _∙_}
+use mathlib.Core.Path.{sym, _∙_}
 use Rattle.verdict_bytes.specs.Steps.{changeOf}
 use borrow.Author.Needs.{needs}
 use Rattle.verdict_bytes.proofs.change_of.Statement.{statement}
 use Rattle.verdict_bytes.proofs.change_of.Tie as tie
-use Rattle.verdict_bytes.proofs.change_of.Reads as reads
-use Rattle.verdict_bytes.proofs.change_of.Lts as lts
-use Rattle.detection.proofs.is_drift_mode.Reads as is-drift-mode-reads
 
 enum-told : tie.Need-enum-told
 enum-told c = search needs

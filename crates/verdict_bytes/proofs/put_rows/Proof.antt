@@ -8,13 +8,6 @@ use Rattle.verdict_bytes.proofs.Steps.{rows-counted, rows-entered}
 use borrow.Author.Needs.{needs}
 use Rattle.verdict_bytes.proofs.put_rows.Statement.{statement}
 use Rattle.verdict_bytes.proofs.put_rows.Tie as tie
-use Rattle.verdict_bytes.proofs.put_rows.Reads as reads
-use Rattle.verdict_bytes.proofs.put_rows.Lts as lts
-use Rattle.candidate.proofs.is_candidate.Reads as is-candidate-reads
-use Rattle.layout.proofs.run_length.Reads as run-length-reads
-use Rattle.layout.proofs.write_counted.Reads as write-counted-reads
-use Rattle.layout.proofs.write_entered.Reads as write-entered-reads
-use Rattle.scoring.proofs.corrected_score.Reads as corrected-score-reads
 
 corrected-score-requires : tie.Need-corrected-score-requires
 corrected-score-requires c κs = search needs

@@ -1,17 +1,9 @@
-use mathlib.Core.Path.{_≡_, refl, sym, _∙_}
+use mathlib.Core.Path.{refl, sym, _∙_}
 use denote.Ref.{now}
 use Rattle.verdict_bytes.proofs.Steps.{at-ends, at-adjusts, at-counts, at-stays}
 use borrow.Author.Needs.{needs}
 use Rattle.verdict_bytes.proofs.put_state.Statement.{statement}
 use Rattle.verdict_bytes.proofs.put_state.Tie as tie
-use Rattle.verdict_bytes.proofs.put_state.Reads as reads
-use Rattle.verdict_bytes.proofs.put_state.Lts as lts
-use Rattle.layout.proofs.reading_answer.Reads as reading-answer-reads
-use Rattle.layout.proofs.write_adjusted.Reads as write-adjusted-reads
-use Rattle.layout.proofs.write_ended.Reads as write-ended-reads
-use Rattle.scoring.proofs.corrected_score.Reads as corrected-score-reads
-use Rattle.verdict_bytes.proofs.change_of.Reads as change-of-reads
-use Rattle.verdict_bytes.proofs.put_rows.Reads as put-rows-reads
 
 change-of-requires : tie.Need-change-of-requires
 change-of-requires c κs = search needs

@@ -1,4 +1,3 @@
-use mathlib.Core.Path.{_≡_, _∙_, ap}
 use mir.Syntax.{w32}
 use mir.ValLaws.{toZ-ofZ}
 use denote.Ref.{now}
@@ -6,14 +5,6 @@ use Rattle.verdict_bytes.proofs.Steps.{most-is, counting, put-done, put
 use borrow.Author.Needs.{needs}
 use Rattle.verdict_bytes.proofs.put_verdict.Statement.{statement}
 use Rattle.verdict_bytes.proofs.put_verdict.Tie as tie
-use Rattle.verdict_bytes.proofs.put_verdict.Reads as reads
-use Rattle.verdict_bytes.proofs.put_verdict.Lts as lts
-use Rattle.layout.proofs.reading_answer.Reads as reading-answer-reads
-use Rattle.types.proofs.Answer.number.Reads as Answer-number-reads
-use Rattle.types.proofs.Refusal.number.Reads as Refusal-number-reads
-use Rattle.verdict_bytes.proofs.places.Reads as places-reads
-use Rattle.verdict_bytes.proofs.put_state.Reads as put-state-reads
-use Rattle.verdict_bytes.proofs.put_told.Reads as put-told-reads
 
 places-requires : tie.Need-places-requires
 places-requires c κs = search needs

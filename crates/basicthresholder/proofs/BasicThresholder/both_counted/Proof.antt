@@ -1,7 +1,6 @@
-use mathlib.Core.Path.{_∙_, ap, ap₂}
+use mathlib.Core.Path.{_∙_, ap}
 use mir.Syntax.{w32}
 use mir.ValLaws.{toZ-ofZ}
-use lib.Ieee.{Float}
 use Rattle.deviation.specs.declared.Deviation.{Deviation}
 use Rattle.deviation.specs.Statistics.{oneMore, counted}
 use Rattle.basicthresholder.specs.Updates.{bothCounted, withCounted, countedOver}

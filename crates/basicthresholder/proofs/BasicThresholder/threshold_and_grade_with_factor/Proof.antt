@@ -1,6 +1,5 @@
 use Rattle.ieee.specs.Round.{narrow}
-use mathlib.Core.Path.{_≡_, _∙_, ap, ap₂, sym, subst}
-use lib.IntN.{ℤ, pos, _+ℤ_, _-ℤ_}
+use mathlib.Core.Path.{_∙_, ap}
 use mir.Syntax.{w32}
 use mir.ValLaws.{toZ-ofZ}
 use Rattle.basicthresholder.specs.Grades.{thresholdAndGradeWithFactor, intermediateFraction}

@@ -1,7 +1,4 @@
-use mathlib.Core.Path.{_≡_, _∙_, ap, ap₂, sym, subst}
-use lib.IntN.{ℤ, pos, _+ℤ_, _-ℤ_}
-use mir.Syntax.{w32}
-use mir.ValLaws.{toZ-ofZ}
+use mathlib.Core.Path.{ap}
 use Rattle.deviation.specs.declared.Deviation.{Deviation}
 use Rattle.basicthresholder.specs.Updates.{thresholdCounted, withCounted}
 use borrow.Author.Needs.{needs}

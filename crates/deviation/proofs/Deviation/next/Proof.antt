@@ -1,9 +1,7 @@
-use mathlib.Core.Path.{_∙_, ap, ap₂, sym, subst}
+use mathlib.Core.Path.{_∙_, ap, ap₂}
 use lib.IntN.{ℤ, pos, _+ℤ_}
-use lib.Dec.{T}
 use mir.Syntax.{w32}
 use mir.ValLaws.{toZ-ofZ}
-use Rattle.deviation.proofs.Laws.{picked, passed}
 use Rattle.deviation.specs.Statistics.{grown, factor, next}
 use borrow.Author.Needs.{needs}
 use Rattle.deviation.proofs.Deviation.next.Statement.{statement}

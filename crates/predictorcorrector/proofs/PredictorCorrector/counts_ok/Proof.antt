@@ -1,8 +1,3 @@
-use mathlib.Core.Path.{_≡_, _∙_, ap, ap₂, sym, refl}
-use Prim.Native.Nat.{ℕ}
-use mathlib.Core.List.{List}
-use Rattle.deviation.specs.declared.Deviation.{Deviation}
-use Rattle.basicthresholder.specs.declared.BasicThresholder.{BasicThresholder}
 use Rattle.predictorcorrector.specs.State.{stateCountsOk, existing}
 use borrow.Author.Needs.{needs}
 use Rattle.predictorcorrector.proofs.PredictorCorrector.counts_ok.Statement.{statement}

@@ -1,8 +1,5 @@
-use mathlib.Core.Path.{_≡_, _∙_, ap, ap₂, sym, refl}
+use mathlib.Core.Path.{ap}
 use Prim.Native.Nat.{ℕ}
-use mathlib.Core.List.{List}
-use Rattle.deviation.specs.declared.Deviation.{Deviation}
-use Rattle.basicthresholder.specs.declared.BasicThresholder.{BasicThresholder}
 use Rattle.predictorcorrector.specs.State.{runGrown, withRun}
 use borrow.Author.Needs.{needs}
 use Rattle.predictorcorrector.proofs.PredictorCorrector.run_grown.Statement.{statement}

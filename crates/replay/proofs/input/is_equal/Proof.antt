@@ -1,6 +1,5 @@
 -- The bytes from `i` on are still to be compared.
 use Prim.Native.Nat.{_-_, _≤_}
-use native.Mathlib.Omega.{arith}
 use lib.ListN.{length}
 use borrow.Author.Needs.{needs}
 use Rattle.replay.proofs.input.is_equal.Statement.{statement}
