@@ -235,9 +235,9 @@ impl Watch {
             .map_err(|refusal| culprit::of_reading(refusal, reading, &self.state))
     }
 
-    /// The mean of the scores counted, the discount weighing older ones less. `None` where there is
-    /// none: a drawer without scores is not a calm one. In a state that was made by hand it is `None`
-    /// exactly if the weight of the scores is at or below 0.
+    /// The mean of the scores counted, the discount weighing older ones less; a score by height counts
+    /// as 2 at most. `None` before the first: a drawer without scores is not a calm one. In a state that
+    /// was made by hand it is `None` exactly if the weight of the scores is at or below 0.
     ///
     /// ```
     /// use withdrawal_watch::{LentAttribution, Reading, Watch};
