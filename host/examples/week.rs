@@ -122,11 +122,11 @@ fn report(month: &str, first: u32) -> Result<String, String> {
     let mut drawers = ward().map_err(|why| why.to_string())?;
     let mut counts: Vec<Counts> = drawers.iter().map(|_| Counts::default()).collect();
     for line in lines(month)? {
-        if line.day >= first + 7 {
-            break;
-        }
         let known = drawers.iter().position(|d| d.about.name == line.drawer);
         let k = known.ok_or_else(|| format!("no drawer {}", line.drawer))?;
+        if line.day >= first + 7 {
+            continue;
+        }
         let judged = drawers[k].judge(line.amount);
         if line.day < first {
             continue;

@@ -64,7 +64,7 @@ macro_rules! measures {
             let mut out = [0; MEASURED];
             // SAFETY: `statistic` is borrowed for reading, `out` alone, and each goes with its own length.
             let number = unsafe { c::$function(start, len, out.as_mut_ptr(), out.len()) };
-            Refusal::answered(number).ok()?;
+            Refusal::answered(number).expect("lengths that the library has");
             bytes::measured(&out)
         }
     )*};

@@ -267,25 +267,35 @@ impl Drawer {
     }
 }
 
-/// What a dashboard shows of a drawer: mean and deviation of its scores, in the format asked for, or
-/// that it has none. A skipped or refused withdrawal has no score to count.
+/// What a dashboard shows of a drawer: mean and deviation of the scores that it has counted, or that
+/// there are none. A skipped or refused withdrawal counts no score. Decimals, width and side are those
+/// asked for, the left side if none is.
 ///
 /// ```
 /// use withdrawal_watch::Drawer;
 ///
-/// assert_eq!(Drawer::new(0.01, false, 1)?.to_string(), "no scores yet");
+/// let drawer = Drawer::new(0.01, false, 1)?;
+/// assert_eq!(drawer.to_string(), "no scores yet");
+/// assert_eq!(format!("{drawer:16.2}|"), "no scores yet   |");
 /// # Ok::<(), withdrawal_watch::Refused>(())
 /// ```
 impl fmt::Display for Drawer {
     fn fmt(&self, f: &mut fmt::Formatter) -> fmt::Result {
-        match (self.primary_mean(), self.primary_deviation()) {
+        let decimal = |x: f64| match f.precision() {
+            Some(places) => format!("{x:.places$}"),
+            None => x.to_string(),
+        };
+        let shown = match (self.primary_mean(), self.primary_deviation()) {
             (Some(mean), Some(deviation)) => {
-                f.write_str("mean ")?;
-                fmt::Display::fmt(&mean, f)?;
-                f.write_str(", deviation ")?;
-                fmt::Display::fmt(&deviation, f)
+                format!("mean {}, deviation {}", decimal(mean), decimal(deviation))
             }
-            _ => f.write_str("no scores yet"),
+            _ => "no scores yet".to_string(),
+        };
+        let width = f.width().unwrap_or(0);
+        match f.align() {
+            Some(fmt::Alignment::Right) => write!(f, "{shown:>width$}"),
+            Some(fmt::Alignment::Center) => write!(f, "{shown:^width$}"),
+            _ => write!(f, "{shown:<width$}"),
         }
     }
 }

@@ -101,6 +101,7 @@ fn a_drawer_shows_mean_and_deviation_of_its_scores() {
     }
     assert_eq!(drawer.to_string(), "mean 1.3125, deviation 0.0625");
     assert_eq!(format!("{drawer:.2}"), "mean 1.31, deviation 0.06");
+    assert_eq!(format!("{drawer:>27.2}"), "  mean 1.31, deviation 0.06");
     let again = Drawer::of_bytes(&drawer.to_bytes()).unwrap();
     assert_eq!(again.to_string(), drawer.to_string());
 }

@@ -68,13 +68,17 @@ static void judge(uint8_t *state, uint32_t values_seen, float score) {
 static void show(const uint8_t *state) {
     uint8_t mean[KRCF_MEASURED_BYTES], deviation[KRCF_MEASURED_BYTES];
     const uint8_t *primary = state + 16;
-    krcf_deviation_mean(primary, KRCF_STATISTIC_BYTES, mean, sizeof mean);
-    krcf_deviation_deviation(primary, KRCF_STATISTIC_BYTES, deviation, sizeof deviation);
-    if (mean[0] == 0) {
-        printf("no scores yet\n");
-        return;
+    uint8_t answer = krcf_deviation_mean(primary, KRCF_STATISTIC_BYTES, mean, sizeof mean);
+    if (answer == 0) {
+        answer = krcf_deviation_deviation(primary, KRCF_STATISTIC_BYTES, deviation, sizeof deviation);
     }
-    printf("mean %g, deviation %g\n", get_f64(mean + 1), get_f64(deviation + 1));
+    if (answer != 0) {
+        printf("mean and deviation: refusal %d\n", answer);
+    } else if (mean[0] == 0) {
+        printf("no scores yet\n");
+    } else {
+        printf("mean %g, deviation %g\n", get_f64(mean + 1), get_f64(deviation + 1));
+    }
 }
 
 int main(void) {

@@ -50,8 +50,8 @@ fn reset(tally: &mut Tally, d: &Deviation) {
     tally.compare(&ours, &(0, rust), || format!("reset of {}", d.show()));
 }
 
-/// What ours is to answer where the Rust answers `rust`: a yes and the number. Of an empty statistic the Rust's
-/// 0 is held to be one; ours is a no, and the bytes behind it stay.
+/// What ours is to answer where the Rust answers `rust`: a yes and the number. Of an empty statistic the Rust
+/// has to answer 0; ours is a no, and the bytes behind it stay.
 fn measured(tally: &mut Tally, d: &Deviation, rust: f64) -> (u8, [u8; MEASURED]) {
     let mut out = BEFORE;
     let is_number = !(d.weight() <= 0.0);

@@ -40,6 +40,8 @@ struct Seen {
     restarts: u64,
     used_up: u64,
     spoiled: u64,
+    /// Readings after which the drawer has no scores yet.
+    empty: u64,
     /// Corrected points of differenced, of time-augmented and of other readings.
     corrected: [u64; 3],
     shingles: BTreeSet<usize>,
@@ -418,9 +420,11 @@ fn sequence(tally: &mut Tally, random: &mut Random, seen: &mut Seen) {
         tally.compare(&kept_by_host(&drawer), &kept_by_rust(&last), || {
             format!("what is kept: {reading:?}")
         });
-        tally.compare(&shown_by_host(&drawer), &shown_by_rust(&rust), || {
+        let shown = shown_by_host(&drawer);
+        tally.compare(&shown, &shown_by_rust(&rust), || {
             format!("mean and deviation: {reading:?}")
         });
+        seen.empty += shown.is_empty() as u64;
         maker.judged(&reading, &result);
     }
 }
@@ -436,12 +440,13 @@ pub fn compare(tally: &mut Tally, random: &mut Random) {
         restarts,
         spoiled,
         used_up,
+        empty,
         corrected: [differenced, timed, others],
         ..
     } = seen;
     println!(
         "    {readings} readings, {calls} calls of the forest, {restarts} restarts, {spoiled} \
-         thresholds not finite, {used_up} counts used up"
+         thresholds not finite, {used_up} counts used up, {empty} without scores yet"
     );
     println!(
         "    corrected points: {differenced} differenced, {timed} time-augmented, {others} others"
@@ -452,9 +457,11 @@ pub fn compare(tally: &mut Tally, random: &mut Random) {
         differenced / LEAST,
         timed / LEAST,
         spoiled,
+        empty / LEAST,
     ];
     tally.compare(&enough.iter().all(|n| *n > 0), &true, || {
-        "readings, corrected points or infinite thresholds that came up too seldom".to_string()
+        "readings, corrected points, infinite thresholds or empty drawers that came up too seldom"
+            .to_string()
     });
     let whole = (seen.shingles.len(), seen.bases.len());
     tally.compare(&whole, &(64, 16), || {
