@@ -104,7 +104,7 @@
  *
  * krcf_deviation_mean and krcf_deviation_deviation write a flag and an f64 (9): 1 and the number; or 0
  * for a statistic that is empty, its weight at or below 0, and then the eight bytes behind it are left
- * as they were. What a dashboard shows of a drawer is the primary statistic, 36 bytes from byte 16 of a
+ * as they were. A dashboard shows both of a drawer's primary statistic, 36 bytes from byte 16 of a
  * thresholder or a state on; a score by height is counted in it as 2 at most.
  */
 

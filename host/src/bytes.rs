@@ -1,4 +1,4 @@
-//! Readings and verdicts as the C interface has them: little-endian, without gaps.
+//! Readings, verdicts and what a statistic says, as the C interface has them: little-endian, without gaps.
 
 use crate::reading::{LastDescriptor, Reading};
 

@@ -268,8 +268,8 @@ impl Drawer {
 }
 
 /// What a dashboard shows of a drawer: mean and deviation of the scores that it has counted, or that
-/// there are none. A skipped or refused withdrawal counts no score. Decimals, width and side are those
-/// asked for, the left side if none is.
+/// there are none. A skipped or refused withdrawal counts no score. Decimals, width, side and fill are
+/// those asked for, the left side and spaces if none are.
 ///
 /// ```
 /// use withdrawal_watch::Drawer;
@@ -291,12 +291,15 @@ impl fmt::Display for Drawer {
             }
             _ => "no scores yet".to_string(),
         };
-        let width = f.width().unwrap_or(0);
-        match f.align() {
-            Some(fmt::Alignment::Right) => write!(f, "{shown:>width$}"),
-            Some(fmt::Alignment::Center) => write!(f, "{shown:^width$}"),
-            _ => write!(f, "{shown:<width$}"),
-        }
+        // `pad` would take the decimals for a length to cut at.
+        let room = f.width().unwrap_or(0).saturating_sub(shown.len());
+        let before = match f.align() {
+            Some(fmt::Alignment::Right) => room,
+            Some(fmt::Alignment::Center) => room / 2,
+            _ => 0,
+        };
+        let [before, behind] = [before, room - before].map(|n| f.fill().to_string().repeat(n));
+        write!(f, "{before}{shown}{behind}")
     }
 }
 

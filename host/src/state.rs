@@ -21,7 +21,7 @@ pub const STATISTIC_BYTES: usize = 36;
 /// Where it has its count.
 const COUNT_WITHIN: usize = 32;
 
-/// Where the thresholder has the statistic of the scores.
+/// Where the thresholder has its primary statistic, that of the scores.
 const PRIMARY: usize = 16;
 
 const AUTO_ADJUST: usize = THRESHOLDER_BYTES;

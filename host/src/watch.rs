@@ -236,8 +236,8 @@ impl Watch {
     }
 
     /// The mean of the scores counted, the discount weighing older ones less; a score by height counts
-    /// as 2 at most. `None` before the first: a drawer without scores is not a calm one. In a state that
-    /// was made by hand it is `None` exactly if the weight of the scores is at or below 0.
+    /// as 2 at most. `None` exactly if the weight of the scores is at or below 0, as it is before the first:
+    /// a drawer without scores is not a calm one.
     ///
     /// ```
     /// use withdrawal_watch::{LentAttribution, Reading, Watch};

@@ -84,7 +84,7 @@ fn an_empty_drawer_shows_no_scores_yet() {
     assert_eq!(format!("{drawer:.2}"), "no scores yet");
 }
 
-/// Nor is a drawer with one score: its deviation is 0, and a number.
+/// The deviation of one score is 0, and a number.
 #[test]
 fn a_drawer_shows_mean_and_deviation_of_its_scores() {
     let mut drawer = Drawer::new(0.0, false, 1).unwrap();
@@ -102,6 +102,8 @@ fn a_drawer_shows_mean_and_deviation_of_its_scores() {
     assert_eq!(drawer.to_string(), "mean 1.3125, deviation 0.0625");
     assert_eq!(format!("{drawer:.2}"), "mean 1.31, deviation 0.06");
     assert_eq!(format!("{drawer:>27.2}"), "  mean 1.31, deviation 0.06");
+    assert_eq!(format!("{drawer:.^28.2}"), ".mean 1.31, deviation 0.06..");
+    assert_eq!(format!("{drawer:9.1}"), "mean 1.3, deviation 0.1");
     let again = Drawer::of_bytes(&drawer.to_bytes()).unwrap();
     assert_eq!(again.to_string(), drawer.to_string());
 }

@@ -40,6 +40,7 @@ reset d = fresh (d .discount)
 unfoldable pub isEmpty : Deviation → Bool
 isEmpty d = d .weight <= zero64
 
+-- The Rust's `mean`, which `mean_or_zero` answers; `mean` answers `measuredMean`.
 unfoldable pub mean : Deviation → Float
 mean d = cond (isEmpty d) zero64 (d .sum / d .weight)
 
@@ -89,6 +90,7 @@ counted d score = update d score .deviation
 unfoldable pub positiveRoot : Float → Float
 positiveRoot answer = cond (answer > zero64) (sqrt answer) zero64
 
+-- The Rust's `deviation`, which `deviation_or_zero` answers; `deviation` answers `measuredDeviation`.
 unfoldable pub deviation : Deviation → Float
 deviation d =
     let temp = d .sum / d .weight in
