@@ -83,6 +83,9 @@ refused-number Whys.Horizon = refl
 refused-number Whys.Blocks = refl
 refused-number Whys.Row = refl
 refused-number Whys.Field = refl
+refused-number Whys.Drawer = refl
+refused-number Whys.Full = refl
+refused-number Whys.Pool = refl
 
 -- ---- a stored state.
 -- The tests of a slice that was not read, and its refusal's number.

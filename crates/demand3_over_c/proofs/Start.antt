@@ -136,6 +136,9 @@ number-above (Answers.Refused Refusals.Horizon) e = absurd (omega arith)
 number-above (Answers.Refused Refusals.Blocks) e = absurd (omega arith)
 number-above (Answers.Refused Refusals.Row) e = absurd (omega arith)
 number-above (Answers.Refused Refusals.Field) e = absurd (omega arith)
+number-above (Answers.Refused Refusals.Drawer) e = absurd (omega arith)
+number-above (Answers.Refused Refusals.Full) e = absurd (omega arith)
+number-above (Answers.Refused Refusals.Pool) e = absurd (omega arith)
 
 -- `krcf_new` answered 0.
 pub record MadeOver (made : Updated) (out xs : List ℕ) : Type 0 where

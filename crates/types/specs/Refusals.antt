@@ -2,7 +2,7 @@
 use Prim.Native.Nat.{ℕ}
 use mathlib.Core.Bool.{Bool, cond}
 use Rattle.types.specs.declared.Refusal.{Refusal}
-use Rattle.types.specs.declared.Refusal.the-variants.{Discount, Range, Length, NotFinite, ValuesSeen, Count, Horizon, Blocks, Row, Field}
+use Rattle.types.specs.declared.Refusal.the-variants.{Discount, Range, Length, NotFinite, ValuesSeen, Count, Horizon, Blocks, Row, Field, Drawer, Full, Pool}
 use Rattle.types.specs.declared.Answer.{Answer}
 use Rattle.types.specs.declared.Answer.the-variants.{Done, Refused}
 
@@ -17,6 +17,9 @@ number Horizon = 7
 number Blocks = 8
 number Row = 9
 number Field = 10
+number Drawer = 11
+number Full = 12
+number Pool = 13
 
 -- 0 for a call that was carried out, else its refusal's number.
 abbrev pub answered : Answer → ℕ

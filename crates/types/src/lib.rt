@@ -42,6 +42,9 @@ pub enum Refusal {
     Blocks,
     Row,
     Field,
+    Drawer,
+    Full,
+    Pool,
 }
 
 // How a call on a state ended.
@@ -81,6 +84,9 @@ impl Refusal {
             Refusal::Blocks => 8,
             Refusal::Row => 9,
             Refusal::Field => 10,
+            Refusal::Drawer => 11,
+            Refusal::Full => 12,
+            Refusal::Pool => 13,
         }
     }
 

@@ -1,0 +1,32 @@
+use native.Mathlib.Numerals.{add-one}
+use borrow.Author.Tests.{lt-ltb, le-ltb, le-leb, lt-leb, eq-eqb, ne-eqb}
+use lib.ListN.{length, take, drop, getD, set, replicate}
+use native.Mathlib.Omega.{arith}
+use Prim.Native.Nat.{ℕ, suc, _+_, _≤_, _<_, _-_}
+use mathlib.Core.List.{List, [], _∷_, _++_}
+use mathlib.Core.Path.{_≡_, refl, sym, ap, _∙_}
+use denote.Ref.{now}
+use borrow.Author.Needs.{needs}
+use Rattle.pool_drawers.proofs.after.Statement.{statement}
+use Rattle.pool_drawers.proofs.after.Tie as tie
+use Rattle.pool_drawers.proofs.after.Reads as reads
+use Rattle.pool_drawers.proofs.after.Lts as lts
+
+-- src/lib.rt:347:9
+returns : tie.Need-returns
+returns c = simp (eq-eqb _ 30 (c .if1 .taken))
+
+-- src/lib.rt:349:6
+add-result : tie.Need-add-result
+add-result c = search needs
+
+-- src/lib.rt:349:5
+cast-result : tie.Need-cast-result
+cast-result c = search needs
+
+-- src/lib.rt:342:1
+returns-2 : tie.Need-returns-2
+returns-2 c = simp (ne-eqb _ 30 (c .if1 .left)) (add-one _)
+
+pub after-spec : {M : Type 1} → statement M
+after-spec = tie.close (tie.spec returns add-result cast-result returns-2)

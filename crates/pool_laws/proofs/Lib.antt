@@ -1,0 +1,6 @@
+pub mod Kept
+pub mod Opening
+pub mod Removing
+pub mod Settling
+pub mod LayingOut
+pub mod Frames

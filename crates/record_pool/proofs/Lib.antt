@@ -1,0 +1,13 @@
+pub mod Occ
+pub mod Chaining
+pub mod Meaning
+pub mod Finding
+pub mod Passing
+pub mod Bytes
+pub mod Writes
+pub mod Putting
+pub mod Walking
+pub mod Apart
+pub mod Searching
+pub mod Locating
+pub mod Gathering

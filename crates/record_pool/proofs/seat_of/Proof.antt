@@ -1,0 +1,37 @@
+use Rattle.record_pool.proofs.Locating.{seat-is}
+use borrow.Author.Needs.{needs}
+use Rattle.record_pool.proofs.seat_of.Statement.{statement}
+use Rattle.record_pool.proofs.seat_of.Tie as tie
+use Rattle.record_pool.proofs.seat_of.Reads as reads
+use Rattle.record_pool.proofs.seat_of.Lts as lts
+use Rattle.record_pool.proofs.place.Reads as place-reads
+use Rattle.record_pool.proofs.read4.Reads as read4-reads
+
+place-requires : tie.Need-place-requires
+place-requires c κs = search needs
+
+read4-requires : tie.Need-read4-requires
+read4-requires c κs = search needs
+
+read4-requires-2 : tie.Need-read4-requires-2
+read4-requires-2 c κs = search needs
+
+read4-requires-3 : tie.Need-read4-requires-3
+read4-requires-3 c κs = search needs
+
+read4-requires-4 : tie.Need-read4-requires-4
+read4-requires-4 c κs = search needs
+
+returns : tie.Need-returns
+returns c = seat-is _ _ _ _ _ _ _ _ (c .before .before .before .before .place .ensures .0) (c .before .before .before .read4 .ensures) (c .before .before .read42 .ensures) (c .before .read43 .ensures) (c .read44 .ensures)
+
+pub seat-of-spec : {M : Type 1} → statement M
+seat-of-spec =
+    tie.close
+    (tie.spec
+    place-requires
+    read4-requires
+    read4-requires-2
+    read4-requires-3
+    read4-requires-4
+    returns)

@@ -1,0 +1,58 @@
+use mathlib.Core.Path.{sym, _∙_}
+use Rattle.record_pool.proofs.Passing.{passes-size}
+use Rattle.record_pool.proofs.Locating.{vacancy-broken, vacancy-unnumbered, vacancy-taken, vacancy-full, vacancy-there, seat-spare}
+use borrow.Author.Needs.{needs}
+use Rattle.record_pool.proofs.vacancy.Statement.{statement}
+use Rattle.record_pool.proofs.vacancy.Tie as tie
+use Rattle.record_pool.proofs.vacancy.Reads as reads
+use Rattle.record_pool.proofs.vacancy.Lts as lts
+use Rattle.record_pool.proofs.find.Reads as find-reads
+use Rattle.record_pool.proofs.index_at.Reads as index-at-reads
+use Rattle.record_pool.proofs.is_number.Reads as is-number-reads
+use Rattle.record_pool.proofs.rules_ok.Reads as rules-ok-reads
+use Rattle.record_pool.proofs.seat_of.Reads as seat-of-reads
+
+rules-ok-requires : tie.Need-rules-ok-requires
+rules-ok-requires c κs = search needs
+
+is-number-requires : tie.Need-is-number-requires
+is-number-requires c κs = search needs
+
+find-requires : tie.Need-find-requires
+find-requires c κs = (sym (c .before .before .before .rules-ok .ensures) ∙ c .before .before .if1 .taken, passes-size _ (sym (c .before .before .before .rules-ok .ensures) ∙ c .before .before .if1 .taken))
+
+index-at-requires : tie.Need-index-at-requires
+index-at-requires c κs = let s = passes-size _ (sym (c .before .before .before .before .before .before .rules-ok .ensures) ∙ c .before .before .before .before .before .if1 .taken) in search needs
+
+returns : tie.Need-returns
+returns c = vacancy-full _ _ _ (c .before .before .before .before .before .before .before .before .rules-ok .ensures) _ _ _ _ (c .before .before .before .before .before .before .before .if1 .taken) (c .before .before .before .before .before .before .is-number .ensures) (c .before .before .before .before .before .if2 .taken) (c .before .before .before .before .find .ensures) (c .before .before .if3 .taken) (c .before .index-at .ensures) (c .if4 .taken)
+
+seat-of-requires : tie.Need-seat-of-requires
+seat-of-requires c κs = seat-spare _ _ _ (c .before .before .before .before .before .before .before .before .rules-ok .ensures) (c .before .before .before .before .before .before .before .if1 .taken) (c .before .index-at .ensures) (c .if4 .left)
+
+returns-2 : tie.Need-returns-2
+returns-2 c = vacancy-there _ _ _ (c .before .before .before .before .before .before .before .before .before .rules-ok .ensures) _ _ _ _ (c .before .before .before .before .before .before .before .before .if1 .taken) (c .before .before .before .before .before .before .before .is-number .ensures) (c .before .before .before .before .before .before .if2 .taken) (c .before .before .before .before .before .find .ensures) (c .before .before .before .if3 .taken) (c .before .before .index-at .ensures) _ (c .before .if4 .left) (c .seat-of .ensures)
+
+returns-3 : tie.Need-returns-3
+returns-3 c = vacancy-taken _ _ _ (c .before .before .before .before .before .before .rules-ok .ensures) _ _ _ (c .before .before .before .before .before .if1 .taken) (c .before .before .before .before .is-number .ensures) (c .before .before .before .if2 .taken) (c .before .before .find .ensures) (c .if3 .left)
+
+returns-4 : tie.Need-returns-4
+returns-4 c = vacancy-unnumbered _ _ _ (c .before .before .before .rules-ok .ensures) _ (c .before .before .if1 .taken) (c .before .is-number .ensures) (c .if2 .left)
+
+returns-5 : tie.Need-returns-5
+returns-5 c = vacancy-broken _ _ _ (c .before .rules-ok .ensures) (c .if1 .left)
+
+pub vacancy-spec : {M : Type 1} → statement M
+vacancy-spec =
+    tie.close
+    (tie.spec
+    rules-ok-requires
+    is-number-requires
+    find-requires
+    index-at-requires
+    returns
+    seat-of-requires
+    returns-2
+    returns-3
+    returns-4
+    returns-5)
