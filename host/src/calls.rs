@@ -37,22 +37,22 @@ pub fn new(
     Refusal::answered(number)
 }
 
-/// A safe function over one of the state's setters.
+/// Safe functions over setters of a lent slice, which may take something before the value.
 macro_rules! setters {
-    ($($name:ident = $function:ident;)*) => {$(
-        pub fn $name(state: &mut [u8], value: f32) -> Result<(), Refusal> {
-            // SAFETY: `state` is borrowed alone, and its own length is passed.
-            let number = unsafe { c::$function(state.as_mut_ptr(), state.len(), value) };
+    ($($name:ident = $function:ident($($first:ident: $type:ty)?);)*) => {$(
+        pub fn $name(lent: &mut [u8], $($first: $type,)? value: f32) -> Result<(), Refusal> {
+            // SAFETY: `lent` is borrowed alone, and its own length is passed.
+            let number = unsafe { c::$function(lent.as_mut_ptr(), lent.len(), $($first,)? value) };
             Refusal::answered(number)
         }
     )*};
 }
 
 setters! {
-    set_z_factor = krcf_chain_set_z_factor;
-    set_lower_threshold = krcf_chain_set_lower_threshold;
-    set_initial_threshold = krcf_chain_set_initial_threshold;
-    set_horizon = krcf_chain_set_horizon;
+    set_z_factor = krcf_chain_set_z_factor();
+    set_lower_threshold = krcf_chain_set_lower_threshold();
+    set_initial_threshold = krcf_chain_set_initial_threshold();
+    set_horizon = krcf_chain_set_horizon();
 }
 
 /// A safe function over one of the numbers that a statistic has; none of an empty one. The lengths are
@@ -75,47 +75,60 @@ measures! {
     deviation = krcf_deviation_deviation;
 }
 
-/// A call with a slice to change, slices to read and slices to write, in this order.
+/// A judgment by a C function: the slice to change, what comes right behind it, then the reading's
+/// slices and those that are written.
+macro_rules! judgment {
+    ($function:ident, $lent:expr, [$($first:expr)?], $reading:expr, $out:expr) => {{
+        let (r, out): (&Reading, Buffers) = ($reading, $out);
+        let reading = bytes::reading(r);
+        let last = bytes::last(&r.last_descriptor);
+        let anomaly = r.last_descriptor.last_anomaly.unwrap_or_default();
+        // SAFETY: the slice to change and each of `out` are borrowed alone, all others for reading,
+        // and each goes with its own length.
+        let number = unsafe {
+            with_slices!(
+                c::$function,
+                $lent,
+                [$($first)?],
+                [
+                    reading,
+                    last,
+                    r.rcf_point,
+                    r.scale,
+                    r.shift,
+                    r.difference_deviations,
+                    anomaly.expected_rcf_point,
+                    anomaly.anomalous_rcf_point,
+                    r.attribution.high,
+                    r.attribution.low,
+                    r.median,
+                    r.expected_attribution.high,
+                    r.expected_attribution.low,
+                    r.neighbours
+                ],
+                [out.expected, out.high, out.low, out.verdict]
+            )
+        };
+        Refusal::answered(number)
+    }};
+}
+
+/// A call with a slice to change, a number or none, slices to read and slices to write, in this order.
 macro_rules! with_slices {
-    ($function:path, $state:expr, [$($read:expr),*], [$($write:expr),*]) => {
+    ($function:path, $lent:expr, [$($first:expr)?], [$($read:expr),*], [$($write:expr),*]) => {
         $function(
-            $state.as_mut_ptr(), $state.len(),
+            $lent.as_mut_ptr(), $lent.len(),
+            $($first,)?
             $($read.as_ptr(), $read.len(),)*
             $($write.as_mut_ptr(), $write.len()),*
         )
     };
 }
 
-pub fn judge(state: &mut [u8], r: &Reading, out: Buffers) -> Result<(), Refusal> {
-    let reading = bytes::reading(r);
-    let last = bytes::last(&r.last_descriptor);
-    let anomaly = r.last_descriptor.last_anomaly.unwrap_or_default();
-    // SAFETY: the state and each slice of `out` are borrowed alone, all others for reading, and
-    // each goes with its own length.
-    let number = unsafe {
-        with_slices!(
-            c::krcf_detect_and_modify,
-            state,
-            [
-                reading,
-                last,
-                r.rcf_point,
-                r.scale,
-                r.shift,
-                r.difference_deviations,
-                anomaly.expected_rcf_point,
-                anomaly.anomalous_rcf_point,
-                r.attribution.high,
-                r.attribution.low,
-                r.median,
-                r.expected_attribution.high,
-                r.expected_attribution.low,
-                r.neighbours
-            ],
-            [out.expected, out.high, out.low, out.verdict]
-        )
-    };
-    Refusal::answered(number)
+pub mod pool;
+
+pub fn judge(state: &mut [u8], reading: &Reading, out: Buffers) -> Result<(), Refusal> {
+    judgment!(krcf_detect_and_modify, state, [], reading, out)
 }
 
 pub fn newest_row(

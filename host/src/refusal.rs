@@ -3,7 +3,8 @@
 use std::error::Error;
 use std::fmt;
 
-/// The reasons for a refusal, by number. Of 1 to 8 the smallest that applies is given; 9, then 10, come before them.
+/// The reasons for a refusal, by number. Of 1 to 8 the smallest that applies is given; before them
+/// come 9, then 10, of a cabinet's export, and 13, then 11, then 12, of a pool.
 ///
 /// ```
 /// use withdrawal_watch::Refusal;
@@ -35,12 +36,19 @@ pub enum Refusal {
     Row,
     /// 10: a field of such a row that is no number as its column wants one. No call of this crate gives it.
     Field,
+    /// 11: the drawer is not in the pool, is there already on opening, or is not 1 to 65,535.
+    Drawer,
+    /// 12: a drawer is opened where all records of the pool are used.
+    Full,
+    /// 13: a pool or a listing's buffer of another length, or a pool whose chains, count, drawer
+    /// numbers or yes/no bytes break its rules.
+    Pool,
     /// A number that has no name here.
     Other(u8),
 }
 
 /// Each named refusal with its number.
-const NUMBERED: [(u8, Refusal); 10] = [
+const NUMBERED: [(u8, Refusal); 13] = [
     (1, Refusal::Discount),
     (2, Refusal::Range),
     (3, Refusal::Length),
@@ -51,6 +59,9 @@ const NUMBERED: [(u8, Refusal); 10] = [
     (8, Refusal::Blocks),
     (9, Refusal::Row),
     (10, Refusal::Field),
+    (11, Refusal::Drawer),
+    (12, Refusal::Full),
+    (13, Refusal::Pool),
 ];
 
 impl Refusal {
@@ -90,6 +101,9 @@ impl Refusal {
             Refusal::Blocks => "the attribution cannot be cut into blocks",
             Refusal::Row => "a row is not three fields, a quote is broken, or the header is wrong",
             Refusal::Field => "a field is no number as its column wants one",
+            Refusal::Drawer => "the drawer is not there, is there already, or has no such number",
+            Refusal::Full => "all records of the pool are used",
+            Refusal::Pool => "the pool or the listing's buffer breaks a rule of the pool's",
             Refusal::Other(_) => "a reason that has no name here",
         }
     }

@@ -2,15 +2,14 @@
 
 use std::fmt;
 
-use crate::bytes::{self, Said, VERDICT};
-use crate::calls::{self, Buffers};
+use crate::calls;
 use crate::culprit;
 use crate::forest::AskedOfForest;
 use crate::reading::Reading;
 use crate::refusal::{Refusal, Refused};
+use crate::room::Room;
 use crate::state::{self, STATE_BYTES};
-use crate::types::CorrectionMode;
-use crate::verdict::{Attribution, Verdict};
+use crate::verdict::Verdict;
 
 /// The watch over one drawer: it judges the drawer's readings in turn. The caller asks the forest
 /// and keeps the last descriptor; a [`Drawer`](crate::Drawer) does both by itself.
@@ -18,14 +17,6 @@ use crate::verdict::{Attribution, Verdict};
 pub struct Watch {
     state: [u8; STATE_BYTES],
     room: Room,
-}
-
-/// Room for what a raised reading writes, kept so that no other reading allocates.
-#[derive(Clone, Default)]
-struct Room {
-    expected: Vec<f32>,
-    high: Vec<f64>,
-    low: Vec<f64>,
 }
 
 /// What a judgment would leave.
@@ -52,10 +43,15 @@ impl Watch {
         let mut state = [0; STATE_BYTES];
         calls::new(discount, auto_adjust, base_dimension, &mut state)
             .map_err(|refusal| culprit::of_new(refusal, discount, base_dimension))?;
-        Ok(Watch {
+        Ok(Watch::holding(state))
+    }
+
+    /// A watch with this state, which nobody has looked at.
+    pub(crate) fn holding(state: [u8; STATE_BYTES]) -> Watch {
+        Watch {
             state,
             room: Room::default(),
-        })
+        }
     }
 
     /// The watch whose [`state_bytes`](Watch::state_bytes) these are. Refused where the library
@@ -70,10 +66,7 @@ impl Watch {
     /// # Ok::<(), withdrawal_watch::Refused>(())
     /// ```
     pub fn of_state_bytes(bytes: &[u8; STATE_BYTES]) -> Result<Watch, Refused> {
-        let mut watch = Watch {
-            state: *bytes,
-            room: Room::default(),
-        };
+        let mut watch = Watch::holding(*bytes);
         // A skipped reading changes nothing. Counts that are used up are no reason against a state.
         let skipped = Reading {
             values_seen: 1,
@@ -176,7 +169,7 @@ impl Watch {
     /// # Ok::<(), withdrawal_watch::Refused>(())
     /// ```
     pub fn judge(&mut self, reading: &Reading) -> Result<Verdict, Refused> {
-        self.room.judge(&mut self.state, reading)
+        judge(&mut self.room, &mut self.state, reading)
     }
 
     /// Within a run of raised readings, with `auto_adjust`, counts the oldest row of a point in the
@@ -269,7 +262,7 @@ impl Watch {
     /// What judging a reading would leave. The watch stays as it is.
     pub(crate) fn trial(&mut self, reading: &Reading) -> Result<Trial, Refused> {
         let mut state = self.state;
-        let verdict = self.room.judge(&mut state, reading)?;
+        let verdict = judge(&mut self.room, &mut state, reading)?;
         Ok(Trial { state, verdict })
     }
 
@@ -293,56 +286,13 @@ impl Watch {
     }
 }
 
-impl Room {
-    fn judge(
-        &mut self,
-        state: &mut [u8; STATE_BYTES],
-        reading: &Reading,
-    ) -> Result<Verdict, Refused> {
-        let d = reading.dimension();
-        self.widen(d);
-        let mut verdict = [0; VERDICT];
-        let out = Buffers {
-            expected: &mut self.expected[..d],
-            high: &mut self.high[..d],
-            low: &mut self.low[..d],
-            verdict: &mut verdict,
-        };
-        calls::judge(state, reading, out)
-            .map_err(|refusal| culprit::of_reading(refusal, reading, state))?;
-        Ok(self.verdict(bytes::said(&verdict), d))
-    }
-
-    fn widen(&mut self, d: usize) {
-        if self.expected.len() < d {
-            self.expected.resize(d, 0.0);
-            self.high.resize(d, 0.0);
-            self.low.resize(d, 0.0);
-        }
-    }
-
-    /// The library has these four kinds, the last one 3, and gives every correction its mode.
-    fn verdict(&self, said: Said, d: usize) -> Verdict {
-        let threshold = said.threshold;
-        match said.kind {
-            0 => Verdict::Quiet { threshold },
-            1 => Verdict::Corrected {
-                threshold,
-                mode: CorrectionMode::of_code(said.mode).unwrap_or(CorrectionMode::None),
-            },
-            2 => Verdict::Raised {
-                threshold,
-                grade: said.grade,
-                relative_index: said.relative_index,
-                expected_point: self.expected[..d].to_vec(),
-                attribution: Attribution {
-                    high: self.high[..d].to_vec(),
-                    low: self.low[..d].to_vec(),
-                },
-            },
-            _ => Verdict::Skipped,
-        }
-    }
+fn judge(
+    room: &mut Room,
+    state: &mut [u8; STATE_BYTES],
+    reading: &Reading,
+) -> Result<Verdict, Refused> {
+    room.judge(reading, |out| calls::judge(state, reading, out))
+        .map_err(|refusal| culprit::of_reading(refusal, reading, state))
 }
 
 impl fmt::Debug for Watch {

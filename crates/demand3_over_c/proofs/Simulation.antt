@@ -13,7 +13,7 @@ use lib.Ieee.Bits.{ofBits-fits, is-false}
 use borrow.Author.Tests.{eqb-true}
 use Rattle.types.specs.Refusals.{number}
 use Rattle.types.specs.declared.Refusal.{Refusal}
-use Rattle.types.specs.declared.Refusal.the-variants.{Discount, Range, Length, NotFinite, ValuesSeen, Count, Horizon, Blocks, Row, Field}
+use Rattle.types.specs.declared.Refusal.the-variants.{Discount, Range, Length, NotFinite, ValuesSeen, Count, Horizon, Blocks, Row, Field, Drawer, Full, Pool}
 use Rattle.types.specs.declared.Answer.{Answer}
 use Rattle.types.specs.declared.Answer.the-variants as Answers
 use Rattle.basicthresholder.specs.Const.{zero32}
@@ -72,6 +72,9 @@ number-above Horizon e = absurd (omega arith)
 number-above Blocks e = absurd (omega arith)
 number-above Row e = absurd (omega arith)
 number-above Field e = absurd (omega arith)
+number-above Drawer e = absurd (omega arith)
+number-above Full e = absurd (omega arith)
+number-above Pool e = absurd (omega arith)
 
 abbrev refusing : Answer → Bool
 refusing Answers.Done = false

@@ -2,7 +2,7 @@
 use mathlib.Core.Path.{_≡_, refl, sym, ap, ap₂, _∙_}
 use mathlib.Core.Bool.{Bool, true, false, cond, _&&_}
 use mathlib.Core.List.{List, [], _∷_, _++_}
-use Prim.Native.Nat.{ℕ, _≤_, _<_}
+use Prim.Native.Nat.{ℕ, _+_, _≤_, _<_}
 use native.Mathlib.Omega.{arith}
 use lib.Dec.{eqb}
 use lib.ListN.{length}
@@ -18,16 +18,17 @@ use Rattle.record_pool.specs.declared.Located.{Located}
 use Rattle.record_pool.specs.declared.Located.the-variants.{At, Refused}
 use Rattle.record_pool.proofs.Occ.{same-le, occ-append}
 use Rattle.record_pool.proofs.Chaining.{lastOr, last-in}
+use Rattle.record_pool.proofs.Bytes.{place-high}
 use Rattle.record_pool.proofs.Finding.{held, held-in}
 use Rattle.record_pool.proofs.Meaning.{number-true}
 use Rattle.record_pool.proofs.Passing.{passes, passes-size, within-used, within-free, count-small, start-small}
 
 -- ---- the code's branches.
 pub seat-is : (xs : List ℕ) (i front at next count used free : ℕ) → at ≡ place i → next ≡ le4 xs at → count ≡ countOf xs → used ≡ firstUsed xs → free ≡ firstFree xs
-    → record { index = i; front = front; next = next; count = count; used = used; free = free } ≡ seat xs i front
+    → record { index = i; state = at + 8; front = front; next = next; count = count; used = used; free = free } ≡ seat xs i front
 unfolding nextAt
 seat-is xs i front at next count used free ep en ec eu ef =
-    λ t. record { index = i; front = front; next = (en ∙ ap (le4 xs) ep) t; count = ec t; used = eu t; free = ef t }
+    λ t. record { index = i; state = ep t + 8; front = front; next = (en ∙ ap (le4 xs) ep) t; count = ec t; used = eu t; free = ef t }
 
 module _ (xs : List ℕ) (d : ℕ) (b : Bool) (e : b ≡ rulesOk xs) where
   abbrev there : Located
@@ -91,6 +92,8 @@ pub record Seated (xs : List ℕ) (d : ℕ) (s : Seat) : Type 0 where
   pub there : 0 < recordOf xs d
   pub same : s ≡ seat xs (recordOf xs d) (frontOf xs d)
   pub size : length xs ≡ 61472
+  pub place : s .state ≡ place (s .index) + 8
+  pub room : s .state + 2040 ≤ 61472
   pub low : 1 ≤ s .index
   pub high : s .index ≤ 30
   pub front : s .front ≤ 30
@@ -104,6 +107,8 @@ pub record Vacant (xs : List ℕ) (d : ℕ) (s : Seat) : Type 0 where
   pub number : (1 ≤ d) × (d ≤ 65535)
   pub same : s ≡ seat xs (firstFree xs) 0
   pub size : length xs ≡ 61472
+  pub place : s .state ≡ place (s .index) + 8
+  pub room : s .state + 2040 ≤ 61472
   pub low : 1 ≤ s .index
   pub high : s .index ≤ 30
   pub few : s .count ≤ 30
@@ -139,9 +144,11 @@ module _ (xs : List ℕ) (d : ℕ) (ok : rulesOk xs ≡ true) (there : 0 < recor
       let w : (1 ≤ recordOf xs d) × (recordOf xs d ≤ 30) = within-used r (recordOf xs d) its-used in
       let i : s .index ≡ recordOf xs d = ap (λ (s : Seat). s .index) e in
       let p : s .front ≡ frontOf xs d = ap (λ (s : Seat). s .front) e in
+      let q : s .state ≡ place (recordOf xs d) + 8 = ap (λ (s : Seat). s .state) e in
       let c : s .count ≡ countOf xs = ap (λ (s : Seat). s .count) e in
       record {
-        ok = ok; there = there; same = e; size = passes-size xs ok; low = omega arith; high = omega arith; front = omega (arith, its-front);
+        ok = ok; there = there; same = e; size = passes-size xs ok; place = q ∙ ap (λ (n : ℕ). place n + 8) (sym i);
+        room = omega (arith, place-high (recordOf xs d) (w .0) (w .1)); low = omega arith; high = omega arith; front = omega (arith, its-front);
         some = omega (arith, r .counted, occ-length (recordOf xs d) (usedOf xs), its-used); few = omega (arith, count-small r) }
 
 pub located : (xs : List ℕ) (d : ℕ) (s : Seat) → locate xs d ≡ At s → Seated xs d s
@@ -174,8 +181,10 @@ vacant xs d s h = go (rulesOk xs) (isNumber d) (eqb (recordOf xs d) 0) (eqb (fir
         let small : firstFree xs ≤ 30 = start-small (nextAt xs) (firstFree xs) (freeOf xs) (r .walk-free) (within-free r) in
         let i : s .index ≡ firstFree xs = ap (λ (s : Seat). s .index) same in
         let c : s .count ≡ countOf xs = ap (λ (s : Seat). s .count) same in
+        let q : s .state ≡ place (firstFree xs) + 8 = ap (λ (s : Seat). s .state) same in
         record {
           ok = eb; absent = eqb-true (recordOf xs d) 0 ez; number = number-true d en; same = same; size = passes-size xs eb;
+          place = q ∙ ap (λ (n : ℕ). place n + 8) (sym i); room = omega (arith, place-high (firstFree xs) (omega arith) small);
           low = omega arith; high = omega arith; few = omega (arith, count-small r) }
 
 -- What `seat_of` asks for, from what the code has found.

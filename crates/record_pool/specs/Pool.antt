@@ -73,9 +73,9 @@ frontOf xs d = inFront (numberAt xs) d 0 (usedOf xs)
 unfoldable pub stateOf : List ℕ → ℕ → List ℕ
 stateOf xs d = stateAt xs (recordOf xs d)
 
--- Record i, the used one in front of it, and the links as they stand.
+-- Record i, where its state begins, the used record p in front of it, and the links as they stand.
 abbrev pub seat : List ℕ → ℕ → ℕ → Seat
-seat xs i p = record { index = i; front = p; next = nextAt xs i; count = countOf xs; used = firstUsed xs; free = firstFree xs }
+seat xs i p = record { index = i; state = place i + 8; front = p; next = nextAt xs i; count = countOf xs; used = firstUsed xs; free = firstFree xs }
 
 -- A drawer that is there: 13, then 11.
 unfoldable pub locate : List ℕ → ℕ → Located

@@ -13,9 +13,11 @@ ghost use Rattle.record_pool.specs.Walks.{markPlace, isUnmarked, isSound
 // How many bytes a pool has.
 const POOL_LENGTH: usize = 61_472;
 
-// A record, the used record in front of it (0 where it is the first), the one behind it in its chain, and the header as it stands.
+// A record, where its state begins in the pool, the used record in front of it (0 where it is the first), the one behind it in its chain, and the header as it
+// stands.
 pub struct Seat {
     index: usize,
+    state: usize,
     front: usize,
     next: u32,
     count: u32,
@@ -288,10 +290,12 @@ fn seat_of(pool: &[u8], index: usize, front: usize) -> Seat
     requires { ⌜ length (now pool) ≡ 61472 ⌝ ∗ ⌜ 1 ≤ index ⌝ ∗ ⌜ index ≤ 30 ⌝ }
     ensures { λ r. ⌜ r ≡ Pool.seat (now (pool .entry)) index front ⌝ }
 {
+    let at = place(index);
     Seat {
         index,
+        state: at + 8,
         front,
-        next: read4(pool, place(index)),
+        next: read4(pool, at),
         count: read4(pool, 0),
         used: read4(pool, 4),
         free: read4(pool, 8),

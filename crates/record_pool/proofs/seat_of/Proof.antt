@@ -10,6 +10,9 @@ use Rattle.record_pool.proofs.read4.Reads as read4-reads
 place-requires : tie.Need-place-requires
 place-requires c κs = search needs
 
+add-t5 : tie.Need-add-t5
+add-t5 c = search needs
+
 read4-requires : tie.Need-read4-requires
 read4-requires c κs = search needs
 
@@ -30,6 +33,7 @@ seat-of-spec =
     tie.close
     (tie.spec
     place-requires
+    add-t5
     read4-requires
     read4-requires-2
     read4-requires-3
