@@ -7,7 +7,15 @@ use std::path::{Path, PathBuf};
 use std::process::{Command, ExitCode};
 use std::time::SystemTime;
 
-const ARCHIVES: [&str; 4] = ["c_interface", "c_chain", "c_calls", "c_judging"];
+const ARCHIVES: [&str; 7] = [
+    "c_interface",
+    "c_chain",
+    "c_calls",
+    "c_judging",
+    "pool_drawers",
+    "pool_settings",
+    "pool_judging",
+];
 
 /// When a file, or the newest file below a folder, was last changed.
 fn changed(path: &Path) -> io::Result<SystemTime> {

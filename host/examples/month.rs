@@ -9,7 +9,7 @@ use std::path::Path;
 use std::process::ExitCode;
 
 use chart::{Chart, Mark};
-use ward::{lines, wanted, ward, Judged, Wanted, MONTH};
+use ward::{lines, wanted, Judged, Wanted, Ward, MONTH};
 use withdrawal_watch::{ScoringStrategy, Verdict};
 
 const HELP: &str = "\
@@ -42,9 +42,9 @@ fn mark(moment: f64, judged: &Judged) -> Mark {
 
 /// One chart a drawer, in the ward's order, with the drawer's name.
 fn charts(month: &str) -> Result<Vec<(&'static str, Chart)>, String> {
-    let mut drawers = ward().map_err(|why| why.to_string())?;
+    let mut ward = Ward::new().map_err(|why| why.to_string())?;
     let mut charts: Vec<Chart> = Vec::new();
-    for drawer in &drawers {
+    for drawer in &ward.drawers {
         let about = drawer.about;
         let strategy = match about.strategy {
             ScoringStrategy::ExpectedInverseHeight => "EXPECTED_INVERSE_HEIGHT",
@@ -58,12 +58,11 @@ fn charts(month: &str) -> Result<Vec<(&'static str, Chart)>, String> {
         });
     }
     for line in lines(month)? {
-        let known = drawers.iter().position(|d| d.about.name == line.drawer);
-        let k = known.ok_or_else(|| format!("no drawer {}", line.drawer))?;
-        let judged = drawers[k].judge(line.amount);
-        charts[k].marks.push(mark(line.moment(), &judged));
+        let place = ward.place(line.drawer)?;
+        let judged = ward.judge(place, line.amount);
+        charts[place].marks.push(mark(line.moment(), &judged));
     }
-    let names = drawers.iter().map(|drawer| drawer.about.name);
+    let names = ward.drawers.iter().map(|drawer| drawer.about.name);
     Ok(names.zip(charts).collect())
 }
 

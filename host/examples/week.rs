@@ -1,12 +1,13 @@
 //! Judges the recorded month and prints one week of it as a ward wants to see it: the readings that
-//! are raised, corrected or could not be judged, and each drawer's figures and counts.
+//! are raised, corrected or could not be judged, and each drawer's figures and counts. Every night the
+//! drawers are stored, and read back in the morning.
 
 mod ward;
 
 use std::fmt::Write;
 use std::process::ExitCode;
 
-use ward::{lines, wanted, ward, Judged, Wanted, Watched, MONTH, SHINGLE};
+use ward::{lines, wanted, Judged, Line, Wanted, Ward, Watched, MONTH, SHINGLE};
 use withdrawal_watch::Verdict;
 
 const HELP: &str = "\
@@ -117,30 +118,39 @@ fn said(watched: &Watched, judged: &Judged) -> Option<String> {
     }
 }
 
+/// The line of a reading that the ward is to see.
+fn told(ward: &Ward, place: usize, line: &Line, judged: &Judged) -> Option<String> {
+    let watched = &ward.drawers[place];
+    let (day, time, about) = (line.day, line.time, &watched.about);
+    let (name, drug) = (about.name, about.drug);
+    let said = said(watched, judged)?;
+    Some(format!("{day:2} {time}  drawer {name}  {drug:<9}  {said}\n"))
+}
+
 fn report(month: &str, first: u32) -> Result<String, String> {
     let mut out = String::new();
-    let mut drawers = ward().map_err(|why| why.to_string())?;
-    let mut counts: Vec<Counts> = drawers.iter().map(|_| Counts::default()).collect();
+    let mut ward = Ward::new().map_err(|why| why.to_string())?;
+    let mut counts: Vec<Counts> = ward.drawers.iter().map(|_| Counts::default()).collect();
+    let mut today = 1;
     for line in lines(month)? {
-        let known = drawers.iter().position(|d| d.about.name == line.drawer);
-        let k = known.ok_or_else(|| format!("no drawer {}", line.drawer))?;
+        let place = ward.place(line.drawer)?;
         if line.day >= first + 7 {
             continue;
         }
-        let judged = drawers[k].judge(line.amount);
-        if line.day < first {
-            continue;
+        if line.day != today {
+            ward.restart().map_err(|why| why.to_string())?;
+            today = line.day;
         }
-        counts[k].add(&judged);
-        if let Some(said) = said(&drawers[k], &judged) {
-            let (day, time, about) = (line.day, line.time, &drawers[k].about);
-            let (name, drug) = (about.name, about.drug);
-            writeln!(out, "{day:2} {time}  drawer {name}  {drug:<9}  {said}").expect("a string");
+        let judged = ward.judge(place, line.amount);
+        if line.day >= first {
+            counts[place].add(&judged);
+            out.extend(told(&ward, place, &line, &judged));
         }
     }
     out.push('\n');
-    for (Watched { about, drawer, .. }, counts) in drawers.iter().zip(&counts) {
+    for (place, (Watched { about, .. }, counts)) in ward.drawers.iter().zip(&counts).enumerate() {
         let (name, drug, shown) = (about.name, about.drug, counts.show());
+        let drawer = ward.drawer(place);
         writeln!(out, "drawer {name}  {drug:<9}  {drawer:.2}; {shown}").expect("a string");
     }
     Ok(out)

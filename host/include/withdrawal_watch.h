@@ -17,8 +17,8 @@
  *
  * WHAT A CALL ANSWERS
  *
- * A uint8_t is 0 if the call was carried out, and otherwise the smallest number that applies; then
- * nothing was written.
+ * A uint8_t is 0 if the call was carried out, and otherwise the number that applies; then nothing was
+ * written. Of several 13 is given, else 11, else 12, else the smallest.
  *   1  discount not at least 0 and below 1
  *   2  shingle size not 1 to 64, base dimension not 1 to 16 or not the state's, or a byte that is a
  *      yes/no (1/0) or a code outside its list
@@ -31,6 +31,11 @@
  *   6  a count or the run length in the state is outside 0 to 16,777,215
  *   7  horizon not 0 to 1
  *   8  blocks: gap or base 0, or a length that is empty or no multiple of the base
+ *  11  the pool does not have the drawer, has it already on opening, or it is not 1 to 65,535
+ *  12  all records of the pool are used, on opening
+ *  13  a pool or a listing's buffer of another length; a pool whose chains do not have each record
+ *      once, whose count is not the used chain's length, with a drawer number in the used chain that
+ *      is not 1 to 65,535 or is there twice, or with a flag there that is not 1 or 0
  * (9 and 10 are of a cabinet's export, which no C function reads.)
  * A call without slices has nothing to refuse and answers its result.
  *
@@ -52,6 +57,15 @@
  *     0 thresholder            149 flag auto adjust        150 u32 run length
  *   154 u32 base dimension     158 16 statistics, actual   734 16 statistics, expected
  * Of the two lists the first "base dimension" entries exist, and only with auto adjust.
+ *
+ * A pool of thirty records, 61472 bytes; krcf_pool_lay_out writes an empty one, and it may be stored
+ * and read back as it is:
+ *     0 u32 count of drawers     4 u32 first used record     8 u32 first free record
+ *    32 30 records of 2048 bytes, counted from 1: record i begins at 32 + 2048 (i - 1)
+ * A record, where 0 stands for no record:
+ *     0 u32 next in its chain    4 u32 drawer number         8 a state
+ * All other bytes are zero in what these functions write, and none looks at them, nor at anything of a
+ * free record but its next one.
  *
  * A reading, 23 bytes:
  *     0 u32 shingle size         4 u32 base dimension
@@ -97,6 +111,17 @@
  * how many positions the conditional field is to be asked for (none: it is not asked) and five places
  * for them; krcf_expected_point writes the expected point, its position being the row's start.
  *
+ * SEVERAL DRAWERS
+ *
+ * A pool has the states of up to thirty drawers, each by its number. krcf_pool_open makes a drawer's
+ * state as krcf_new does, in the first free record, which becomes the first used one;
+ * krcf_pool_detect_and_modify and krcf_pool_set_* do to it what krcf_detect_and_modify and
+ * krcf_chain_set_* do to a state, with the same answers behind 13 and 11, and write nothing where the
+ * state would be the same, all its numbers comparing equal or both being NaN. krcf_pool_remove
+ * clears the record, which becomes the first free one. krcf_pool_list writes thirty numbers: the
+ * drawers' in the order of the used chain, the newest first, then zeros. One drawer's verdicts do not
+ * depend on the others'.
+ *
  * Single numbers that a call writes: krcf_threshold and krcf_primary_grade an f32 (4 bytes);
  * krcf_*threshold_and_grade* two f32, threshold and grade (8); krcf_total and krcf_high_low_sum an
  * f64 (8); krcf_max_gap_contribution, krcf_max_contribution and krcf_newest_row a u64 (8);
@@ -125,6 +150,8 @@ extern "C" {
 #define KRCF_LAST_BYTES 23
 #define KRCF_VERDICT_BYTES 14
 #define KRCF_MEASURED_BYTES 9
+#define KRCF_POOL_BYTES 61472
+#define KRCF_POOL_RECORDS 30
 
 /* The functions. Written by tools/declarations from the Rattle source, which its --check compares. */
 
@@ -388,6 +415,70 @@ uint8_t krcf_newest_row(
     size_t base_dimension,
     uint8_t *out,
     size_t out_len);
+
+/* libpool_drawers.a */
+uint8_t krcf_pool_lay_out(uint8_t *pool, size_t pool_len);
+uint8_t krcf_pool_open(
+    uint8_t *pool,
+    size_t pool_len,
+    uint32_t drawer,
+    double discount,
+    uint8_t auto_adjust,
+    size_t base_dimension);
+uint8_t krcf_pool_remove(uint8_t *pool, size_t pool_len, uint32_t drawer);
+uint8_t krcf_pool_list(const uint8_t *pool, size_t pool_len, uint32_t *numbers, size_t numbers_len);
+
+/* libpool_settings.a */
+uint8_t krcf_pool_set_z_factor(uint8_t *pool, size_t pool_len, uint32_t drawer, float factor);
+uint8_t krcf_pool_set_lower_threshold(uint8_t *pool, size_t pool_len, uint32_t drawer, float lower);
+uint8_t krcf_pool_set_initial_threshold(
+    uint8_t *pool,
+    size_t pool_len,
+    uint32_t drawer,
+    float initial);
+uint8_t krcf_pool_set_horizon(uint8_t *pool, size_t pool_len, uint32_t drawer, float horizon);
+
+/* libpool_judging.a */
+uint8_t krcf_pool_detect_and_modify(
+    uint8_t *pool,
+    size_t pool_len,
+    uint32_t drawer,
+    const uint8_t *reading,
+    size_t reading_len,
+    const uint8_t *last,
+    size_t last_len,
+    const float *point,
+    size_t point_len,
+    const float *scale,
+    size_t scale_len,
+    const float *shift,
+    size_t shift_len,
+    const float *difference_deviations,
+    size_t difference_deviations_len,
+    const float *last_expected,
+    size_t last_expected_len,
+    const float *last_anomalous,
+    size_t last_anomalous_len,
+    const double *high,
+    size_t high_len,
+    const double *low,
+    size_t low_len,
+    const float *median,
+    size_t median_len,
+    const double *ideal_high,
+    size_t ideal_high_len,
+    const double *ideal_low,
+    size_t ideal_low_len,
+    const float *neighbours,
+    size_t neighbours_len,
+    float *expected,
+    size_t expected_len,
+    double *out_high,
+    size_t out_high_len,
+    double *out_low,
+    size_t out_low_len,
+    uint8_t *verdict,
+    size_t verdict_len);
 
 /* End of the functions. */
 

@@ -76,6 +76,7 @@ pub fn measured(out: &[u8; MEASURED]) -> Option<f64> {
 mod tests {
     use super::*;
     use crate::reading::LastAnomaly;
+    use crate::records::{POOL_BYTES, POOL_RECORDS};
     use crate::state::{STATE_BYTES, STATISTIC_BYTES, THRESHOLDER_BYTES};
     use crate::types::{ScoringStrategy, TransformMethod};
 
@@ -129,15 +130,17 @@ mod tests {
     fn lengths_in_the_header() {
         let header = include_str!("../include/withdrawal_watch.h");
         for (name, length) in [
-            ("STATISTIC", STATISTIC_BYTES),
-            ("THRESHOLDER", THRESHOLDER_BYTES),
-            ("STATE", STATE_BYTES),
-            ("READING", READING),
-            ("LAST", LAST),
-            ("VERDICT", VERDICT),
-            ("MEASURED", MEASURED),
+            ("STATISTIC_BYTES", STATISTIC_BYTES),
+            ("THRESHOLDER_BYTES", THRESHOLDER_BYTES),
+            ("STATE_BYTES", STATE_BYTES),
+            ("READING_BYTES", READING),
+            ("LAST_BYTES", LAST),
+            ("VERDICT_BYTES", VERDICT),
+            ("MEASURED_BYTES", MEASURED),
+            ("POOL_BYTES", POOL_BYTES),
+            ("POOL_RECORDS", POOL_RECORDS),
         ] {
-            let line = format!("\n#define KRCF_{name}_BYTES {length}\n");
+            let line = format!("\n#define KRCF_{name} {length}\n");
             assert!(header.contains(&line), "{line}");
         }
     }

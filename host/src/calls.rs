@@ -75,6 +75,18 @@ measures! {
     deviation = krcf_deviation_deviation;
 }
 
+/// A call with a slice to change, a number or none, slices to read and slices to write, in this order.
+macro_rules! with_slices {
+    ($function:path, $lent:expr, [$($first:expr)?], [$($read:expr),*], [$($write:expr),*]) => {
+        $function(
+            $lent.as_mut_ptr(), $lent.len(),
+            $($first,)?
+            $($read.as_ptr(), $read.len(),)*
+            $($write.as_mut_ptr(), $write.len()),*
+        )
+    };
+}
+
 /// A judgment by a C function: the slice to change, what comes right behind it, then the reading's
 /// slices and those that are written.
 macro_rules! judgment {
@@ -111,18 +123,6 @@ macro_rules! judgment {
         };
         Refusal::answered(number)
     }};
-}
-
-/// A call with a slice to change, a number or none, slices to read and slices to write, in this order.
-macro_rules! with_slices {
-    ($function:path, $lent:expr, [$($first:expr)?], [$($read:expr),*], [$($write:expr),*]) => {
-        $function(
-            $lent.as_mut_ptr(), $lent.len(),
-            $($first,)?
-            $($read.as_ptr(), $read.len(),)*
-            $($write.as_mut_ptr(), $write.len()),*
-        )
-    };
 }
 
 pub mod pool;

@@ -2,24 +2,13 @@
 //! given is looked at again only to say why.
 
 use crate::reading::Reading;
+use crate::records::{self, DRAWERS, POOL_BYTES, POOL_RECORDS};
 use crate::refusal::{Refusal, Refused};
 use crate::state::{self, LARGEST_SEEN, STATE_BYTES};
+use crate::words::grouped;
 
 /// The most neighbours that a reading lends.
 const NEIGHBOURS: usize = 256;
-
-/// A whole number with its thousands apart.
-fn grouped(n: usize) -> String {
-    let digits = n.to_string();
-    let mut out = String::new();
-    for (k, digit) in digits.chars().enumerate() {
-        if k > 0 && (digits.len() - k) % 3 == 0 {
-            out.push(',');
-        }
-        out.push(digit);
-    }
-    out
-}
 
 /// How many numbers, as words.
 fn numbers(n: usize) -> String {
@@ -43,6 +32,26 @@ pub fn of_setting(refusal: Refusal, name: &str, value: f32) -> Refused {
         Refusal::Horizon => format!("{name}: {value}, not 0 to 1"),
         _ => refusal.reason().to_string(),
     };
+    Refused::new(refusal, about)
+}
+
+/// What refused bytes as a pool's.
+pub fn of_pool(refusal: Refusal, bytes: &[u8]) -> Refused {
+    let broken = records::broken_rule(bytes);
+    Refused::new(refusal, broken.unwrap_or(refusal.reason().to_string()))
+}
+
+/// What refused a call on a drawer of a pool: its number, whether it is there, or that there is no
+/// record for it.
+pub fn of_drawer(refusal: Refusal, pool: &[u8; POOL_BYTES], drawer: u32) -> Refused {
+    let wrong = match refusal {
+        Refusal::Full => format!("where all {POOL_RECORDS} records are used"),
+        Refusal::Drawer if !DRAWERS.contains(&drawer) => "not 1 to 65,535".to_string(),
+        Refusal::Drawer if records::state_of(pool, drawer).is_some() => "there already".to_string(),
+        Refusal::Drawer => "not in the pool".to_string(),
+        _ => return of_pool(refusal, pool),
+    };
+    let about = format!("drawer: {}, {wrong}", grouped(drawer as usize));
     Refused::new(refusal, about)
 }
 
@@ -226,15 +235,4 @@ fn count(bytes: &[u8; STATE_BYTES]) -> Option<String> {
         .find(|(_, value)| !(0..=state::LARGEST_COUNT).contains(value))?;
     let value = usize::try_from(value).map_or(value.to_string(), grouped);
     Some(format!("{name}: {value}, not 0 to 16,777,215"))
-}
-
-#[cfg(test)]
-mod tests {
-    use super::grouped;
-
-    #[test]
-    fn thousands_apart() {
-        let all = [0, 7, 999, 1_000, 1_023, 16_777_216].map(grouped);
-        assert_eq!(all, ["0", "7", "999", "1,000", "1,023", "16,777,216"]);
-    }
 }

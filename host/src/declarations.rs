@@ -319,3 +319,86 @@ unsafe extern "C" {
         out_len: usize,
     ) -> u8;
 }
+
+#[link(name = "pool_drawers", kind = "static")]
+unsafe extern "C" {
+    pub fn krcf_pool_lay_out(pool: *mut u8, pool_len: usize) -> u8;
+    pub fn krcf_pool_open(
+        pool: *mut u8,
+        pool_len: usize,
+        drawer: u32,
+        discount: f64,
+        auto_adjust: u8,
+        base_dimension: usize,
+    ) -> u8;
+    pub fn krcf_pool_remove(pool: *mut u8, pool_len: usize, drawer: u32) -> u8;
+    pub fn krcf_pool_list(
+        pool: *const u8,
+        pool_len: usize,
+        numbers: *mut u32,
+        numbers_len: usize,
+    ) -> u8;
+}
+
+#[link(name = "pool_settings", kind = "static")]
+unsafe extern "C" {
+    pub fn krcf_pool_set_z_factor(pool: *mut u8, pool_len: usize, drawer: u32, factor: f32) -> u8;
+    pub fn krcf_pool_set_lower_threshold(
+        pool: *mut u8,
+        pool_len: usize,
+        drawer: u32,
+        lower: f32,
+    ) -> u8;
+    pub fn krcf_pool_set_initial_threshold(
+        pool: *mut u8,
+        pool_len: usize,
+        drawer: u32,
+        initial: f32,
+    ) -> u8;
+    pub fn krcf_pool_set_horizon(pool: *mut u8, pool_len: usize, drawer: u32, horizon: f32) -> u8;
+}
+
+#[link(name = "pool_judging", kind = "static")]
+unsafe extern "C" {
+    pub fn krcf_pool_detect_and_modify(
+        pool: *mut u8,
+        pool_len: usize,
+        drawer: u32,
+        reading: *const u8,
+        reading_len: usize,
+        last: *const u8,
+        last_len: usize,
+        point: *const f32,
+        point_len: usize,
+        scale: *const f32,
+        scale_len: usize,
+        shift: *const f32,
+        shift_len: usize,
+        difference_deviations: *const f32,
+        difference_deviations_len: usize,
+        last_expected: *const f32,
+        last_expected_len: usize,
+        last_anomalous: *const f32,
+        last_anomalous_len: usize,
+        high: *const f64,
+        high_len: usize,
+        low: *const f64,
+        low_len: usize,
+        median: *const f32,
+        median_len: usize,
+        ideal_high: *const f64,
+        ideal_high_len: usize,
+        ideal_low: *const f64,
+        ideal_low_len: usize,
+        neighbours: *const f32,
+        neighbours_len: usize,
+        expected: *mut f32,
+        expected_len: usize,
+        out_high: *mut f64,
+        out_high_len: usize,
+        out_low: *mut f64,
+        out_low_len: usize,
+        verdict: *mut u8,
+        verdict_len: usize,
+    ) -> u8;
+}

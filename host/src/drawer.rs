@@ -1,99 +1,16 @@
 //! A drawer that asks the forest by itself.
 
-use std::error::Error;
 use std::fmt;
 
-use crate::calls;
-use crate::culprit;
-use crate::forest::{AskedOfForest, Forest};
-use crate::kept::{Accepted, Anomaly, Kept};
-use crate::reading::{LastDescriptor, Reading};
-use crate::refusal::{Refusal, Refused};
+use crate::asking;
+use crate::forest::Forest;
+use crate::kept::{Anomaly, Kept};
+use crate::reading::LastDescriptor;
+use crate::refusal::Refused;
 use crate::state::STATE_BYTES;
-use crate::steps;
-use crate::types::{CorrectionMode, ScoringStrategy, TransformMethod};
-use crate::verdict::{Attribution, Verdict};
-use crate::watch::{Trial, Watch};
-
-/// What krcf's chain asks its forest with.
-const PERCENTILE: usize = 50;
-const CENTRALITY: f64 = 1.0;
-const PROJECT: bool = false;
-const MAX_NUMBER: usize = 0;
-
-/// One withdrawal as the forest sees it: what krcf's preprocessor leaves in a descriptor.
-///
-/// The dimension is `shingle_size` × `base_dimension`: the newest `shingle_size` rows, each of
-/// `base_dimension` numbers, oldest first. The default is empty; it is there to fill up from.
-#[derive(Clone, Copy, Debug, Default, PartialEq)]
-pub struct Withdrawal<'a> {
-    /// How many rows the point has, 1 to 64. One drawer has always the same.
-    pub shingle_size: usize,
-    /// How many numbers a row has, 1 to 16, as the drawer was made.
-    pub base_dimension: usize,
-    /// What the forest is asked for as the score.
-    pub scoring_strategy: ScoringStrategy,
-    /// How the forest's input was transformed.
-    pub transform_method: TransformMethod,
-    /// Whether the last number of a row is a time gap.
-    pub time_augmented: bool,
-    /// How many rows the drawer's points have taken in, this one included, 1 to 16,777,216: krcf's
-    /// `values_seen`. Rows since the last anomaly are counted by it, so it grows by one with each
-    /// row that enters the points, and by none for a withdrawal that is left out of them.
-    pub values_seen: usize,
-    /// The point, as long as the dimension.
-    pub rcf_point: &'a [f32],
-    /// The transform's scale of each number of a row.
-    pub scale: &'a [f32],
-    /// The transform's shift of each number of a row.
-    pub shift: &'a [f32],
-    /// The usual change of each number of a row from one withdrawal to the next.
-    pub difference_deviations: &'a [f32],
-}
-
-impl<'a> Withdrawal<'a> {
-    /// The reading before the forest was asked: zeros of the right length for all that it may say.
-    fn unasked(&self, last_descriptor: LastDescriptor<'a>) -> Reading<'a> {
-        Reading {
-            scoring_strategy: self.scoring_strategy,
-            transform_method: self.transform_method,
-            time_augmented: self.time_augmented,
-            values_seen: self.values_seen,
-            rcf_point: self.rcf_point,
-            scale: self.scale,
-            shift: self.shift,
-            difference_deviations: self.difference_deviations,
-            last_descriptor,
-            ..Reading::blank(self.shingle_size, self.base_dimension)
-        }
-    }
-}
-
-/// Why a withdrawal was not judged. The drawer is as it was.
-#[derive(Clone, Debug, PartialEq, Eq)]
-pub enum NotJudged<E> {
-    /// The library refused it, or something that the forest said of it.
-    Refused(Refused),
-    /// A call of the forest failed.
-    Forest(E),
-}
-
-impl<E> From<Refused> for NotJudged<E> {
-    fn from(why: Refused) -> Self {
-        NotJudged::Refused(why)
-    }
-}
-
-impl<E: fmt::Display> fmt::Display for NotJudged<E> {
-    fn fmt(&self, f: &mut fmt::Formatter) -> fmt::Result {
-        match self {
-            NotJudged::Refused(why) => why.fmt(f),
-            NotJudged::Forest(why) => write!(f, "the forest failed: {why}"),
-        }
-    }
-}
-
-impl<E: fmt::Debug + fmt::Display> Error for NotJudged<E> {}
+use crate::verdict::Verdict;
+use crate::watch::Watch;
+use crate::withdrawal::{NotJudged, Withdrawal};
 
 /// The watch over one drawer with all that it needs from one withdrawal to the next: it takes a
 /// point, asks the [`Forest`] and judges.
@@ -213,22 +130,11 @@ impl Drawer {
         withdrawal: &Withdrawal,
         forest: &F,
     ) -> Result<Verdict, NotJudged<F::Error>> {
-        let reading = withdrawal.unasked(self.kept.descriptor());
-        // Its score is 0, which is skipped unless something else is refused.
-        self.watch.trial(&reading)?;
-        let judged = Asking {
-            watch: &mut self.watch,
-            forest,
-        }
-        .score(reading)?;
+        let (watch, kept) = (&mut self.watch, &self.kept);
+        let judged = asking::judge(watch, kept, withdrawal, forest, |_| Ok(()))?;
         self.watch.take(judged.trial.state);
-        let accepted = Accepted {
-            scoring_strategy: withdrawal.scoring_strategy,
-            score: judged.score,
-            values_seen: withdrawal.values_seen,
-            rcf_point: withdrawal.rcf_point,
-        };
-        self.kept.remember(accepted, &judged.trial.verdict);
+        self.kept
+            .remember(withdrawal, judged.score, &judged.trial.verdict);
         Ok(judged.trial.verdict)
     }
 
@@ -300,164 +206,5 @@ impl fmt::Display for Drawer {
         };
         let [before, behind] = [before, room - before].map(|n| f.fill().to_string().repeat(n));
         write!(f, "{before}{shown}{behind}")
-    }
-}
-
-/// A judgment that stands, and the score that it is about.
-struct Judged {
-    trial: Trial,
-    score: f32,
-}
-
-/// One judgment's way through the forest's calls, each stage in a function.
-struct Asking<'w, 'f, F: ?Sized> {
-    watch: &'w mut Watch,
-    forest: &'f F,
-}
-
-/// How that way ends.
-type Ended<F> = Result<Judged, NotJudged<<F as Forest>::Error>>;
-
-impl<F: Forest + ?Sized> Asking<'_, '_, F> {
-    /// Call 1. A skipped or quiet reading ends here.
-    fn score(self, reading: Reading) -> Ended<F> {
-        let score = self.score_of(&reading, reading.rcf_point)?;
-        let reading = Reading { score, ..reading };
-        let trial = self.watch.trial(&reading)?;
-        match trial.verdict {
-            Verdict::Skipped | Verdict::Quiet { .. } => Ok(Judged { trial, score }),
-            _ => self.corrected_score(reading, trial),
-        }
-    }
-
-    /// Call 2, within a shingle of the last anomaly. A corrected score of grade 0 ends here, and
-    /// noise.
-    fn corrected_score(self, reading: Reading, mut trial: Trial) -> Ended<F> {
-        let asked = self.watch.asked_of_forest(&reading)?;
-        let corrected = self.step(&reading, steps::corrected_point(&reading, &asked))?;
-        let mut reading = reading;
-        if asked.corrected_score {
-            reading.corrected_score = self.score_of(&reading, &corrected)?;
-            trial = self.watch.trial(&reading)?;
-        }
-        let score = reading.score;
-        match mode(&trial.verdict) {
-            Some(CorrectionMode::Noise) => Ok(Judged { trial, score }),
-            // Of the two ways to this mode only the first has a grade of 0.
-            Some(CorrectionMode::AnomalyInShingle)
-                if asked.corrected_score
-                    && self.step(&reading, self.corrected_grade(&reading))? == 0.0 =>
-            {
-                Ok(Judged { trial, score })
-            }
-            _ => self.attribution(reading, asked, &corrected),
-        }
-    }
-
-    /// Calls 3 and, with auto adjust, 4. What the neighbours explain ends here.
-    fn attribution(self, reading: Reading, asked: AskedOfForest, corrected: &[f32]) -> Ended<F> {
-        let attribution = self.attribution_of(&reading, corrected)?;
-        let mut neighbours = Vec::new();
-        if asked.near_neighbor_list {
-            neighbours = said(self.forest.near_neighbor_list(corrected, PERCENTILE))?;
-        }
-        let reading = Reading {
-            attribution: attribution.lent(),
-            neighbours: &neighbours,
-            ..reading
-        };
-        let trial = self.watch.trial(&reading)?;
-        let score = reading.score;
-        match mode(&trial.verdict) {
-            Some(CorrectionMode::ConditionalForecast) => Ok(Judged { trial, score }),
-            _ => self.expected_point(reading, asked),
-        }
-    }
-
-    /// Calls 5, if a coordinate stands out, and 6, within a shingle of the last anomaly. Every
-    /// reading ends here.
-    fn expected_point(self, reading: Reading, asked: AskedOfForest) -> Ended<F> {
-        let missing = self.step(&reading, steps::likely_missing_indices(&reading, asked.gap))?;
-        let median;
-        let mut reading = reading;
-        if !missing.indices.is_empty() {
-            median = said(self.forest.conditional_field(
-                &missing.indices,
-                reading.rcf_point,
-                CENTRALITY,
-                PROJECT,
-                MAX_NUMBER,
-            ))?;
-            reading.median = &median;
-        }
-        let expected_attribution;
-        if asked.new_attribution {
-            let expected = self.step(&reading, steps::expected_point(&reading, missing.start))?;
-            expected_attribution = said(self.forest.attribution(&expected))?;
-            reading.expected_attribution = expected_attribution.lent();
-        }
-        let trial = self.watch.trial(&reading)?;
-        let score = reading.score;
-        Ok(Judged { trial, score })
-    }
-
-    /// The forest's score of a point, as f32.
-    fn score_of(&self, reading: &Reading, point: &[f32]) -> Result<f32, NotJudged<F::Error>> {
-        let score = match reading.scoring_strategy {
-            ScoringStrategy::ExpectedInverseHeight => said(self.forest.score(point))?,
-            ScoringStrategy::Distance => {
-                let distance = said(self.forest.density_interpolant(point))?;
-                total(&distance)?
-            }
-        };
-        Ok(calls::narrow(score))
-    }
-
-    /// The forest's attribution of a point under the reading's strategy.
-    fn attribution_of(
-        &self,
-        reading: &Reading,
-        point: &[f32],
-    ) -> Result<Attribution, NotJudged<F::Error>> {
-        said(match reading.scoring_strategy {
-            ScoringStrategy::ExpectedInverseHeight => self.forest.attribution(point),
-            ScoringStrategy::Distance => self.forest.density_interpolant(point),
-        })
-    }
-
-    /// The corrected score's grade against the state.
-    fn corrected_grade(&self, reading: &Reading) -> Result<f32, Refusal> {
-        calls::corrected_grade(self.watch.state_bytes(), reading)
-    }
-
-    /// What a step on the reading's lists answered, or what it was refused for.
-    fn step<T>(
-        &self,
-        reading: &Reading,
-        answer: Result<T, Refusal>,
-    ) -> Result<T, NotJudged<F::Error>> {
-        let state = self.watch.state_bytes();
-        answer.map_err(|refusal| culprit::of_reading(refusal, reading, state).into())
-    }
-}
-
-/// What the forest answered.
-fn said<T, E>(answer: Result<T, E>) -> Result<T, NotJudged<E>> {
-    answer.map_err(NotJudged::Forest)
-}
-
-/// A distance's total.
-fn total(distance: &Attribution) -> Result<f64, Refused> {
-    calls::total(&distance.high, &distance.low).map_err(|refusal| {
-        let (high, low) = (distance.high.len(), distance.low.len());
-        let about = format!("density_interpolant: {high} numbers high and {low} low");
-        Refused::new(refusal, about)
-    })
-}
-
-fn mode(verdict: &Verdict) -> Option<CorrectionMode> {
-    match verdict {
-        Verdict::Corrected { mode, .. } => Some(*mode),
-        _ => None,
     }
 }

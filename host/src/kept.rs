@@ -3,6 +3,7 @@
 use crate::reading::{LastAnomaly, LastDescriptor};
 use crate::types::ScoringStrategy;
 use crate::verdict::{Attribution, Verdict};
+use crate::withdrawal::Withdrawal;
 
 /// A raised reading as the drawer keeps it: what the chain reads of krcf's `AnomalyInformation`, with
 /// its attribution and grade.
@@ -47,14 +48,6 @@ pub struct Kept {
     pub anomaly: Option<Anomaly>,
 }
 
-/// An accepted reading, as far as it is kept.
-pub struct Accepted<'a> {
-    pub scoring_strategy: ScoringStrategy,
-    pub score: f32,
-    pub values_seen: usize,
-    pub rcf_point: &'a [f32],
-}
-
 impl Kept {
     pub fn descriptor(&self) -> LastDescriptor<'_> {
         LastDescriptor {
@@ -65,17 +58,17 @@ impl Kept {
         }
     }
 
-    /// Puts an accepted reading in the place of the one before: its score, and its threshold, which
+    /// Puts an accepted withdrawal in the place of the one before: its score, and its threshold, which
     /// is 0 for a skipped one, as the Rust's descriptor has it. A threshold that is not finite would
     /// have every later reading refused, so the last finite one stays instead.
-    pub fn remember(&mut self, reading: Accepted, verdict: &Verdict) {
+    pub fn remember(&mut self, withdrawal: &Withdrawal, score: f32, verdict: &Verdict) {
         let threshold = verdict.threshold().unwrap_or(0.0);
         if threshold.is_finite() {
             self.threshold = threshold;
         }
-        self.scoring_strategy = reading.scoring_strategy;
-        self.score = reading.score;
-        self.values_seen = reading.values_seen;
+        self.scoring_strategy = withdrawal.scoring_strategy;
+        self.score = score;
+        self.values_seen = withdrawal.values_seen;
         if let Verdict::Raised {
             grade,
             relative_index,
@@ -86,11 +79,11 @@ impl Kept {
         {
             self.anomaly = Some(Anomaly {
                 expected_rcf_point: expected_point.clone(),
-                anomalous_rcf_point: reading.rcf_point.to_vec(),
+                anomalous_rcf_point: withdrawal.rcf_point.to_vec(),
                 relative_index: *relative_index,
-                values_seen: reading.values_seen,
+                values_seen: withdrawal.values_seen,
                 attribution: attribution.clone(),
-                score: reading.score,
+                score,
                 grade: *grade,
             });
         }

@@ -24,11 +24,18 @@ const COUNT_WITHIN: usize = 32;
 /// Where the thresholder has its primary statistic, that of the scores.
 const PRIMARY: usize = 16;
 
+const AUTO_THRESHOLD: usize = 124;
 const AUTO_ADJUST: usize = THRESHOLDER_BYTES;
 const RUN_LENGTH: usize = AUTO_ADJUST + 1;
 const BASE_DIMENSION: usize = RUN_LENGTH + 4;
 const ACTUAL: usize = BASE_DIMENSION + 4;
 const EXPECTED: usize = ACTUAL + 16 * STATISTIC_BYTES;
+
+/// Where a state has a yes/no, each with its name.
+pub const FLAGS: [(usize, &str); 2] = [
+    (AUTO_THRESHOLD, "auto threshold"),
+    (AUTO_ADJUST, "auto adjust"),
+];
 
 fn auto_adjust(bytes: &[u8; STATE_BYTES]) -> bool {
     bytes[AUTO_ADJUST] == 1

@@ -1,52 +1,89 @@
-//! A drawer as bytes, to be kept over a restart.
+//! A drawer or a site as bytes, to be kept over a restart.
 //!
 //! All numbers are little-endian and stand without gaps:
 //!
 //! | bytes | what |
 //! |---|---|
-//! | 8 | `wwdrawer` |
+//! | 8 | `wwdrawer` of a drawer, `wwpooled` of a site |
 //! | 4 | the version, [`STORE_VERSION`] |
 //! | 4 | how many bytes there are in all |
-//! | 1310 | the watch's state, as the library keeps it |
+//! | 1310 or 61472 | the watch's state or the site's pool, as the library keeps it |
+//! | | then of the drawer, or of each of the site's in the order of its list: |
 //! | 1, 4, 4, 8 | the last reading's strategy, score, threshold, `values_seen` |
 //! | 4 | D, how long the last anomaly's points are; 0 if there is none, and then no more of it |
 //! | 4, 8, 4, 4 | the last anomaly's relative index, `values_seen`, score, grade |
 //! | 4 D, 4 D | its expected point, its own point |
 //! | 8 D, 8 D | its attribution, high and low |
+//! | | and at the end: |
 //! | 4 | CRC-32 (the one of zlib and PNG) of all bytes before |
 
+use std::collections::BTreeMap;
 use std::error::Error;
 use std::fmt;
 
 use crate::drawer::Drawer;
 use crate::kept::{Anomaly, Kept};
+use crate::pool::Pool;
+use crate::records::POOL_BYTES;
 use crate::refusal::Refused;
+use crate::site::Site;
 use crate::state::{self, LARGEST_SEEN, STATE_BYTES};
 use crate::types::ScoringStrategy;
 use crate::verdict::Attribution;
 use crate::watch::Watch;
 
-/// The version of a drawer's bytes that this crate writes and reads.
+/// The version of stored bytes that this crate writes and reads.
 pub const STORE_VERSION: u32 = 1;
-
-const MAGIC: [u8; 8] = *b"wwdrawer";
 
 /// Magic, version and length; checksum.
 const HEAD: usize = 16;
 const TAIL: usize = 4;
 
-/// The shortest store: one without an anomaly.
-const LEAST: usize = HEAD + STATE_BYTES + 17 + 4 + TAIL;
+/// What is kept of a drawer without an anomaly.
+const KEPT: usize = 21;
 
 /// The longest points.
 const MOST: usize = 1024;
 
-/// Why bytes are no stored drawer.
+/// What is stored.
+#[derive(Clone, Copy)]
+enum Kind {
+    Drawer,
+    Site,
+}
+
+impl Kind {
+    fn magic(self) -> [u8; 8] {
+        match self {
+            Kind::Drawer => *b"wwdrawer",
+            Kind::Site => *b"wwpooled",
+        }
+    }
+
+    /// The shortest store: a drawer without an anomaly, a site without drawers.
+    fn least(self) -> usize {
+        match self {
+            Kind::Drawer => HEAD + STATE_BYTES + KEPT + TAIL,
+            Kind::Site => HEAD + POOL_BYTES + TAIL,
+        }
+    }
+
+    fn another(self) -> StoreError {
+        match self {
+            Kind::Drawer => StoreError::NotADrawer,
+            Kind::Site => StoreError::NotASite,
+        }
+    }
+}
+
+/// Why bytes are no stored drawer or site.
 #[derive(Clone, Debug, PartialEq, Eq)]
 #[non_exhaustive]
 pub enum StoreError {
     /// They do not begin as a stored drawer does.
     NotADrawer,
+    /// They do not begin as a stored site does.
+    NotASite,
     /// They are of another version.
     Version {
         /// The version that they name.
@@ -65,22 +102,26 @@ pub enum StoreError {
     Number(&'static str),
     /// The library takes no such state.
     State(Refused),
+    /// The library takes no such pool.
+    Pool(Refused),
 }
 
 impl fmt::Display for StoreError {
     fn fmt(&self, f: &mut fmt::Formatter) -> fmt::Result {
         match self {
-            StoreError::NotADrawer => write!(f, "stored drawer: these bytes are something else"),
+            StoreError::NotADrawer => write!(f, "store: these bytes are no drawer's"),
+            StoreError::NotASite => write!(f, "store: these bytes are no site's"),
             StoreError::Version { found } => write!(
                 f,
-                "stored drawer: version {found}, where this program reads {STORE_VERSION}"
+                "store: version {found}, where this program reads {STORE_VERSION}"
             ),
             StoreError::Length { found, wanted } => {
-                write!(f, "stored drawer: {found} bytes, not {wanted}")
+                write!(f, "store: {found} bytes, not {wanted}")
             }
-            StoreError::Damaged => write!(f, "stored drawer: damaged, its checksum differs"),
-            StoreError::Number(which) => write!(f, "stored drawer: no drawer has this {which}"),
-            StoreError::State(why) => write!(f, "stored drawer: its state gets {why}"),
+            StoreError::Damaged => write!(f, "store: damaged, its checksum differs"),
+            StoreError::Number(which) => write!(f, "store: no drawer has this {which}"),
+            StoreError::State(why) => write!(f, "store: its state gets {why}"),
+            StoreError::Pool(why) => write!(f, "store: its pool gets {why}"),
         }
     }
 }
@@ -104,7 +145,7 @@ fn checksum(bytes: &[u8]) -> u32 {
 struct Rest<'a>(&'a [u8]);
 
 impl Rest<'_> {
-    /// The next bytes; zeros where there are too few, which the length has ruled out before.
+    /// The next bytes; zeros where there are too few, which lengths have ruled out before.
     fn next<const N: usize>(&mut self) -> [u8; N] {
         let mut out = [0; N];
         if let Some((first, rest)) = self.0.split_first_chunk::<N>() {
@@ -112,6 +153,14 @@ impl Rest<'_> {
             self.0 = rest;
         }
         out
+    }
+
+    /// Nothing is left.
+    fn end(&self) -> Result<(), StoreError> {
+        match self.0 {
+            [] => Ok(()),
+            _ => Err(StoreError::Number("length")),
+        }
     }
 
     fn u32(&mut self) -> u32 {
@@ -162,69 +211,101 @@ impl Drawer {
     /// let why = Drawer::of_bytes(&bytes[1..]).unwrap_err();
     /// assert_eq!(why, StoreError::NotADrawer);
     /// let why = Drawer::of_bytes(&bytes[..40]).unwrap_err();
-    /// assert_eq!(why.to_string(), "stored drawer: 40 bytes, not 1351");
+    /// assert_eq!(why.to_string(), "store: 40 bytes, not 1351");
     /// bytes[700] ^= 1;
     /// assert_eq!(Drawer::of_bytes(&bytes).unwrap_err(), StoreError::Damaged);
     /// # Ok::<(), Box<dyn std::error::Error>>(())
     /// ```
     pub fn to_bytes(&self) -> Vec<u8> {
-        let kept = self.kept();
-        let mut out = Vec::new();
-        out.extend(MAGIC);
-        out.extend(STORE_VERSION.to_le_bytes());
-        out.extend([0; 4]);
-        out.extend(self.state_bytes());
-        out.push(kept.scoring_strategy.code());
-        out.extend(kept.score.to_le_bytes());
-        out.extend(kept.threshold.to_le_bytes());
-        out.extend((kept.values_seen as u64).to_le_bytes());
-        match &kept.anomaly {
-            Some(anomaly) => put_anomaly(&mut out, anomaly),
-            None => out.extend([0; 4]),
-        }
-        let length = (out.len() + TAIL) as u32;
-        out[HEAD - 4..HEAD].copy_from_slice(&length.to_le_bytes());
-        out.extend(checksum(&out).to_le_bytes());
-        out
+        let mut body = self.state_bytes().to_vec();
+        put_kept(&mut body, self.kept());
+        whole(Kind::Drawer, &body)
     }
 
     /// The drawer whose [`to_bytes`](Drawer::to_bytes) these are: it gives the same verdicts. Bytes
     /// that are cut off, too many, damaged, of another version, or that no drawer has, are an error.
     pub fn of_bytes(bytes: &[u8]) -> Result<Drawer, StoreError> {
-        let mut rest = Rest(checked(bytes)?);
+        let mut rest = Rest(checked(Kind::Drawer, bytes)?);
         let watch = Watch::of_state_bytes(&rest.next()).map_err(StoreError::State)?;
-        let strategy = rest.next::<1>()[0];
-        let kept = Kept {
-            scoring_strategy: ScoringStrategy::of_code(strategy)
-                .ok_or(StoreError::Number("strategy"))?,
-            score: rest.finite("score")?,
-            threshold: rest.finite("threshold")?,
-            values_seen: rest.values_seen()?,
-            anomaly: anomaly(&mut rest, state::base_dimension(watch.state_bytes()))?,
-        };
+        let kept = kept(&mut rest, &watch)?;
+        rest.end()?;
         Ok(Drawer::of(watch, kept))
     }
 }
 
+impl Site {
+    /// The whole of what the site keeps, for [`of_bytes`](Site::of_bytes) after a restart.
+    ///
+    /// ```
+    /// use withdrawal_watch::{Drawer, Site, StoreError};
+    ///
+    /// let mut site = Site::new();
+    /// site.open(7, 0.01, true, 2)?;
+    /// let mut bytes = site.to_bytes();
+    /// assert_eq!(Site::of_bytes(&bytes)?.pool().as_bytes(), site.pool().as_bytes());
+    ///
+    /// assert_eq!(Drawer::of_bytes(&bytes).unwrap_err(), StoreError::NotADrawer);
+    /// let why = Site::of_bytes(&bytes[..40]).unwrap_err();
+    /// assert_eq!(why.to_string(), "store: 40 bytes, not 61492");
+    /// bytes[700] ^= 1;
+    /// assert_eq!(Site::of_bytes(&bytes).unwrap_err(), StoreError::Damaged);
+    /// # Ok::<(), Box<dyn std::error::Error>>(())
+    /// ```
+    pub fn to_bytes(&self) -> Vec<u8> {
+        let mut body = self.pool().as_bytes().to_vec();
+        for drawer in self.pool().list() {
+            put_kept(&mut body, &self.kept(drawer));
+        }
+        whole(Kind::Site, &body)
+    }
+
+    /// The site whose [`to_bytes`](Site::to_bytes) these are: its drawers give the same verdicts.
+    /// Bytes that are cut off, too many, damaged, of another version, or that no site has, are an
+    /// error.
+    pub fn of_bytes(bytes: &[u8]) -> Result<Site, StoreError> {
+        let (pool, rest) = checked(Kind::Site, bytes)?.split_at(POOL_BYTES);
+        let pool = Pool::from_bytes(pool).map_err(StoreError::Pool)?;
+        let mut rest = Rest(rest);
+        let mut all = BTreeMap::new();
+        for drawer in pool.list() {
+            let watch = pool.watch(drawer).map_err(StoreError::State)?;
+            all.insert(drawer, kept(&mut rest, &watch)?);
+        }
+        rest.end()?;
+        Ok(Site::of(pool, all))
+    }
+}
+
+/// What is stored between its head and its checksum.
+fn whole(kind: Kind, body: &[u8]) -> Vec<u8> {
+    let length = HEAD + body.len() + TAIL;
+    let mut out = Vec::with_capacity(length);
+    out.extend(kind.magic());
+    out.extend(STORE_VERSION.to_le_bytes());
+    out.extend((length as u32).to_le_bytes());
+    out.extend(body);
+    out.extend(checksum(&out).to_le_bytes());
+    out
+}
+
 /// What stands between head and checksum of bytes that are whole.
-fn checked(bytes: &[u8]) -> Result<&[u8], StoreError> {
+fn checked(kind: Kind, bytes: &[u8]) -> Result<&[u8], StoreError> {
     let length = |wanted| StoreError::Length {
         found: bytes.len(),
         wanted,
     };
     let mut head = Rest(bytes);
-    let magic: [u8; 8] = head.next();
-    if magic != MAGIC && !MAGIC.starts_with(bytes) {
-        return Err(StoreError::NotADrawer);
+    if head.next() != kind.magic() && !kind.magic().starts_with(bytes) {
+        return Err(kind.another());
     }
     if bytes.len() < HEAD {
-        return Err(length(LEAST));
+        return Err(length(kind.least()));
     }
     let found = head.u32();
     if found != STORE_VERSION {
         return Err(StoreError::Version { found });
     }
-    let wanted = (head.u32() as usize).max(LEAST);
+    let wanted = (head.u32() as usize).max(kind.least());
     if bytes.len() != wanted {
         return Err(length(wanted));
     }
@@ -233,6 +314,33 @@ fn checked(bytes: &[u8]) -> Result<&[u8], StoreError> {
         return Err(StoreError::Damaged);
     }
     Ok(&body[HEAD..])
+}
+
+fn put_kept(out: &mut Vec<u8>, kept: &Kept) {
+    out.push(kept.scoring_strategy.code());
+    out.extend(kept.score.to_le_bytes());
+    out.extend(kept.threshold.to_le_bytes());
+    out.extend((kept.values_seen as u64).to_le_bytes());
+    match &kept.anomaly {
+        Some(anomaly) => put_anomaly(out, anomaly),
+        None => out.extend([0; 4]),
+    }
+}
+
+/// What the drawer of this watch keeps.
+fn kept(rest: &mut Rest, watch: &Watch) -> Result<Kept, StoreError> {
+    if rest.0.len() < KEPT {
+        return Err(StoreError::Number("length"));
+    }
+    let strategy = rest.next::<1>()[0];
+    Ok(Kept {
+        scoring_strategy: ScoringStrategy::of_code(strategy)
+            .ok_or(StoreError::Number("strategy"))?,
+        score: rest.finite("score")?,
+        threshold: rest.finite("threshold")?,
+        values_seen: rest.values_seen()?,
+        anomaly: anomaly(rest, state::base_dimension(watch.state_bytes()))?,
+    })
 }
 
 fn put_anomaly(out: &mut Vec<u8>, a: &Anomaly) {
@@ -249,18 +357,17 @@ fn put_anomaly(out: &mut Vec<u8>, a: &Anomaly) {
     }
 }
 
-/// The last anomaly, if there is one, and nothing after it.
+/// The last anomaly, if there is one.
 fn anomaly(rest: &mut Rest, base: usize) -> Result<Option<Anomaly>, StoreError> {
     let d = rest.u32() as usize;
     if d > MOST || d % base.max(1) != 0 {
         return Err(StoreError::Number("dimension"));
     }
-    let wanted = if d == 0 { 0 } else { 20 + 24 * d };
-    if rest.0.len() != wanted {
-        return Err(StoreError::Number("length"));
-    }
     if d == 0 {
         return Ok(None);
+    }
+    if rest.0.len() < 20 + 24 * d {
+        return Err(StoreError::Number("length"));
     }
     Ok(Some(Anomaly {
         relative_index: rest.relative_index()?,

@@ -1,3 +1,34 @@
+// Laying out a pool, opening and removing a drawer, listing all: for a host that calls over C. A call answers the documents' number, 0 where it is done; a refused
+// one has written nothing.
+use predictorcorrector::PredictorCorrector;
+use record_pool::Located;
+use record_pool::Seat;
+ghost use mathlib.Core.Path.{_≡_};
+ghost use Prim.Native.Nat.{_+_, _≤_};
+ghost use lib.ListN.{length, take, drop, replicate};
+ghost use Rattle.layout.specs.Chain.{encodeStateOver};
+ghost use Rattle.layout.specs.Left.{left};
+ghost use Rattle.layout.specs.Numbers as Numbers;
+ghost use Rattle.layout.specs.Places.{stateLength};
+ghost use Rattle.record_pool.specs.Pool as Pool;
+ghost use Rattle.pool_drawers.specs.Drawers as Drawers;
+ghost use Rattle.pool_drawers.specs.Steps.{Held, Spare};
+
+// Document 01's refusal of a base or a yes/no byte; document 02's of a pool or a listing's slice.
+const RANGE: u8 = 2;
+
+const POOL: u8 = 13;
+
+const POOL_LENGTH: usize = 61_472;
+
+// Where record i begins.
+fn place(i: usize) -> usize
+    requires { ⌜ 1 ≤ i ⌝ ∗ ⌜ i ≤ 30 ⌝ }
+    ensures { λ r. ⌜ (r ≡ Pool.place i) × (r + 2048 ≤ 61472) ⌝ }
+{
+    32 + 2048 * (i - 1)
+}
+
 fn put4(out: &mut [u8], at: usize, n: u32)
     requires { ⌜ at + 4 ≤ length (now out) ⌝ }
     ensures { λ _. ⌜ now (out .exit) ≡ Numbers.pasted (now (out .entry)) at (Numbers.bytes4 n) ⌝ }
@@ -37,57 +68,50 @@ fn put_record(pool: &mut [u8], i: usize, next: u32, number: u32)
     layout::clear(&mut pool[from..upto]);
 }
 
-fn link_at(pool: &[u8], i: usize) -> u32
-    requires { ⌜ length (now pool) ≡ 61472 ⌝ ∗ ⌜ 1 ≤ i ⌝ ∗ ⌜ i ≤ 30 ⌝ }
-    ensures { λ r. ⌜ r ≡ Pool.nextAt (now (pool .entry)) i ⌝ }
+// The used chain goes on behind the record without it; the record is named as the first free.
+fn unlink(pool: &mut [u8], seat: Seat)
+    requires { ⌜ Held (now pool) seat ⌝ }
+    ensures { λ _. ⌜ now (pool .exit) ≡ Pool.unlinked (now (pool .entry)) (seat .front) (seat .index) ⌝ }
 {
-    read4(pool, place(i))
-}
-
-// The used chain goes on behind record i without it; record i is named as the first free.
-fn unlink(pool: &mut [u8], front: usize, i: usize)
-    requires { ⌜ length (now pool) ≡ 61472 ⌝ ∗ ⌜ 1 ≤ i ⌝ ∗ ⌜ i ≤ 30 ⌝ ∗ ⌜ front ≤ 30 ⌝ ∗ ⌜ 1 ≤ Pool.countOf (now pool) ⌝ }
-    ensures { λ _. ⌜ now (pool .exit) ≡ Pool.unlinked (now (pool .entry)) front i ⌝ }
-{
-    let count = read4(pool, 0) - 1;
-    let next = link_at(pool, i);
-    let used = read4(pool, 4);
-    if front == 0 {
-        put_header(pool, count, next, i as u32);
+    let count = seat.count - 1;
+    if seat.front == 0 {
+        put_header(pool, count, seat.next, seat.index as u32);
         return;
     }
-    put_header(pool, count, used, i as u32);
-    put_next(pool, front, next);
+    put_header(pool, count, seat.used, seat.index as u32);
+    put_next(pool, seat.front, seat.next);
 }
 
-fn take_out(pool: &mut [u8], front: usize, i: usize)
-    requires { ⌜ length (now pool) ≡ 61472 ⌝ ∗ ⌜ 1 ≤ i ⌝ ∗ ⌜ i ≤ 30 ⌝ ∗ ⌜ front ≤ 30 ⌝ ∗ ⌜ 1 ≤ Pool.countOf (now pool) ⌝ }
-    ensures { λ _. ⌜ now (pool .exit) ≡ Pool.removed (now (pool .entry)) front i ⌝ }
+fn take_out(pool: &mut [u8], seat: Seat)
+    requires { ⌜ Held (now pool) seat ⌝ }
+    ensures { λ _. ⌜ now (pool .exit) ≡ Pool.removed (now (pool .entry)) (seat .front) (seat .index) ⌝ }
 {
-    let free = read4(pool, 8);
-    unlink(pool, front, i);
-    put_record(pool, i, free, 0);
+    unlink(pool, seat);
+    put_record(pool, seat.index, seat.free, 0);
 }
 
-// Removes a drawer: 0 where it is done, 13 for a pool that breaks the rules, 11 where no record holds the drawer.
-pub fn remove(pool: &mut [u8], drawer: u32) -> u8
-    ensures { λ r. ⌜ left r (now (pool .exit)) ≡ Pool.remove drawer (now (pool .entry)) ⌝ }
+// The first free record becomes the first used, with the drawer's number and zeros.
+fn take_in(pool: &mut [u8], seat: Seat, drawer: u32)
+    requires { ⌜ Spare (now pool) seat ⌝ }
+    ensures { λ _. ⌜ now (pool .exit) ≡ Pool.opened (now (pool .entry)) drawer (replicate 2040 0) ⌝ }
 {
-    if passes(pool) {
-        let spot = find(pool, drawer);
-        if spot.record == 0 {
-            return 11;
-        }
-        take_out(pool, spot.front, spot.record);
-        return 0;
-    }
-    13
+    put_header(pool, seat.count + 1, seat.index as u32, seat.next);
+    put_record(pool, seat.index, seat.used, drawer);
+}
+
+// A state put over the bytes from `at` on.
+fn put_state(pool: &mut [u8], at: usize, s: PredictorCorrector)
+    requires { ⌜ length (now pool) ≡ 61472 ⌝ ∗ ⌜ at + stateLength ≤ 61472 ⌝ }
+    ensures { λ _. ⌜ now (pool .exit) ≡ Numbers.pasted (now (pool .entry)) at (encodeStateOver (take stateLength (drop at (now (pool .entry)))) s) ⌝ }
+{
+    let upto = at + layout::STATE_LENGTH;
+    layout::write_state(&mut pool[at..upto], s);
 }
 
 // The record behind record i of an empty pool.
 fn after(i: usize) -> u32
     requires { ⌜ i ≤ 30 ⌝ }
-    ensures { λ r. ⌜ r ≡ Pool.behind i ⌝ }
+    ensures { λ r. ⌜ r ≡ Drawers.behind i ⌝ }
 {
     if i == 30 {
         return 0;
@@ -97,7 +121,7 @@ fn after(i: usize) -> u32
 
 fn lay_records(pool: &mut [u8])
     requires { ⌜ length (now pool) ≡ 61472 ⌝ }
-    ensures { λ _. ⌜ now (pool .exit) ≡ Pool.laidRecords 30 (now (pool .entry)) ⌝ }
+    ensures { λ _. ⌜ now (pool .exit) ≡ Drawers.laidRecords 30 (now (pool .entry)) ⌝ }
 {
     let mut k = 0usize;
     while k < 30 {
@@ -106,49 +130,86 @@ fn lay_records(pool: &mut [u8])
     }
 }
 
-// Lays out an empty pool: 0, or 13 for a pool of another length.
-pub fn lay_out(pool: &mut [u8]) -> u8
-    ensures { λ r. ⌜ left r (now (pool .exit)) ≡ Pool.layOut (now (pool .entry)) ⌝ }
+fn put_numbers(out: &mut [u32], numbers: [u32; 30])
+    requires { ⌜ length (now out) ≡ 30 ⌝ }
+    ensures { λ _. ⌜ now (out .exit) ≡ numbers ⌝ }
 {
-    if pool.len() == 61472 {
+    let mut k = 0usize;
+    while k < 30 {
+        out[k] = numbers[k];
+        k += 1;
+    }
+}
+
+// An empty pool.
+#[no_mangle]
+pub extern "C" fn krcf_pool_lay_out(pool: &mut [u8]) -> u8
+    ensures { λ r. ⌜ left r (now (pool .exit)) ≡ Drawers.layOut (now (pool .entry)) ⌝ }
+{
+    if pool.len() == POOL_LENGTH {
         layout::clear(pool);
         put_header(pool, 0, 0, 1);
         lay_records(pool);
         return 0;
     }
-    13
+    POOL
 }
 
-// The first free record becomes the first used, with the drawer's number and zeros.
-fn take_in(pool: &mut [u8], i: usize, drawer: u32)
-    requires { ⌜ length (now pool) ≡ 61472 ⌝ ∗ ⌜ i ≡ Pool.firstFree (now pool) ⌝ ∗ ⌜ 1 ≤ i ⌝ ∗ ⌜ i ≤ 30 ⌝ ∗ ⌜ Pool.countOf (now pool) ≤ 30 ⌝ }
-    ensures { λ _. ⌜ now (pool .exit) ≡ Pool.opened (now (pool .entry)) drawer (replicate 2040 0) ⌝ }
+// Opens a drawer with a new state. The state is made before anything is written, since it may be refused.
+#[no_mangle]
+pub extern "C" fn krcf_pool_open(
+    pool: &mut [u8],
+    drawer: u32,
+    discount: f64,
+    auto_adjust: u8,
+    base_dimension: usize,
+) -> u8
+    ensures { λ r. ⌜ left r (now (pool .exit)) ≡ Drawers.opening drawer discount «auto_adjust» «base_dimension» (now (pool .entry)) ⌝ }
 {
-    let count = read4(pool, 0) + 1;
-    let used = read4(pool, 4);
-    let next = link_at(pool, i);
-    put_header(pool, count, i as u32, next);
-    put_record(pool, i, used, drawer);
+    match record_pool::vacancy(pool, drawer) {
+        Located::At(seat) => {
+            let made = PredictorCorrector::new(discount, auto_adjust == 1, base_dimension);
+            let answer = made.answer;
+            let why = answer.number();
+            if why == 0 {
+                if auto_adjust <= 1 {
+                    take_in(pool, seat, drawer);
+                    put_state(pool, seat.state, made.state);
+                    return 0;
+                }
+                return RANGE;
+            }
+            why
+        }
+        Located::Refused(why) => why.number(),
+    }
 }
 
-// Opens a drawer with a state of zeros: 0, or 13, 11, 12 in this order.
-pub fn open_bare(pool: &mut [u8], drawer: u32) -> u8
-    ensures { λ r. ⌜ left r (now (pool .exit)) ≡ Pool.openBare drawer (now (pool .entry)) ⌝ }
+#[no_mangle]
+pub extern "C" fn krcf_pool_remove(pool: &mut [u8], drawer: u32) -> u8
+    ensures { λ r. ⌜ left r (now (pool .exit)) ≡ Drawers.remove drawer (now (pool .entry)) ⌝ }
 {
-    if passes(pool) {
-        if is_number(drawer) {
-            let spot = find(pool, drawer);
-            if spot.record != 0 {
-                return 11;
-            }
-            let i = index_at(pool, 8);
-            if i == 0 {
-                return 12;
-            }
-            take_in(pool, i, drawer);
+    match record_pool::locate(pool, drawer) {
+        Located::At(seat) => {
+            take_out(pool, seat);
+            0
+        }
+        Located::Refused(why) => why.number(),
+    }
+}
+
+// The drawers' numbers in the used chain's order, then zeros.
+#[no_mangle]
+pub extern "C" fn krcf_pool_list(pool: &[u8], numbers: &mut [u32]) -> u8
+    ensures { λ r. ⌜ left r (now (numbers .exit)) ≡ Drawers.list (now (pool .entry)) (now (numbers .entry)) ⌝ }
+{
+    if numbers.len() == 30 {
+        let listed = record_pool::listing(pool);
+        if listed.sound {
+            let found = listed.numbers;
+            put_numbers(numbers, found);
             return 0;
         }
-        return 11;
     }
-    13
+    POOL
 }

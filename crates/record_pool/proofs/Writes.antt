@@ -1,13 +1,14 @@
 -- What the header and a record say after each write. Assumes nothing.
-use mathlib.Core.Path.{_≡_, refl, ap, ap₂, _∙_}
+use mathlib.Core.Path.{_≡_, refl, sym, ap, ap₂, _∙_}
 use mathlib.Core.Logic.{_≢_}
 use mathlib.Core.Bool.{_&&_}
 use mathlib.Core.List.{List, [], _++_}
 use Prim.Native.Nat.{ℕ, _+_, _-_, _≤_, _<_}
 use native.Mathlib.Omega.{arith}
 use lib.Dec.{leb}
-use lib.ListN.{length, getD, length-append}
-use lib.Seq.{getD-append-add}
+use lib.ListN.{length, getD, take, drop, length-append, length-take, length-drop}
+use lib.Seq.{getD-append-add, getD-take, getD-drop, ext-getD}
+use Rattle.layout.specs.Places.{stateLength}
 use Rattle.layout.specs.Numbers.{le4, bytes4, pasted}
 use Rattle.layout.proofs.Pasting.{pasted-length}
 use Rattle.record_pool.specs.Pool.{place, countOf, firstUsed, firstFree, nextAt, numberAt, flagsAt, flagsIn, withHeader, withNext, withRecord, withState}
@@ -107,6 +108,17 @@ module _ (xs : List ℕ) (i next d : ℕ) (rest : List ℕ) (size : length xs �
   record-byte k j h e =
       byte-at xs (place i) record-bytes (8 + k) j at-fits (omega (arith, bytes-length)) (omega arith)
       ∙ behind-eight (bytes4 next) (bytes4 d) rest k (length-bytes4 next) (length-bytes4 d)
+
+  -- The state's bytes.
+  pub record-state : take stateLength (drop (place i + 8) (withRecord xs i next d rest)) ≡ take stateLength rest
+  record-state =
+      let room = place-high i low high in
+      let size′ = record-length in
+      ext-getD 0 (take stateLength (drop (place i + 8) (withRecord xs i next d rest))) (take stateLength rest)
+      (omega (arith, length-take stateLength (drop (place i + 8) (withRecord xs i next d rest)), length-drop (place i + 8) (withRecord xs i next d rest), length-take stateLength rest))
+      (λ k l. let b : k < stateLength = omega (arith, length-take stateLength (drop (place i + 8) (withRecord xs i next d rest))) in
+      getD-take stateLength (drop (place i + 8) (withRecord xs i next d rest)) k 0 b ∙ getD-drop (place i + 8) (withRecord xs i next d rest) k 0
+      ∙ record-byte k (place i + 8 + k) (omega arith) refl ∙ sym (getD-take stateLength rest k 0 b))
 
   pub record-flags : flagsAt (withRecord xs i next d rest) i ≡ flagsIn rest
   unfolding flagsAt flagsIn

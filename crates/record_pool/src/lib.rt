@@ -16,13 +16,13 @@ const POOL_LENGTH: usize = 61_472;
 // A record, where its state begins in the pool, the used record in front of it (0 where it is the first), the one behind it in its chain, and the header as it
 // stands.
 pub struct Seat {
-    index: usize,
-    state: usize,
-    front: usize,
-    next: u32,
-    count: u32,
-    used: u32,
-    free: u32,
+    pub index: usize,
+    pub state: usize,
+    pub front: usize,
+    pub next: u32,
+    pub count: u32,
+    pub used: u32,
+    pub free: u32,
 }
 
 pub enum Located {
@@ -32,8 +32,8 @@ pub enum Located {
 
 // Thirty numbers; whether the pool is one that 13 does not refuse.
 pub struct Listed {
-    sound: bool,
-    numbers: [u32; 30],
+    pub sound: bool,
+    pub numbers: [u32; 30],
 }
 
 // What the two walks of a pool found: whether both came to their ends, how many records each met, and the drawer numbers of the used chain.

@@ -1,4 +1,5 @@
-//! A ward's five drawers, the month that was recorded of them, and a stand-in for their forest.
+//! A ward's five drawers in one pool, the month that was recorded of them, and a stand-in for their
+//! forest.
 
 // Each example needs a part of it.
 #![allow(dead_code)]
@@ -6,7 +7,8 @@
 use std::convert::Infallible;
 
 use withdrawal_watch::{
-    Attribution, Drawer, Forest, NotJudged, Refused, ScoringStrategy, Verdict, Withdrawal,
+    Attribution, Drawer, Forest, NotJudged, Refused, ScoringStrategy, Site, StoreError, Verdict,
+    Withdrawal,
 };
 
 /// The invented month; the example `record` writes it.
@@ -178,33 +180,34 @@ pub fn lines(month: &str) -> Result<Vec<Line<'_>>, String> {
         .collect()
 }
 
-/// A drawer with its forest and its last amounts.
+/// What was said of a withdrawal.
+pub type Said = Result<Verdict, NotJudged<Infallible>>;
+
+/// A drawer's forest and its last amounts.
 #[derive(Clone)]
 pub struct Watched {
     pub about: About,
-    pub drawer: Drawer,
     pub forest: Memory,
     pub point: [f32; SHINGLE],
 }
 
-/// What was said of a withdrawal, and its score where there is one.
-pub struct Judged {
-    pub said: Result<Verdict, NotJudged<Infallible>>,
-    pub score: Option<f32>,
-}
-
 impl Watched {
-    pub fn new(about: About) -> Result<Watched, Refused> {
-        Ok(Watched {
+    pub fn new(about: About) -> Watched {
+        Watched {
             about,
-            drawer: Drawer::new(0.01, about.auto_adjust, 1)?,
             forest: Memory::default(),
             point: [about.usual; SHINGLE],
-        })
+        }
     }
 
-    /// Judges a withdrawal. One that is refused enters neither the points nor the forest.
-    pub fn judge(&mut self, amount: Option<f32>) -> Judged {
+    /// Has the drawer's next withdrawal judged. One that is refused enters neither the points nor
+    /// the forest.
+    pub fn judge(
+        &mut self,
+        amount: Option<f32>,
+        values_seen: usize,
+        judge: impl FnOnce(&Withdrawal, &Memory) -> Said,
+    ) -> Said {
         let mut point = self.point;
         point.rotate_left(1);
         point[SHINGLE - 1] = amount.unwrap_or(f32::NAN);
@@ -212,27 +215,75 @@ impl Watched {
             shingle_size: SHINGLE,
             base_dimension: 1,
             scoring_strategy: self.about.strategy,
-            values_seen: self.drawer.values_seen() + 1,
+            values_seen,
             rcf_point: &point,
             scale: &[1.0],
             shift: &[0.0],
             difference_deviations: &[self.about.change],
             ..Withdrawal::default()
         };
-        let said = self.drawer.judge(&withdrawal, &self.forest);
-        let mut score = None;
+        let said = judge(&withdrawal, &self.forest);
         if said.is_ok() {
-            score = Some(self.drawer.last_descriptor().score);
             self.point = point;
             self.forest.update(point);
         }
-        Judged { said, score }
+        said
     }
 }
 
-/// The ward's drawers on the first day.
-pub fn ward() -> Result<Vec<Watched>, Refused> {
-    DRAWERS.into_iter().map(Watched::new).collect()
+/// What was said of a withdrawal, and its score where there is one.
+pub struct Judged {
+    pub said: Said,
+    pub score: Option<f32>,
+}
+
+/// The ward's drawers, their states in one pool: the first of them is number 1 there, and so on.
+#[derive(Clone)]
+pub struct Ward {
+    pub site: Site,
+    pub drawers: Vec<Watched>,
+}
+
+impl Ward {
+    /// The drawers on the first day.
+    pub fn new() -> Result<Ward, Refused> {
+        let mut site = Site::new();
+        for (number, about) in (1..).zip(DRAWERS) {
+            site.open(number, 0.01, about.auto_adjust, 1)?;
+        }
+        let drawers = DRAWERS.into_iter().map(Watched::new).collect();
+        Ok(Ward { site, drawers })
+    }
+
+    /// Which of the drawers has this name.
+    pub fn place(&self, name: &str) -> Result<usize, String> {
+        let known = self.drawers.iter().position(|d| d.about.name == name);
+        known.ok_or_else(|| format!("no drawer {name}"))
+    }
+
+    /// A drawer as it stands.
+    pub fn drawer(&self, place: usize) -> Drawer {
+        let drawer = self.site.drawer(place as u32 + 1);
+        drawer.expect("a drawer that was opened")
+    }
+
+    /// Judges a drawer's next withdrawal.
+    pub fn judge(&mut self, place: usize, amount: Option<f32>) -> Judged {
+        let values_seen = self.drawer(place).values_seen() + 1;
+        let (site, number) = (&mut self.site, place as u32 + 1);
+        let said = self.drawers[place].judge(amount, values_seen, |withdrawal, forest| {
+            site.judge(number, withdrawal, forest)
+        });
+        let score = || self.drawer(place).last_descriptor().score;
+        let score = said.is_ok().then(score);
+        Judged { said, score }
+    }
+
+    /// Stores the drawers and reads them back, as a restart does. Forests and points stay.
+    pub fn restart(&mut self) -> Result<(), StoreError> {
+        self.site = Site::of_bytes(&self.site.to_bytes())?;
+        Ok(())
+    }
 }
 
 /// The arguments of an example, or what it says instead of running: its help, or what is wrong.

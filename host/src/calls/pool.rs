@@ -4,7 +4,7 @@ use super::Buffers;
 use crate::bytes;
 use crate::declarations as c;
 use crate::reading::Reading;
-use crate::records::RECORDS;
+use crate::records::POOL_RECORDS;
 use crate::refusal::Refusal;
 
 pub fn lay_out(pool: &mut [u8]) -> Result<(), Refusal> {
@@ -36,8 +36,8 @@ pub fn remove(pool: &mut [u8], drawer: u32) -> Result<(), Refusal> {
 }
 
 /// The drawers' numbers, then zeros.
-pub fn list(pool: &[u8]) -> Result<[u32; RECORDS], Refusal> {
-    let mut numbers = [0; RECORDS];
+pub fn list(pool: &[u8]) -> Result<[u32; POOL_RECORDS], Refusal> {
+    let mut numbers = [0; POOL_RECORDS];
     // SAFETY: `pool` is borrowed for reading, `numbers` alone, and each goes with its own length.
     let number = unsafe {
         c::krcf_pool_list(

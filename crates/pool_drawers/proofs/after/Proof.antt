@@ -12,19 +12,15 @@ use Rattle.pool_drawers.proofs.after.Tie as tie
 use Rattle.pool_drawers.proofs.after.Reads as reads
 use Rattle.pool_drawers.proofs.after.Lts as lts
 
--- src/lib.rt:347:9
 returns : tie.Need-returns
 returns c = simp (eq-eqb _ 30 (c .if1 .taken))
 
--- src/lib.rt:349:6
 add-result : tie.Need-add-result
 add-result c = search needs
 
--- src/lib.rt:349:5
 cast-result : tie.Need-cast-result
 cast-result c = search needs
 
--- src/lib.rt:342:1
 returns-2 : tie.Need-returns-2
 returns-2 c = simp (ne-eqb _ 30 (c .if1 .left)) (add-one _)
 

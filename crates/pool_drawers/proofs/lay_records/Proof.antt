@@ -1,6 +1,6 @@
 use borrow.Author.Needs.{needs}
-use Rattle.record_pool.specs.Pool.{laidRecords}
-use Rattle.pool_drawers.proofs.Doing.{unlink-first, unlink-later, taken-away, Held, held-facts, remove-done, remove-absent, remove-refused, laid-more, laid-all, lay-done, lay-refused, taken-in, Spare, spare-facts, open-refused, open-unnumbered, open-there, open-full, open-done}
+use Rattle.pool_drawers.specs.Drawers.{laidRecords}
+use Rattle.pool_drawers.proofs.Calls.{laid-more, laid-all}
 use lib.ListN.{length, take, drop, getD, set, replicate}
 use native.Mathlib.Omega.{arith}
 use Prim.Native.Nat.{ℕ, suc, _+_, _≤_, _<_, _-_}
@@ -20,44 +20,34 @@ Inv-loop pool₀ k₀ pool k = (k ≤ 30) × (length pool ≡ 61472) × (pool �
 abbrev μ-loop : tie.MeasureT-loop
 μ-loop pool₀ k₀ pool k = 30 - k
 
--- src/lib.rt:357:5
 loop-holds : tie.Need-loop-holds Inv-loop μ-loop
 unfolding laidRecords
 loop-holds c = (omega arith, c .before .pre, refl)
 
--- src/lib.rt:358:25
 add-put-next : tie.Need-add-put-next Inv-loop μ-loop
 add-put-next c = search needs
 
--- src/lib.rt:358:38
 add-after : tie.Need-add-after Inv-loop μ-loop
 add-after c = search needs
 
--- src/lib.rt:358:32
 after-requires : tie.Need-after-requires Inv-loop μ-loop
 after-requires c κs = search needs
 
--- src/lib.rt:358:9
 put-next-requires : tie.Need-put-next-requires Inv-loop μ-loop
 put-next-requires c κs = search needs
 
--- src/lib.rt:359:9
 add-k : tie.Need-add-k Inv-loop μ-loop
 add-k c = search needs
 
--- src/lib.rt:357:5
 loop-less : tie.Need-loop-less Inv-loop μ-loop
 loop-less c = search needs
 
--- src/lib.rt:357:5
 loop-again : tie.Need-loop-again Inv-loop μ-loop
 loop-again c = (omega arith, search needs, laid-more _ _ _ _ _ (c .before .before .before .before .before .before .loop .inv .2) (c .before .before .before .after .ensures) (c .before .before .put-next .ensures))
 
--- src/lib.rt:352:1
 same-length : tie.Need-same-length Inv-loop μ-loop
 same-length c = search needs
 
--- src/lib.rt:352:1
 returns : tie.Need-returns Inv-loop μ-loop
 returns c = laid-all _ _ _ (c .before .loop .inv .0) (c .loop-test .left) (c .before .loop .inv .2)
 

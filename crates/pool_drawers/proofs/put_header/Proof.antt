@@ -12,23 +12,18 @@ use Rattle.pool_drawers.proofs.put_header.Reads as reads
 use Rattle.pool_drawers.proofs.put_header.Lts as lts
 use Rattle.pool_drawers.proofs.put4.Reads as put4-reads
 
--- src/lib.rt:269:5
 put4-requires : tie.Need-put4-requires
 put4-requires c κs = search needs
 
--- src/lib.rt:270:5
 put4-requires-2 : tie.Need-put4-requires-2
 put4-requires-2 c κs = search needs
 
--- src/lib.rt:271:5
 put4-requires-3 : tie.Need-put4-requires-3
 put4-requires-3 c κs = search needs
 
--- src/lib.rt:265:1
 same-length : tie.Need-same-length
 same-length c = search needs
 
--- src/lib.rt:265:1
 returns : tie.Need-returns
 returns c = header-put (now (c .before .before .before .before .before .before .before .before .before .before .before .before .before .args .pool)) _ _ _ _ _ _ (omega arith) (c .before .before .before .before .before .before .before .before .before .before .put4 .ensures) (c .before .before .before .before .before .before .put42 .ensures) (c .before .before .put43 .ensures)
 

@@ -13,19 +13,15 @@ use Rattle.pool_drawers.proofs.put_next.Lts as lts
 use Rattle.pool_drawers.proofs.place.Reads as place-reads
 use Rattle.pool_drawers.proofs.put4.Reads as put4-reads
 
--- src/lib.rt:278:17
 place-requires : tie.Need-place-requires
 place-requires c κs = search needs
 
--- src/lib.rt:278:5
 put4-requires : tie.Need-put4-requires
 put4-requires c κs = search needs
 
--- src/lib.rt:274:1
 same-length : tie.Need-same-length
 same-length c = search needs
 
--- src/lib.rt:274:1
 returns : tie.Need-returns
 unfolding withNext
 returns c = c .before .before .put4 .ensures ∙ simp (c .before .before .before .place .ensures .0)

@@ -1,64 +1,47 @@
 use Rattle.record_pool.proofs.Putting.{record-put}
-use lib.ListN.{length, take, drop, getD, set, replicate}
-use native.Mathlib.Omega.{arith}
-use Prim.Native.Nat.{ℕ, suc, _+_, _≤_, _<_, _-_}
-use mathlib.Core.List.{List, [], _∷_, _++_}
-use mathlib.Core.Path.{_≡_, refl, sym, ap, _∙_}
 use denote.Ref.{now}
 use borrow.Author.Needs.{needs}
 use Rattle.pool_drawers.proofs.put_record.Statement.{statement}
 use Rattle.pool_drawers.proofs.put_record.Tie as tie
 use Rattle.pool_drawers.proofs.put_record.Reads as reads
 use Rattle.pool_drawers.proofs.put_record.Lts as lts
+use Rattle.layout.proofs.clear.Reads as clear-reads
 use Rattle.pool_drawers.proofs.place.Reads as place-reads
 use Rattle.pool_drawers.proofs.put4.Reads as put4-reads
-use Rattle.layout.proofs.clear.Reads as clear-reads
 
--- src/lib.rt:286:9
 place-requires : tie.Need-place-requires
 place-requires c κs = search needs
 
--- src/lib.rt:287:5
 put4-requires : tie.Need-put4-requires
 put4-requires c κs = search needs
 
--- src/lib.rt:288:17
 add-put4 : tie.Need-add-put4
 add-put4 c = search needs
 
--- src/lib.rt:288:5
 put4-requires-2 : tie.Need-put4-requires-2
 put4-requires-2 c κs = search needs
 
--- src/lib.rt:289:16
 add-from : tie.Need-add-from
 add-from c = search needs
 
--- src/lib.rt:290:16
 add-upto : tie.Need-add-upto
 add-upto c = search needs
 
--- src/lib.rt:291:19
 sub-clear : tie.Need-sub-clear
 sub-clear c = search needs
 
--- src/lib.rt:291:19
 part-clear-start : tie.Need-part-clear-start
 part-clear-start c = search needs
 
--- src/lib.rt:291:19
 part-clear-end : tie.Need-part-clear-end
 part-clear-end c = search needs
 
--- src/lib.rt:291:5
 clear-requires : tie.Need-clear-requires
 clear-requires c κs = search needs
 
--- src/lib.rt:282:1
 same-length : tie.Need-same-length
 same-length c = search needs
 
--- src/lib.rt:282:1
 returns : tie.Need-returns
 returns c = record-put (now (c .before .before .before .before .before .before .before .before .before .before .before .before .before .before .args .pool)) _ _ _ _ _ _ _ (c .before .before .before .before .before .before .before .before .before .before .before .before .before .before .pre .0) (c .before .before .before .before .before .before .before .before .before .before .before .before .before .before .pre .1 .0) (c .before .before .before .before .before .before .before .before .before .before .before .before .before .before .pre .1 .1) (c .before .before .before .before .before .before .before .before .before .before .before .before .place .ensures .0) (c .before .before .before .before .before .before .before .before .before .before .put4 .ensures) (c .before .before .before .before .before .before .put42 .ensures) (c .before .before .clear .ensures)
 

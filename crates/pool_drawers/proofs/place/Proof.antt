@@ -1,0 +1,22 @@
+use Rattle.record_pool.specs.Pool.{place}
+use borrow.Author.Needs.{needs}
+use Rattle.pool_drawers.proofs.place.Statement.{statement}
+use Rattle.pool_drawers.proofs.place.Tie as tie
+use Rattle.pool_drawers.proofs.place.Reads as reads
+use Rattle.pool_drawers.proofs.place.Lts as lts
+
+sub-result : tie.Need-sub-result
+sub-result c = search needs
+
+mul-result : tie.Need-mul-result
+mul-result c = search needs
+
+add-result : tie.Need-add-result
+add-result c = search needs
+
+returns : tie.Need-returns
+unfolding place
+returns c = search needs
+
+pub place-spec : {M : Type 1} → statement M
+place-spec = tie.close (tie.spec sub-result mul-result add-result returns)

@@ -1,0 +1,28 @@
+-- What this crate's private functions ask of each other. A reader need not read it: no public contract mentions it.
+use Prim.Native.Nat.{ℕ, _≤_}
+use mathlib.Core.Path.{_≡_}
+use mathlib.Core.List.{List}
+use lib.ListN.{length}
+use Rattle.record_pool.specs.Pool.{poolLength, countOf, firstUsed, firstFree, nextAt}
+use Rattle.record_pool.specs.declared.Seat.{Seat}
+
+-- A record of the pool xs, and the links around it as they stand.
+pub record Placed (xs : List ℕ) (s : Seat) : Type 0 where
+  pub size : length xs ≡ 61472
+  pub low : 1 ≤ s .index
+  pub high : s .index ≤ 30
+  pub near : s .front ≤ 30
+  pub few : s .count ≤ 30
+  pub next : s .next ≡ nextAt xs (s .index)
+  pub count : s .count ≡ countOf xs
+  pub used : s .used ≡ firstUsed xs
+  pub free : s .free ≡ firstFree xs
+
+-- A used one; the first free one.
+pub record Held (xs : List ℕ) (s : Seat) : Type 0 where
+  pub placed : Placed xs s
+  pub some : 1 ≤ s .count
+
+pub record Spare (xs : List ℕ) (s : Seat) : Type 0 where
+  pub placed : Placed xs s
+  pub first : s .index ≡ firstFree xs
