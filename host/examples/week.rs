@@ -124,7 +124,9 @@ fn told(ward: &Ward, place: usize, line: &Line, judged: &Judged) -> Option<Strin
     let (day, time, about) = (line.day, line.time, &watched.about);
     let (name, drug) = (about.name, about.drug);
     let said = said(watched, judged)?;
-    Some(format!("{day:2} {time}  drawer {name}  {drug:<9}  {said}\n"))
+    Some(format!(
+        "{day:2} {time}  drawer {name}  {drug:<9}  {said}\n"
+    ))
 }
 
 fn report(month: &str, first: u32) -> Result<String, String> {

@@ -51,7 +51,9 @@ fn chain(pool: &Bytes, name: &str, first: usize) -> Result<Vec<usize>, String> {
     while record != 0 {
         if record > POOL_RECORDS {
             let record = grouped(record);
-            return Err(format!("{name} chain: leads to record {record}, not 1 to 30"));
+            return Err(format!(
+                "{name} chain: leads to record {record}, not 1 to 30"
+            ));
         }
         if met.contains(&record) {
             return Err(format!("{name} chain: comes to record {record} again"));
@@ -91,7 +93,9 @@ fn rules(pool: &Bytes) -> Result<(), String> {
     let (count, length) = (word(pool, COUNT), used.len());
     if count != length {
         let count = grouped(count);
-        return Err(format!("count: {count}, where the used chain's length is {length}"));
+        return Err(format!(
+            "count: {count}, where the used chain's length is {length}"
+        ));
     }
     numbers(pool, &used)?;
     used.into_iter().try_for_each(|record| flags(pool, record))
@@ -106,7 +110,9 @@ fn numbers(pool: &Bytes, used: &[usize]) -> Result<(), String> {
         }
         let before = used[..k].iter().find(|k| drawer_in(pool, **k) == drawer);
         if let Some(other) = before {
-            return Err(format!("records {other} and {record}: both have drawer {shown}"));
+            return Err(format!(
+                "records {other} and {record}: both have drawer {shown}"
+            ));
         }
     }
     Ok(())
@@ -116,7 +122,9 @@ fn flags(pool: &Bytes, record: usize) -> Result<(), String> {
     for (at, name) in FLAGS {
         let byte = pool[place(record) + STATE + at];
         if byte > 1 {
-            return Err(format!("record {record}: {name} is {byte}, not 1 (yes) or 0 (no)"));
+            return Err(format!(
+                "record {record}: {name} is {byte}, not 1 (yes) or 0 (no)"
+            ));
         }
     }
     Ok(())

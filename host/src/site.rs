@@ -7,6 +7,7 @@ use crate::drawer::Drawer;
 use crate::forest::Forest;
 use crate::kept::Kept;
 use crate::pool::Pool;
+use crate::reading::Reading;
 use crate::refusal::Refused;
 use crate::verdict::Verdict;
 use crate::withdrawal::{NotJudged, Withdrawal};
@@ -141,7 +142,7 @@ impl Site {
         let mut watch = self.pool.watch(drawer)?;
         let kept = self.kept.entry(drawer).or_default();
         let pool = &mut self.pool;
-        let settle = |reading: &_| pool.judge(drawer, reading).map(drop);
+        let settle = |reading: &Reading| pool.judge(drawer, reading).map(drop);
         let judged = asking::judge(&mut watch, kept, withdrawal, forest, settle)?;
         kept.remember(withdrawal, judged.score, &judged.trial.verdict);
         Ok(judged.trial.verdict)

@@ -55,7 +55,11 @@ fn prints(name: &str, called: &[&str], printed: &str) {
         .arg("-I")
         .arg(host.join("include"))
         .arg(host.join(format!("tests/c/{name}.c")))
-        .args(called.iter().map(|name| archives.join(format!("lib{name}.a"))))
+        .args(
+            called
+                .iter()
+                .map(|name| archives.join(format!("lib{name}.a"))),
+        )
         .arg("-o")
         .arg(&program)
         .output()
@@ -74,6 +78,11 @@ fn one_drawer_in_c() {
 
 #[test]
 fn a_pool_in_c() {
-    let called = ["c_interface", "pool_drawers", "pool_settings", "pool_judging"];
+    let called = [
+        "c_interface",
+        "pool_drawers",
+        "pool_settings",
+        "pool_judging",
+    ];
     prints("pool", &called, POOLED);
 }

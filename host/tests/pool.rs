@@ -10,11 +10,12 @@ use withdrawal_watch::{
     NotJudged, Pool, Reading, Refusal, Refused, Site, Watch, Withdrawal, POOL_RECORDS,
 };
 
-/// Where a record begins, and where it has its state.
-fn record(k: usize) -> usize {
+/// Where a record begins, and where it has its drawer's number and state.
+const fn record(k: usize) -> usize {
     32 + 2048 * (k - 1)
 }
 
+const DRAWER: usize = 4;
 const STATE: usize = 8;
 
 fn of_drawers(drawers: impl IntoIterator<Item = u32>) -> Pool {
@@ -50,7 +51,10 @@ fn opened_and_removed() {
     assert!(!pool.contains(2) && pool.len() == 2);
     pool.open(65_535, 0.5, true, 16).unwrap();
     assert_eq!(pool.list(), [65_535, 3, 1]);
-    assert_eq!(pool.as_bytes()[record(2) + 4..][..4], [0xff, 0xff, 0, 0]);
+    assert_eq!(
+        pool.as_bytes()[record(2) + DRAWER..][..4],
+        [0xff, 0xff, 0, 0]
+    );
     for (drawer, left) in [(65_535, &[3, 1][..]), (1, &[3]), (3, &[])] {
         pool.remove(drawer).unwrap();
         assert_eq!(pool.list(), left);
@@ -105,7 +109,10 @@ fn drawers_that_are_not_there() {
             assert_eq!(pool.as_bytes(), &before);
         }
     }
-    assert_eq!(answers(&mut pool, 5, &Reading::default()), [2, 0, 0, 0, 7, 0, 0]);
+    assert_eq!(
+        answers(&mut pool, 5, &Reading::default()),
+        [2, 0, 0, 0, 7, 0, 0]
+    );
 }
 
 /// 11, then 12, then 1, then 2.
@@ -140,7 +147,10 @@ fn the_same_setting_is_not_written() {
     pool.set_initial_threshold(9, 1.5).unwrap();
     assert_eq!(pool.as_bytes(), &bytes);
     pool.set_initial_threshold(9, 1.25).unwrap();
-    assert_eq!(pool.as_bytes()[last_score..last_score + 4], [0, 0, 0xc0, 0x7f]);
+    assert_eq!(
+        pool.as_bytes()[last_score..last_score + 4],
+        [0, 0, 0xc0, 0x7f]
+    );
 }
 
 /// A pool of drawers 1, 2 and 3 with some of its bytes changed.
@@ -152,28 +162,48 @@ fn changed(changes: &[(usize, u32)]) -> Vec<u8> {
     bytes
 }
 
+/// What is changed in a pool, and below in the same order what is said of it.
+const BROKEN: [(usize, u32); 12] = [
+    (4, 31),
+    (record(2), 2),
+    (record(30), 20),
+    (record(4), u32::MAX),
+    (record(30), 1),
+    (8, 5),
+    (0, 30),
+    (record(2) + DRAWER, 0),
+    (record(1) + DRAWER, 65_536),
+    (record(1) + DRAWER, 3),
+    (record(2) + STATE + 124, 2),
+    (record(3) + STATE + 149, 255),
+];
+
+const SAID: [&str; 12] = [
+    "used chain: leads to record 31, not 1 to 30",
+    "used chain: comes to record 2 again",
+    "free chain: comes to record 20 again",
+    "free chain: leads to record 4,294,967,295, not 1 to 30",
+    "record 1: in both chains",
+    "record 4: in neither chain",
+    "count: 30, where the used chain's length is 3",
+    "record 2: drawer 0, not 1 to 65,535",
+    "record 1: drawer 65,536, not 1 to 65,535",
+    "records 3 and 1: both have drawer 3",
+    "record 2: auto threshold is 2, not 1 (yes) or 0 (no)",
+    "record 3: auto adjust is 255, not 1 (yes) or 0 (no)",
+];
+
 #[test]
 fn pools_that_break_a_rule() {
-    let flag = |k: usize, at: usize| record(k) + STATE + at;
-    let cases = [
-        (changed(&[])[..100].to_vec(), "length: 100 bytes, not 61,472"),
-        (changed(&[(4, 31)]), "used chain: leads to record 31, not 1 to 30"),
-        (changed(&[(record(2), 2)]), "used chain: comes to record 2 again"),
-        (changed(&[(record(30), 20)]), "free chain: comes to record 20 again"),
-        (changed(&[(record(4), u32::MAX)]), "free chain: leads to record 4,294,967,295, not 1 to 30"),
-        (changed(&[(record(30), 1)]), "record 1: in both chains"),
-        (changed(&[(8, 5)]), "record 4: in neither chain"),
-        (changed(&[(0, 30)]), "count: 30, where the used chain's length is 3"),
-        (changed(&[(record(2) + 4, 0)]), "record 2: drawer 0, not 1 to 65,535"),
-        (changed(&[(record(1) + 4, 65_536)]), "record 1: drawer 65,536, not 1 to 65,535"),
-        (changed(&[(record(1) + 4, 3)]), "records 3 and 1: both have drawer 3"),
-        (changed(&[(flag(2, 124), 2)]), "record 2: auto threshold is 2, not 1 (yes) or 0 (no)"),
-        (changed(&[(flag(3, 149), 255)]), "record 3: auto adjust is 255, not 1 (yes) or 0 (no)"),
-    ];
-    for (bytes, said) in cases {
-        let why = Pool::from_bytes(&bytes).unwrap_err();
+    for (change, said) in BROKEN.into_iter().zip(SAID) {
+        let why = Pool::from_bytes(&changed(&[change])).unwrap_err();
         assert_eq!(why.to_string(), format!("refusal 13: {said}"));
         assert_eq!(why.refusal(), Refusal::Pool);
+    }
+    for length in [0, 61_471, 61_473] {
+        let why = Pool::from_bytes(&vec![0; length]).unwrap_err();
+        assert_eq!(why.number(), 13);
+        assert!(why.about().ends_with("bytes, not 61,472"), "{why}");
     }
 }
 
@@ -185,7 +215,7 @@ fn pools_that_break_no_rule() {
         (12, 7),
         (28, 7),
         (record(1) + 1318, 7),
-        (record(30) + 4, 1),
+        (record(30) + DRAWER, 1),
         (record(30) + STATE + 124, 7),
         (base, 17),
     ]);

@@ -255,9 +255,15 @@ fn short_long_and_damaged_sites() {
     assert_eq!(Site::of_bytes(&bytes).unwrap().to_bytes(), bytes);
     for cut in [0, 7, 8, 15, 16, 61_491, 61_492, n - 1] {
         let why = site_error(bytes[..cut].to_vec());
-        assert!(why.starts_with(&format!("store: {cut} bytes, not ")), "{why}");
+        assert!(
+            why.starts_with(&format!("store: {cut} bytes, not ")),
+            "{why}"
+        );
     }
-    assert_eq!(site_error([&bytes[..], &[0]].concat()), format!("store: {} bytes, not {n}", n + 1));
+    assert_eq!(
+        site_error([&bytes[..], &[0]].concat()),
+        format!("store: {} bytes, not {n}", n + 1)
+    );
     for at in (0..n).step_by(97) {
         let mut other = bytes.clone();
         other[at] ^= 0x10;
@@ -279,12 +285,24 @@ fn impossible_sites() {
     };
     let record = pool + 32;
     let cases = [
-        (pool, &[4][..], "its pool gets refusal 13: count: 4, where the used chain's length is 5"),
-        (record + 4, &[0], "its pool gets refusal 13: record 1: drawer 0, not 1 to 65,535"),
+        (
+            pool,
+            &[4][..],
+            "its pool gets refusal 13: count: 4, where the used chain's length is 5",
+        ),
+        (
+            record + 4,
+            &[0],
+            "its pool gets refusal 13: record 1: drawer 0, not 1 to 65,535",
+        ),
         (record + 8 + 154, &[17], "its state gets refusal 2: "),
         (kept, &[2], "no drawer has this strategy"),
         (kept + 9, &[0xff; 8], "no drawer has this values_seen"),
-        (kept + 17, &2000u32.to_le_bytes(), "no drawer has this dimension"),
+        (
+            kept + 17,
+            &2000u32.to_le_bytes(),
+            "no drawer has this dimension",
+        ),
     ];
     for (at, new, why) in cases {
         let said = put(at, new);

@@ -72,7 +72,7 @@ module _ (b : Block) (out : List ℕ) where
     block-unput h = rw (e, h)
 
 -- A refusal's number is not 0.
-refused-number : (why : Refusal) → eqb (number why) 0 ≡ false
+pub refused-number : (why : Refusal) → eqb (number why) 0 ≡ false
 refused-number Whys.Discount = refl
 refused-number Whys.Range = refl
 refused-number Whys.Length = refl

@@ -1,24 +1,16 @@
 -- The rules are kept when the first free record is opened, when a used record is removed, and where no link changes. Assumes nothing.
 use mathlib.Core.Path.{_≡_, refl, sym, ap, _∙_}
 use mathlib.Core.Logic.{_≢_}
-use mathlib.Core.Bool.{Bool, true, false, cond, _&&_}
+use mathlib.Core.Bool.{Bool, true}
 use mathlib.Core.List.{List, [], _∷_, _++_, map}
-use Prim.Native.Nat.{ℕ, zero, suc, _+_, _-_, _≤_, _<_}
+use Prim.Native.Nat.{ℕ, _+_, _-_, _≤_, _<_}
 use native.Mathlib.Omega.{arith}
-use lib.ListN.{length, length-append}
+use lib.ListN.{length-append}
 use Rattle.record_pool.specs.Lists.{same, occ}
 use Rattle.record_pool.specs.Chains.{Chained, Rules}
-use Rattle.record_pool.proofs.Occ.{Either, equal, other, either, same-refl, same-other, occ-append, occ-map, map-agree}
-use Rattle.record_pool.proofs.Chaining.{chain-frame, lastOr, last-in, link-front, taken-out}
-
--- Each record stands at most once.
-pub once-only : {count used free : ℕ} {next number : ℕ → ℕ} {flags : ℕ → Bool} {us fs : List ℕ} → Rules count used free next number flags us fs
-    → (i : ℕ) → occ i us + occ i fs ≤ 1
-once-only {us} {fs} r i = go (occ i us + occ i fs) refl
-  where
-    go : (n : ℕ) → occ i us + occ i fs ≡ n → occ i us + occ i fs ≤ 1
-    go zero e = omega arith
-    go (suc n) e = let w : (1 ≤ i) × (i ≤ 30) = r .within i (omega arith) in omega (arith, r .once i (w .0) (w .1))
+use Rattle.record_pool.proofs.Occ.{Either, equal, other, either, same-refl, occ-append, map-agree}
+use Rattle.record_pool.proofs.Passing.{once-only}
+use Rattle.record_pool.proofs.Chaining.{chain-frame}
 
 -- ---- opening. i is the first free record, d the new drawer's number.
 module _ (c u i d : ℕ) (next number : ℕ → ℕ) (flags : ℕ → Bool) (us fs : List ℕ) (r : Rules c u i next number flags us (i ∷ fs))

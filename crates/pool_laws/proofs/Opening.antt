@@ -1,26 +1,21 @@
 -- A pool that passes 13 still passes it after an opening, which leaves the other drawers. Assumes nothing.
-use mathlib.Core.Path.{_≡_, refl, sym, ap, ap₂, _∙_}
+use mathlib.Core.Path.{_≡_, refl, sym, ap, _∙_}
 use mathlib.Core.Logic.{_≢_}
-use mathlib.Core.Bool.{Bool, true, false, cond, _&&_}
-use mathlib.Core.List.{List, [], _∷_, _++_, map}
-use Prim.Native.Nat.{ℕ, zero, suc, _+_, _-_, _*_, _≤_, _<_}
+use mathlib.Core.Bool.{true}
+use mathlib.Core.List.{List, _∷_, map}
+use Prim.Native.Nat.{ℕ, _+_, _-_, _≤_, _<_}
 use native.Mathlib.Omega.{arith}
-use lib.Dec.{eqb, leb}
-use lib.ListN.{length, getD, take, drop, replicate, length-replicate, getD-replicate}
-use borrow.Author.Tests.{eqb-true, eq-eqb, ne-eqb}
-use Rattle.layout.specs.Numbers.{le4, bytes4, pasted}
+use lib.ListN.{length}
 use Rattle.record_pool.specs.Lists.{same, occ}
-use Rattle.record_pool.specs.Chains.{chain, Chained, Rules, rulesHold, holder, inFront}
-use Rattle.record_pool.specs.Pool.{poolLength, place, countOf, firstUsed, firstFree, nextAt, numberAt, flagsAt, flagsIn, stateAt, usedOf, freeOf, rulesOk, recordOf, frontOf, withHeader, withNext, withRecord, withState, opened, unlinked, removed}
-use Rattle.record_pool.proofs.Occ.{Either, equal, other, either, same-refl, same-other, and-left, and-right, and-both, occ-append}
-use Rattle.record_pool.proofs.Chaining.{members, lastOr, last-in, link-front, taken-out, chain-frame}
-use Rattle.record_pool.proofs.Meaning.{means, tested, used-is, free-is, Told, used-short}
-use Rattle.pool_laws.proofs.Kept.{once-only, open-kept, remove-kept, kept-still}
-use Rattle.record_pool.proofs.Bytes.{Agree, agree-trans, behind-next, place-low, place-high, next-agrees, number-agrees, flags-agree, state-agrees}
-use Rattle.record_pool.proofs.Finding.{not-held, Found, held, held-in, holder-agrees, passed-first, found-first, passed, none-holds, occ-mid}
-use Rattle.record_pool.proofs.Writes.{count-agrees, used-agrees, free-agrees, header-length, header-count, header-used, header-free, header-leaves, next-length, next-next, next-others, next-header, record-length, record-next, record-number, record-byte, record-flags, record-others, record-header, state-length, state-others, state-header, state-next, state-number, state-flags}
+use Rattle.record_pool.specs.Chains.{Rules, holder}
+use Rattle.record_pool.specs.Pool.{place, countOf, firstUsed, firstFree, nextAt, numberAt, flagsAt, flagsIn, stateAt, usedOf, freeOf, rulesOk, recordOf, withHeader, withRecord, opened}
+use Rattle.record_pool.proofs.Occ.{other, same-refl}
+use Rattle.pool_laws.proofs.Kept.{open-kept}
+use Rattle.record_pool.proofs.Bytes.{Agree, agree-trans, behind-next, next-agrees, number-agrees, flags-agree, state-agrees}
+use Rattle.record_pool.proofs.Finding.{not-held, holder-agrees, passed-first, found-first}
+use Rattle.record_pool.proofs.Writes.{count-agrees, used-agrees, free-agrees, header-length, header-count, header-used, header-free, header-leaves, record-length, record-next, record-number, record-flags, record-others, record-header}
 
-use Rattle.record_pool.proofs.Passing.{RulesAt, passes-size, passes, used-of, free-of, passing, within-used, within-free, count-small, start-small, not-empty}
+use Rattle.record_pool.proofs.Passing.{once-only, RulesAt, passes-size, passes, used-of, free-of, passing, within-used, count-small, start-small, not-empty}
 
 -- ---- opening.
 module _ (xs : List ℕ) (d : ℕ) (rest : List ℕ) (ok : rulesOk xs ≡ true) (spare : 0 < firstFree xs) (low : 1 ≤ d) (high : d ≤ 65535)

@@ -1,26 +1,20 @@
 -- A pool that passes 13 still passes it after state bytes were put over those of a used record, which leaves the other drawers. Assumes nothing.
-use mathlib.Core.Path.{_≡_, refl, sym, ap, ap₂, _∙_}
+use mathlib.Core.Path.{_≡_, sym, ap, _∙_}
 use mathlib.Core.Logic.{_≢_}
-use mathlib.Core.Bool.{Bool, true, false, cond, _&&_}
-use mathlib.Core.List.{List, [], _∷_, _++_, map}
-use Prim.Native.Nat.{ℕ, zero, suc, _+_, _-_, _*_, _≤_, _<_}
-use native.Mathlib.Omega.{arith}
-use lib.Dec.{eqb, leb}
-use lib.ListN.{length, getD, take, drop, replicate, length-replicate, getD-replicate}
-use borrow.Author.Tests.{eqb-true, eq-eqb, ne-eqb}
-use Rattle.layout.specs.Numbers.{le4, bytes4, pasted}
-use Rattle.record_pool.specs.Lists.{same, occ}
-use Rattle.record_pool.specs.Chains.{chain, Chained, Rules, rulesHold, holder, inFront}
-use Rattle.record_pool.specs.Pool.{poolLength, place, countOf, firstUsed, firstFree, nextAt, numberAt, flagsAt, flagsIn, stateAt, usedOf, freeOf, rulesOk, recordOf, frontOf, withHeader, withNext, withRecord, withState, opened, unlinked, removed}
-use Rattle.record_pool.proofs.Occ.{Either, equal, other, either, same-refl, same-other, and-left, and-right, and-both, occ-append}
-use Rattle.record_pool.proofs.Chaining.{members, lastOr, last-in, link-front, taken-out, chain-frame}
-use Rattle.record_pool.proofs.Meaning.{means, tested, used-is, free-is, Told, used-short}
-use Rattle.pool_laws.proofs.Kept.{once-only, open-kept, remove-kept, kept-still}
-use Rattle.record_pool.proofs.Bytes.{Agree, agree-trans, behind-next, place-low, place-high, next-agrees, number-agrees, flags-agree, state-agrees}
-use Rattle.record_pool.proofs.Finding.{not-held, Found, held, held-in, holder-agrees, passed-first, found-first, passed, none-holds, occ-mid}
-use Rattle.record_pool.proofs.Writes.{count-agrees, used-agrees, free-agrees, header-length, header-count, header-used, header-free, header-leaves, next-length, next-next, next-others, next-rest, next-header, record-length, record-next, record-number, record-byte, record-flags, record-others, record-header, state-length, state-others, state-header, state-next, state-number, state-flags}
+use mathlib.Core.Bool.{true}
+use mathlib.Core.List.{List}
+use Prim.Native.Nat.{ℕ, _+_, _-_, _≤_, _<_}
+use lib.ListN.{length}
+use Rattle.record_pool.specs.Lists.{occ}
+use Rattle.record_pool.specs.Chains.{holder}
+use Rattle.record_pool.specs.Pool.{place, countOf, firstUsed, firstFree, nextAt, numberAt, flagsAt, flagsIn, stateAt, usedOf, freeOf, rulesOk, recordOf, withState}
+use Rattle.record_pool.proofs.Occ.{Either, equal, other, either}
+use Rattle.pool_laws.proofs.Kept.{kept-still}
+use Rattle.record_pool.proofs.Bytes.{Agree, behind-next, next-agrees, number-agrees, flags-agree, state-agrees}
+use Rattle.record_pool.proofs.Finding.{holder-agrees}
+use Rattle.record_pool.proofs.Writes.{count-agrees, used-agrees, free-agrees, state-length, state-others, state-header, state-next, state-number, state-flags}
 
-use Rattle.record_pool.proofs.Passing.{RulesAt, passes-size, passes, used-of, free-of, passing, within-used, within-free, count-small, start-small, not-empty}
+use Rattle.record_pool.proofs.Passing.{RulesAt, passes-size, passes, used-of, free-of, passing, within-used}
 
 module _ (xs : List ℕ) (i : ℕ) (ys : List ℕ) (ok : rulesOk xs ≡ true) (used : 0 < occ i (usedOf xs)) (low : 150 ≤ length ys) (high : length ys ≤ 2040) (fine : flagsIn ys ≡ true) where
   abbrev settled : List ℕ

@@ -58,11 +58,6 @@ setters! {
     set_horizon = krcf_pool_set_horizon(drawer: u32);
 }
 
-pub fn judge(
-    pool: &mut [u8],
-    drawer: u32,
-    reading: &Reading,
-    out: Buffers,
-) -> Result<(), Refusal> {
+pub fn judge(pool: &mut [u8], drawer: u32, reading: &Reading, out: Buffers) -> Result<(), Refusal> {
     judgment!(krcf_pool_detect_and_modify, pool, [drawer], reading, out)
 }

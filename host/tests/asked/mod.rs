@@ -1,5 +1,8 @@
 //! A forest that answers what it was told to, and records what it was asked.
 
+// Each test needs a part of it.
+#![allow(dead_code)]
+
 use std::cell::RefCell;
 
 use withdrawal_watch::{Attribution, Forest};
