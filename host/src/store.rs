@@ -246,7 +246,7 @@ impl Site {
     ///
     /// assert_eq!(Drawer::of_bytes(&bytes).unwrap_err(), StoreError::NotADrawer);
     /// let why = Site::of_bytes(&bytes[..40]).unwrap_err();
-    /// assert_eq!(why.to_string(), "store: 40 bytes, not 61492");
+    /// assert_eq!(why.to_string(), "store: 40 bytes, not 61513");
     /// bytes[700] ^= 1;
     /// assert_eq!(Site::of_bytes(&bytes).unwrap_err(), StoreError::Damaged);
     /// # Ok::<(), Box<dyn std::error::Error>>(())

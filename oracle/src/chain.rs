@@ -48,14 +48,43 @@ setters! {
     set_horizon = krcf_chain_set_horizon;
 }
 
-/// Calls a C function on slices that are written, read, and written, each as its start and length.
-macro_rules! on_slices {
-    ($c:path, [$($first:expr),*], [$($read:expr),*], [$($last:expr),*]) => {
+/// A judgment by a C function: a slice that it changes, a drawer's number where that is a pool, then
+/// what is handed over, each slice as its start and length.
+macro_rules! judgment {
+    ($c:path, $h:ident, $changed:expr $(, $drawer:expr)?) => {{
+        let [point, scale, shift, deviations, last_expected, last_anomalous, median, neighbours] =
+            &$h.points;
+        let [high, low, ideal_high, ideal_low] = &$h.vectors;
+        judgment!(
+            $c,
+            [$changed],
+            [$($drawer)?],
+            [
+                $h.reading,
+                $h.last,
+                point,
+                scale,
+                shift,
+                deviations,
+                last_expected,
+                last_anomalous,
+                high,
+                low,
+                median,
+                ideal_high,
+                ideal_low,
+                neighbours
+            ],
+            [$h.expected, $h.out_high, $h.out_low, $h.verdict]
+        )
+    }};
+    ($c:path, [$changed:expr], [$($drawer:expr)?], [$($read:expr),*], [$($written:expr),*]) => {
         unsafe {
             $c(
-                $($first.as_mut_ptr(), $first.len(),)*
+                $changed.as_mut_ptr(), $changed.len(),
+                $($drawer,)?
                 $($read.as_ptr(), $read.len(),)*
-                $($last.as_mut_ptr(), $last.len(),)*
+                $($written.as_mut_ptr(), $written.len(),)*
             )
         }
     };
@@ -149,30 +178,12 @@ impl Handed {
 
     /// Our judgment: the refusal's number or 0.
     pub fn judge(&mut self) -> u8 {
-        let [point, scale, shift, deviations, last_expected, last_anomalous, median, neighbours] =
-            &self.points;
-        let [high, low, ideal_high, ideal_low] = &self.vectors;
-        on_slices!(
-            c::krcf_detect_and_modify,
-            [self.state],
-            [
-                self.reading,
-                self.last,
-                point,
-                scale,
-                shift,
-                deviations,
-                last_expected,
-                last_anomalous,
-                high,
-                low,
-                median,
-                ideal_high,
-                ideal_low,
-                neighbours
-            ],
-            [self.expected, self.out_high, self.out_low, self.verdict]
-        )
+        judgment!(c::krcf_detect_and_modify, self, self.state)
+    }
+
+    /// The same with the state of a drawer in a pool.
+    pub fn judge_in(&mut self, pool: &mut [u8], drawer: u32) -> u8 {
+        judgment!(c::krcf_pool_detect_and_modify, self, pool, drawer)
     }
 }
 

@@ -9,6 +9,7 @@ mod exports;
 mod ledger;
 mod ours;
 mod parts;
+mod pool;
 mod process;
 mod random;
 mod readings;

@@ -1,4 +1,4 @@
-//! Refusals: document 01's numbers, and that a refused call leaves its buffer as it was.
+//! Refusals: documents 01's and 02's numbers, and that a refused call leaves its buffer as it was.
 
 use crate::tally::Tally;
 
@@ -10,6 +10,9 @@ pub const VALUES_SEEN: u8 = 5;
 pub const COUNT: u8 = 6;
 pub const HORIZON: u8 = 7;
 pub const BLOCKS: u8 = 8;
+pub const DRAWER: u8 = 11;
+pub const FULL: u8 = 12;
+pub const POOL: u8 = 13;
 
 /// A call on a buffer of a length that is refused, with the given number, the buffer and the bytes
 /// around it left as they were.

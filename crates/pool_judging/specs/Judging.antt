@@ -19,7 +19,7 @@ module _ (xs reading last : List ℕ) (b : Lent) (n : ℕ) (e h w : List Float) 
     pub judged : Answered (stateAt xs i) reading last b n e h w v state′ e′ h′ w′ v′
     pub bytes : xs′ ≡ withState xs i state′
 
-  -- Refused before it was looked for a record: 13, then 11. Nothing changed.
+  -- Refused before a record was found: 13, then 11. Nothing changed.
   pub record Unjudged (why : Refusal) : Type 0 where
     pub answer : n ≡ number why
     pub bytes : xs′ ≡ xs

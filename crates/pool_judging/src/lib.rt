@@ -1,6 +1,5 @@
 // Judging a drawer in a pool, for a host that calls over C: document 01's number, 0 for an accepted reading; a refused call has written nothing.
 use record_pool::Located;
-ghost use mathlib.Core.Path.{_≡_};
 ghost use Rattle.descriptor.specs.Lent.{lent};
 ghost use Rattle.pool_judging.specs.Judging as Judging;
 

@@ -11,6 +11,7 @@ use borrow.Author.Tests.{eqb-false, eq-eqb, ne-eqb}
 use Rattle.record_pool.specs.Lists.{same, occ}
 use Rattle.record_pool.specs.Chains.{chain, Chained}
 use Rattle.record_pool.specs.Pool.{nextAt, usedOf, freeOf, rulesOk, withHeader, withNext}
+use Rattle.pool_laws.specs.Rules.{upFrom}
 use Rattle.pool_drawers.specs.Drawers.{laidRecords, laidOut}
 use Rattle.record_pool.proofs.Occ.{Either, equal, other, either, same-other}
 use Rattle.record_pool.proofs.Bytes.{Agree, agree-trans, next-agrees}
@@ -57,10 +58,6 @@ module _ (xs : List ℕ) (size : length xs ≡ 61472) where
           ∙ rest (omega arith)
 
 -- ---- the chain from 1 to 30.
-abbrev upFrom : ℕ → ℕ → List ℕ
-upFrom zero i = []
-upFrom (suc k) i = i ∷ upFrom k (suc i)
-
 up-chained : (f : ℕ → ℕ) → ((i : ℕ) → 1 ≤ i → i ≤ 30 → f i ≡ led i) → (k i : ℕ) → 1 ≤ i → i + k ≡ 30 → Chained f i (upFrom (suc k) i)
 up-chained f h zero i l e = (refl, l, h i l (omega arith) ∙ ap (λ (b : Bool). cond b 0 (suc i)) (eq-eqb i 30 (omega arith)))
 up-chained f h (suc k) i l e =

@@ -4,3 +4,4 @@ pub mod Removing
 pub mod Settling
 pub mod LayingOut
 pub mod Frames
+pub mod Alone

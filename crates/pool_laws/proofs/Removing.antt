@@ -1,19 +1,21 @@
 -- A pool that passes 13 still passes it after a removal, which leaves the other drawers. Assumes nothing.
 use mathlib.Core.Path.{_≡_, refl, sym, ap, _∙_}
 use mathlib.Core.Logic.{_≢_}
-use mathlib.Core.Bool.{Bool, true, cond}
+use mathlib.Core.Bool.{Bool, true, false, cond}
 use mathlib.Core.List.{List, [], _∷_, _++_, map}
-use Prim.Native.Nat.{ℕ, _+_, _-_, _≤_, _<_}
+use Prim.Native.Nat.{ℕ, zero, suc, _+_, _-_, _≤_, _<_}
 use native.Mathlib.Omega.{arith}
-use lib.ListN.{length, getD, replicate, length-replicate, getD-replicate}
-use borrow.Author.Tests.{ne-eqb}
+use lib.Dec.{leb}
+use lib.ListN.{length, getD, replicate, length-append, length-replicate, getD-replicate}
+use borrow.Author.Tests.{ne-eqb, leb-true, leb-false}
+use Rattle.layout.specs.Numbers.{bytes4}
 use Rattle.record_pool.specs.Lists.{same, occ}
 use Rattle.record_pool.specs.Chains.{chain, Chained, Rules, holder}
 use Rattle.record_pool.specs.Pool.{place, countOf, firstUsed, firstFree, nextAt, numberAt, flagsAt, stateAt, usedOf, freeOf, rulesOk, recordOf, frontOf, withHeader, withNext, withRecord, unlinked, removed}
 use Rattle.record_pool.proofs.Occ.{Either, equal, other, either, same-refl, occ-append}
 use Rattle.record_pool.proofs.Chaining.{lastOr, last-in, link-front, taken-out, chain-frame}
 use Rattle.pool_laws.proofs.Kept.{remove-kept}
-use Rattle.record_pool.proofs.Bytes.{Agree, agree-trans, behind-next, next-agrees, number-agrees, flags-agree, state-agrees}
+use Rattle.record_pool.proofs.Bytes.{Agree, agree-trans, byte-at, length-bytes4, place-high, behind-next, next-agrees, number-agrees, flags-agree, state-agrees}
 use Rattle.record_pool.proofs.Finding.{Found, held, holder-agrees, passed, none-holds}
 use Rattle.record_pool.proofs.Writes.{count-agrees, used-agrees, free-agrees, header-length, header-count, header-used, header-free, header-leaves, next-length, next-next, next-others, next-rest, next-header, record-length, record-next, record-byte, record-others, record-header}
 
@@ -192,11 +194,19 @@ module _ (xs : List ℕ) (i y : ℕ) (rest ys zs fs : List ℕ) (size : length x
       (λ j. omega (arith, once-only r j)) (r .walk-used)
 
 -- ---- both ways. `out` is the pool afterwards.
+no-number : (f : ℕ) (rest : List ℕ) (m : ℕ) → m < 4 → getD (bytes4 f ++ (bytes4 0 ++ rest)) (4 + m) 0 ≡ 0
+unfolding bytes4
+no-number f rest zero l = refl
+no-number f rest (suc zero) l = refl
+no-number f rest (suc (suc zero)) l = refl
+no-number f rest (suc (suc (suc zero))) l = refl
+no-number f rest (suc (suc (suc (suc m)))) l = absurd (omega arith)
+
 pub record Removal (xs out : List ℕ) (i : ℕ) (ys zs fs : List ℕ) : Type 0 where
   pub sized : length out ≡ 61472
   pub ruled : RulesAt out (ys ++ zs) (i ∷ fs)
   pub rests : (j : ℕ) → 1 ≤ j → j ≢ i → Agree (place j + 4) (place j + 2048) xs out
-  pub zeros : (n : ℕ) → place i + 8 ≤ n → n < place i + 2048 → getD out n 0 ≡ 0
+  pub zeros : (n : ℕ) → place i + 4 ≤ n → n < place i + 2048 → getD out n 0 ≡ 0
 
 module _ (xs : List ℕ) (i : ℕ) (zs fs : List ℕ) (size : length xs ≡ 61472) where
   abbrev nothing : List ℕ
@@ -205,11 +215,24 @@ module _ (xs : List ℕ) (i : ℕ) (zs fs : List ℕ) (size : length xs ≡ 6147
   nothing-length : length nothing ≡ 2040
   nothing-length = length-replicate {A = ℕ} 2040 0
 
+  -- The number's four bytes, and those behind it.
+  zero-number : (mid : List ℕ) → length mid ≡ 61472 → 1 ≤ i → i ≤ 30 → (m n : ℕ) → m < 4 → place i + (4 + m) ≡ n → getD (withRecord mid i (firstFree xs) 0 nothing) n 0 ≡ 0
+  unfolding withRecord
+  zero-number mid ms h k m n l e =
+      byte-at mid (place i) (bytes4 (firstFree xs) ++ (bytes4 0 ++ nothing)) (4 + m) n (omega (arith, place-high i h k))
+      (omega (arith, length-append (bytes4 (firstFree xs)) (bytes4 0 ++ nothing), length-append (bytes4 0) nothing, length-bytes4 (firstFree xs), length-bytes4 0, nothing-length)) e
+      ∙ no-number (firstFree xs) nothing m l
+
   zero-bytes : (mid : List ℕ) → length mid ≡ 61472 → 1 ≤ i → i ≤ 30
-      → (n : ℕ) → place i + 8 ≤ n → n < place i + 2048 → getD (withRecord mid i (firstFree xs) 0 nothing) n 0 ≡ 0
-  zero-bytes mid ms h k n a b =
-      record-byte mid i (firstFree xs) 0 nothing ms h k nothing-length (n - (place i + 8)) n (omega arith) (omega arith)
-      ∙ getD-replicate {A = ℕ} 2040 (n - (place i + 8)) 0 0 (omega arith)
+      → (n : ℕ) → place i + 4 ≤ n → n < place i + 2048 → getD (withRecord mid i (firstFree xs) 0 nothing) n 0 ≡ 0
+  zero-bytes mid ms h k n a b = go (leb (place i + 8) n) refl
+    where
+      go : (c : Bool) → leb (place i + 8) n ≡ c → getD (withRecord mid i (firstFree xs) 0 nothing) n 0 ≡ 0
+      go true e =
+          let l : place i + 8 ≤ n = leb-true (place i + 8) n e in
+          record-byte mid i (firstFree xs) 0 nothing ms h k nothing-length (n - (place i + 8)) n (omega arith) (omega arith)
+          ∙ getD-replicate {A = ℕ} 2040 (n - (place i + 8)) 0 0 (omega arith)
+      go false e = let l : n < place i + 8 = leb-false (place i + 8) n e in zero-number mid ms h k (n - (place i + 4)) n (omega arith) (omega arith)
 
   first-removal : RulesAt xs (i ∷ zs) fs → Removal xs (removed xs 0 i) i [] zs fs
   unfolding removed unlinked
@@ -296,7 +319,7 @@ module _ (xs : List ℕ) (d : ℕ) (ok : rulesOk xs ≡ true) (there : 0 < recor
   removed-used =
       (found .before, found .behind, found .whole, used-after)
 
-  pub removed-zeros : (n : ℕ) → place it + 8 ≤ n → n < place it + 2048 → getD out n 0 ≡ 0
+  pub removed-zeros : (n : ℕ) → place it + 4 ≤ n → n < place it + 2048 → getD out n 0 ≡ 0
   removed-zeros = all-of-it .zeros
 
   -- No other drawer's record or state changes.

@@ -13,6 +13,7 @@ mod floor;
 mod judging;
 mod narrow;
 mod newest;
+mod pool;
 mod root;
 mod standin;
 mod thresholder;
@@ -54,4 +55,5 @@ pub const PARTS: &[Part] = &[
     part("asked", buffers::asked),
     part("demand3", demand3::compare),
     part("exports", exports::compare),
+    part("pool", pool::compare),
 ];
