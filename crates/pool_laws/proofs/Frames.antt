@@ -135,10 +135,10 @@ flags-front ys zs size f =
     ap₂ (λ (a b : ℕ). leb a 1 && leb b 1) (List·getD-append ys zs 0 124 (omega arith)) (List·getD-append ys zs 0 149 (omega arith)) ∙ f
 
 module _ (xs : List ℕ) (d : ℕ) (discount : Float) (adjust base : ℕ) where
-  abbrev made : Left
+  abbrev pub made : Left
   made = chainMade (new discount (eqb adjust 1) base) adjust (replicate stateLength 0)
 
-  abbrev rest : List ℕ
+  abbrev pub rest : List ℕ
   rest = made .bytes ++ replicate 730 0
 
   -- The bytes of a new state, and zeros behind them.
@@ -154,7 +154,7 @@ module _ (xs : List ℕ) (d : ℕ) (discount : Float) (adjust base : ℕ) where
     pub made-long : length (made .bytes) ≡ stateLength
     made-long = ap length made-bytes ∙ state-length (replicate stateLength 0) (new discount (eqb adjust 1) base .state) zeros-long
 
-    rest-long : length rest ≡ 2040
+    pub rest-long : length rest ≡ 2040
     rest-long = omega (arith, length-append (made .bytes) (replicate 730 0), length-replicate {A = ℕ} 730 0, made-long)
 
     rest-flags : flagsIn rest ≡ true

@@ -5,3 +5,4 @@ pub mod Settling
 pub mod LayingOut
 pub mod Frames
 pub mod Alone
+pub mod Theorems

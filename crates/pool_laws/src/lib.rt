@@ -1,1 +1,12 @@
-fn nothing() {}
+// Rule 13 in words and kept by every call, what each call does to the two chains, and that no drawer of a pool depends on another: definitions and theorems only.
+// Functions that do nothing hold the theorems to their statements.
+ghost use Rattle.pool_laws.specs.Isolation.{Isolation};
+ghost use Rattle.pool_laws.specs.Rules.{PoolRules};
+
+fn pool_rules()
+    ensures { λ r. ⌜ PoolRules ⌝ }
+{}
+
+fn pool_isolation()
+    ensures { λ r. ⌜ Isolation ⌝ }
+{}

@@ -48,6 +48,7 @@ fn read4(bytes: &[u8], at: usize) -> u32
     a + 0x100 * b + 0x1_0000 * c + 0x100_0000 * d
 }
 
+// A NaN is the same as a NaN.
 fn same(a: f32, b: f32) -> bool
     ensures { λ r. ⌜ r ≡ sameFloat a b ⌝ }
 {
@@ -89,6 +90,7 @@ fn horizon_answer(horizon: f32) -> u8
     HORIZON
 }
 
+// Each setter changes one number of the drawer's state: 13, then 11. The chain's lower threshold is the thresholder's absolute threshold.
 #[no_mangle]
 pub extern "C" fn krcf_pool_set_z_factor(pool: &mut [u8], drawer: u32, factor: f32) -> u8
     ensures { λ r. ⌜ left r (now (pool .exit)) ≡ Settings.set (Settings.z-factor factor) drawer (now (pool .entry)) ⌝ }
@@ -131,6 +133,7 @@ pub extern "C" fn krcf_pool_set_initial_threshold(pool: &mut [u8], drawer: u32, 
     }
 }
 
+// A horizon is refused by 7, after the drawer.
 #[no_mangle]
 pub extern "C" fn krcf_pool_set_horizon(pool: &mut [u8], drawer: u32, horizon: f32) -> u8
     ensures { λ r. ⌜ left r (now (pool .exit)) ≡ Settings.set (Settings.horizon horizon) drawer (now (pool .entry)) ⌝ }

@@ -27,11 +27,11 @@ const COUNTED: usize = 30;
 
 /// One row of the table.
 #[derive(Clone, Copy)]
-struct Row {
-    size: (usize, usize),
-    strategy: ScoringStrategy,
-    raised: bool,
-    neighbours: usize,
+pub struct Row {
+    pub size: (usize, usize),
+    pub strategy: ScoringStrategy,
+    pub raised: bool,
+    pub neighbours: usize,
 }
 
 impl Row {
@@ -44,7 +44,7 @@ impl Row {
         }
     }
 
-    fn name(&self) -> String {
+    pub fn name(&self) -> String {
         let strategy = match self.strategy {
             ScoringStrategy::DISTANCE => "DISTANCE",
             _ => "height",
@@ -109,15 +109,21 @@ impl Row {
         chain
     }
 
-    fn run(&self, random: &mut Random) {
+    /// The row's reading, the state before it on the Rust's side, and both as ours is handed them.
+    pub fn prepared(&self, random: &mut Random) -> (Reading, PredictorCorrector, Handed) {
         let chain = self.chain(random);
         let score = if self.raised { 5.0 } else { 1.02 };
         let reading = self.reading(random, score);
-        let d = reading.point.len();
         let mut state = vec![0; STATE];
         states::put(&chain.state(), self.size.1, &mut state);
         let handed = Handed::new(&state, &reading);
         self.check(&reading, &chain, handed.clone());
+        (reading, chain, handed)
+    }
+
+    fn run(&self, random: &mut Random) {
+        let (reading, chain, handed) = self.prepared(random);
+        let d = reading.point.len();
         let calls = if d > 64 { 16 } else { 128 };
         let ours = || {
             let mut batch = vec![handed.clone(); calls];

@@ -4,6 +4,7 @@ pub mod export_watch;
 mod judging;
 mod numbers;
 mod peer;
+mod pool;
 pub mod score_watch;
 mod timing;
 
@@ -13,6 +14,7 @@ pub fn run(random: &mut Random) {
     timing::heading();
     numbers::run(random);
     judging::run(random);
+    pool::run(random);
     score_watch::run(random).expect("both score watches run");
     export_watch::run(random).expect("both export watches run");
 }

@@ -94,3 +94,14 @@ pub fn against_checked(
         a / c.min(d)
     );
 }
+
+pub fn pooled_heading() {
+    println!("{:<34} {:>9} {:>9} {:>9}", "", "alone", "in a pool", "more");
+}
+
+/// Prints the best times of a call on a state alone and of the same on a drawer in a pool, and how
+/// much more the second is.
+pub fn pooled(what: &str, alone: impl Fn() -> f64, pooled: impl Fn() -> f64) {
+    let [a, b] = best([&alone, &pooled]);
+    println!("{what:<34} {a:>9.1} {b:>9.1} {:>9.1}", b - a);
+}
