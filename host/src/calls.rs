@@ -75,7 +75,7 @@ measures! {
     deviation = krcf_deviation_deviation;
 }
 
-/// A call with a slice to change, a number or none, slices to read and slices to write, in this order.
+/// A call with a slice to change, a number or none, slices to read and slices to write.
 macro_rules! with_slices {
     ($function:path, $lent:expr, [$($first:expr)?], [$($read:expr),*], [$($write:expr),*]) => {
         $function(

@@ -101,9 +101,9 @@ impl Refusal {
             Refusal::Blocks => "the attribution cannot be cut into blocks",
             Refusal::Row => "a row is not three fields, a quote is broken, or the header is wrong",
             Refusal::Field => "a field is no number as its column wants one",
-            Refusal::Drawer => "the drawer is not there, is there already, or has no such number",
+            Refusal::Drawer => "the drawer is not there, is there already, or is not 1 to 65,535",
             Refusal::Full => "all records of the pool are used",
-            Refusal::Pool => "the pool or the listing's buffer breaks a rule of the pool's",
+            Refusal::Pool => "the pool is not of its length or breaks one of its rules",
             Refusal::Other(_) => "a reason that has no name here",
         }
     }

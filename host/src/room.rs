@@ -1,4 +1,4 @@
-//! Room for what a judgment writes, kept from one to the next so that only a raised reading allocates.
+//! Room for what a judgment writes, kept so that only a raised reading allocates.
 
 use crate::bytes::{self, Said, VERDICT};
 use crate::calls::Buffers;

@@ -47,7 +47,7 @@ impl Watch {
     }
 
     /// A watch with this state, which nobody has looked at.
-    pub(crate) fn holding(state: [u8; STATE_BYTES]) -> Watch {
+    fn holding(state: [u8; STATE_BYTES]) -> Watch {
         Watch {
             state,
             room: Room::default(),

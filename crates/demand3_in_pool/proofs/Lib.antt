@@ -1,0 +1,2 @@
+mod OneWay
+pub mod InPool
