@@ -88,6 +88,7 @@ module _ (x z : Float) (n : ℕ) (zs ys : List ℕ) (r : Ready zs z) (h : T (fit
     where
       stored : (b : Bool) → sameFloat (f32At zs zFactorAt) x ≡ b → left n ys ≡ left 0 (cond b zs (encodeStateOver zs (zFactorSet (decodeState zs) x)))
       stored b q = e ∙ ap (λ (b : Bool). left 0 (cond b zs (encodeStateOver zs (zFactorSet (decodeState zs) x)))) (z-factor-compared x zs ∙ q)
+
       go : (b : Bool) → sameFloat (f32At zs zFactorAt) x ≡ b → FactorSet x z n zs ys
       go true q = same (ap (λ (l : Left). l .bytes) (stored true q)) (ap (λ (y : Float). sameFloat y x) (sym (r .factor)) ∙ q)
       go false q =
@@ -110,9 +111,11 @@ module _ (x z : Float) (n : ℕ) (zs ys : List ℕ) (r : Ready zs z) (h : T (fit
     where
       u : Updated
       u = setHorizon (decodeState zs) x
+
       stored : (a b : Bool) → eqb (answered (u .answer)) 0 ≡ a → sameState (decodeState zs) (u .state) ≡ b
           → left n ys ≡ cond a (left 0 (cond b zs (encodeStateOver zs (u .state)))) (left (answered (u .answer)) zs)
       stored a b p q = e ∙ (λ i. cond (p i) (left 0 (cond (q i) zs (encodeStateOver zs (u .state)))) (left (answered (u .answer)) zs))
+
       go : (a b : Bool) → eqb (answered (u .answer)) 0 ≡ a → sameState (decodeState zs) (u .state) ≡ b → HorizonSet x z n zs ys
       go false b p q = same (ap (λ (l : Left). l .bytes) (stored false b p q))
       go true true p q = same (ap (λ (l : Left). l .bytes) (stored true true p q))
@@ -274,7 +277,7 @@ module _ (xs : List ℕ) (d : ℕ) (discount : Float) (adjust base : ℕ) (ys : 
       let e : OverC.zOf (m .calls) ≡ zAsked (asks d cs) = m .factor (b .z-above) in
       let bounds : InBounds (OverC.zOf (m .calls)) (OverC.toldOf (m .calls)) = rw (e, m .told) b in
       let proved = demand-3-over-c .demand-3 discount adjust base (replicate stateLength 0) 0 (stateOf ys d) (m .calls)
-          (record { discount = f; contract = opened .contract; accepted = refl }, m .turn) bounds in
+      (record { discount = f; contract = opened .contract; accepted = refl }, m .turn) bounds in
       rw (sym e, sym (m .told), sym (m .shown)) proved
 
 pub demand-3-in-pool : Demand3InPool

@@ -32,6 +32,7 @@ level s a b h = go (eqb a b) refl s
     signed : a ≡ b → (c : Bool) → eqb a 0 ≡ c → (false || c) || false ≡ true → ⊥
     signed e true q r = omega (arith, e, eqb-true a 0 q, h)
     signed e false q r = false≢true r
+
     go : (c : Bool) → eqb a b ≡ c → (s : Bool) → (c && (Bool·beq s false || eqb a 0)) || false ≡ true → Level s a b
     go true q false r = record { sign = refl; size = eqb-true a b q }
     go true q true r = absurd (signed (eqb-true a b q) (eqb a 0) refl r)

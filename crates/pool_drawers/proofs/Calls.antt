@@ -1,7 +1,7 @@
 -- The calls against their definitions. Assumes nothing.
 use mathlib.Core.Path.{_≡_, refl, sym, ap, ap₂, _∙_}
 use mathlib.Core.Bool.{Bool, true, false, cond, _&&_}
-use mathlib.Core.List.{List, [], _∷_, _++_}
+use mathlib.Core.List.{List, _∷_, _++_}
 use Prim.Native.Nat.{ℕ, zero, suc, _+_, _-_, _≤_, _<_}
 use native.Mathlib.Nat.{le-antisymm}
 use native.Mathlib.Numerals.{add-one}
@@ -29,11 +29,11 @@ use Rattle.record_pool.specs.declared.Listed.{Listed}
 use Rattle.record_pool.specs.declared.Located.{Located}
 use Rattle.record_pool.specs.declared.Located.the-variants.{At, Refused}
 use Rattle.record_pool.proofs.Occ.{Either, equal, other, either}
-use Rattle.record_pool.proofs.Locating.{Seated, located, Vacant, vacant}
+use Rattle.record_pool.proofs.Locating.{located, vacant}
 use Rattle.record_pool.proofs.Writes.{header-length, record-length, record-state}
 use Rattle.record_pool.proofs.Putting.{part-put, state-over-opened}
 use Rattle.pool_drawers.specs.Drawers.{behind, laidRecords, laidOut, layOut, openedWith, openBy, opening, removeBy, remove, list}
-use Rattle.pool_drawers.specs.Steps.{Placed, Held, Spare}
+use Rattle.pool_drawers.specs.Steps.{Held, Spare}
 
 -- ---- zeros.
 take-zeros : (n m : ℕ) → n ≤ m → take n (replicate {A = ℕ} m 0) ≡ replicate n 0
@@ -74,10 +74,18 @@ held xs d r s e q =
     let f = t .same in
     record {
       placed = record {
-        size = t .size; low = t .low; high = t .high; near = t .front; few = t .few;
+        size = t .size;
+        low = t .low;
+        high = t .high;
+        near = t .front;
+        few = t .few;
         next = ap (λ (s : Seat). s .next) f ∙ ap (nextAt xs) (sym (ap (λ (s : Seat). s .index) f));
-        count = ap (λ (s : Seat). s .count) f; used = ap (λ (s : Seat). s .used) f; free = ap (λ (s : Seat). s .free) f };
-      some = t .some }
+        count = ap (λ (s : Seat). s .count) f;
+        used = ap (λ (s : Seat). s .used) f;
+        free = ap (λ (s : Seat). s .free) f;
+      };
+      some = t .some;
+    }
 
 pub remove-done : (xs out : List ℕ) (d : ℕ) (r : Located) (s : Seat) → r ≡ locate xs d → r ≡ At s → out ≡ removed xs (s .front) (s .index) → left 0 out ≡ remove d xs
 unfolding remove
@@ -120,10 +128,18 @@ spare xs d r s e q =
     let front : s .front ≡ 0 = ap (λ (s : Seat). s .front) f in
     record {
       placed = record {
-        size = t .size; low = t .low; high = t .high; near = omega arith; few = t .few;
+        size = t .size;
+        low = t .low;
+        high = t .high;
+        near = omega arith;
+        few = t .few;
         next = ap (λ (s : Seat). s .next) f ∙ ap (nextAt xs) (sym (ap (λ (s : Seat). s .index) f));
-        count = ap (λ (s : Seat). s .count) f; used = ap (λ (s : Seat). s .used) f; free = ap (λ (s : Seat). s .free) f };
-      first = ap (λ (s : Seat). s .index) f }
+        count = ap (λ (s : Seat). s .count) f;
+        used = ap (λ (s : Seat). s .used) f;
+        free = ap (λ (s : Seat). s .free) f;
+      };
+      first = ap (λ (s : Seat). s .index) f;
+    }
 
 pub open-room : (xs a : List ℕ) (d : ℕ) (r : Located) (s : Seat) → r ≡ vacancy xs d → r ≡ At s → a ≡ opened xs d (replicate 2040 0)
     → (length a ≡ 61472) × (s .state + stateLength ≤ 61472)
@@ -133,9 +149,11 @@ open-room xs a d r s e q ea =
     let i : s .index ≡ firstFree xs = ap (λ (s : Seat). s .index) (t .same) in
     let low = t .low in
     let high = t .high in
-    let room = t .room in
-    (ap length ea ∙ record-length (withHeader xs (countOf xs + 1) (firstFree xs) (nextAt xs (firstFree xs))) (firstFree xs) (firstUsed xs) d (replicate 2040 0)
-    (header-length xs (countOf xs + 1) (firstFree xs) (nextAt xs (firstFree xs)) (omega (arith, t .size)) ∙ t .size) (omega arith) (omega arith) (length-replicate {A = ℕ} 2040 0), omega arith)
+    let room = t .room in (
+      ap length ea ∙ record-length (withHeader xs (countOf xs + 1) (firstFree xs) (nextAt xs (firstFree xs))) (firstFree xs) (firstUsed xs) d (replicate 2040 0)
+          (header-length xs (countOf xs + 1) (firstFree xs) (nextAt xs (firstFree xs)) (omega (arith, t .size)) ∙ t .size) (omega arith) (omega arith) (length-replicate {A = ℕ} 2040 0),
+      omega arith,
+    )
 
 pub open-refused : (xs : List ℕ) (d n adjust base : ℕ) (discount : Float) (r : Located) (why : Refusal) → r ≡ vacancy xs d → r ≡ Refused why → n ≡ number why
     → left n xs ≡ opening d discount adjust base xs

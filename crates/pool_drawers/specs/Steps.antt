@@ -3,7 +3,7 @@ use Prim.Native.Nat.{ℕ, _≤_}
 use mathlib.Core.Path.{_≡_}
 use mathlib.Core.List.{List}
 use lib.ListN.{length}
-use Rattle.record_pool.specs.Pool.{poolLength, countOf, firstUsed, firstFree, nextAt}
+use Rattle.record_pool.specs.Pool.{countOf, firstUsed, firstFree, nextAt}
 use Rattle.record_pool.specs.declared.Seat.{Seat}
 
 -- A record of the pool xs, and the links around it as they stand.

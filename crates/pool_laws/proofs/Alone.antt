@@ -1,24 +1,20 @@
 -- A drawer in a pool and its state's bytes alone: what is asked and told is the same. Assumes nothing.
 use mathlib.Core.Path.{_≡_, refl, sym, ap, ap₂, _∙_, subst}
-use mathlib.Core.Logic.{_≢_}
 use mathlib.Core.Bool.{Bool, true, false, cond, _&&_}
 use mathlib.Core.List.{List, [], _∷_, _++_}
-use Prim.Native.Nat.{ℕ, _+_, _≤_, _<_}
+use Prim.Native.Nat.{ℕ, _+_, _≤_}
 use native.Mathlib.Omega.{arith}
 use lib.Dec.{eqb, leb}
-use lib.ListN.{length, getD, take, drop, length-take, length-drop}
-use lib.Seq.{length-take-le, getD-take, getD-drop, take-at, drop-at}
+use lib.ListN.{length, getD, take, drop}
+use lib.Seq.{length-take-le, take-at, drop-at}
 use lib.Ieee.{Float}
-use borrow.Author.Tests.{eqb-true, eqb-false, eq-eqb, ne-eqb}
-use Rattle.types.specs.Refusals.{number, answered}
-use Rattle.types.specs.declared.Refusal.{Refusal}
+use borrow.Author.Tests.{eqb-true, eqb-false, ne-eqb}
+use Rattle.types.specs.Refusals.{answered}
 use Rattle.types.specs.declared.Refusal.the-variants as Refusals
-use Rattle.descriptor.specs.Lent.{Lent}
 use Rattle.predictorcorrector.specs.declared.PredictorCorrector.{PredictorCorrector}
 use Rattle.predictorcorrector.specs.declared.Updated.{Updated}
 use Rattle.detection.specs.declared.Outcome.{Outcome}
 use Rattle.detection.specs.declared.Outcome.the-variants as Outcomes
-use Rattle.detection.specs.declared.Verdict.{Verdict}
 use Rattle.verdict_bytes.specs.Bytes.{changesState, stored, stateLeft}
 use Rattle.layout.specs.Places.{stateLength}
 use Rattle.layout.specs.Numbers.{pasted}
@@ -26,8 +22,7 @@ use Rattle.layout.specs.Chain.{decodeState, encodeStateOver}
 use Rattle.layout.specs.Left.{Left, left}
 use Rattle.stored_state.proofs.Back.{state-length}
 use Rattle.c_judging.specs.Judging.{Answered, outcomeOver, stateOver}
-use Rattle.record_pool.specs.Pool.{place, flagsAt, flagsIn, stateAt, stateOf, usedOf, rulesOk, recordOf, frontOf, seat, locate, withState}
-use Rattle.record_pool.specs.declared.Seat.{Seat}
+use Rattle.record_pool.specs.Pool.{place, flagsAt, flagsIn, stateAt, stateOf, rulesOk, recordOf, frontOf, seat, locate, withState}
 use Rattle.record_pool.specs.declared.Located.{Located}
 use Rattle.record_pool.specs.declared.Located.the-variants.{At, Refused}
 use Rattle.record_pool.proofs.Passing.{passes, passes-size, within-used}
@@ -37,7 +32,7 @@ use Rattle.pool_drawers.specs.Drawers.{opening, remove}
 use Rattle.pool_settings.proofs.Stored.{state-byte, state-long}
 use Rattle.pool_settings.specs.Sameness.{sameState}
 use Rattle.pool_settings.specs.Settings.{Setting, changed, storedUnlessSame, storedAt, setBy, set}
-use Rattle.pool_judging.specs.Judging.{JudgedIn, Unjudged, JudgedBy, Judged}
+use Rattle.pool_judging.specs.Judging.{JudgedIn, Unjudged, JudgedBy}
 use Rattle.pool_laws.specs.Calls.{Asked, Told, Call, lays-out, opens, removes, lists, sets, judges, Contract, after, InTurn, afterAll}
 use Rattle.pool_laws.specs.Isolation.{Ask, setting, judgment, Tell, answer, judged, asks, tells, Stays, setOn, Alone, Holds}
 use Rattle.pool_laws.proofs.Frames.{Undisturbed, undisturbed-by, lay-out-kept, remove-kept, remove-leaves, stored-flags, which, open-kept, open-leaves, Wrote, nothing, state, wrote-kept, wrote-records, wrote-leaves}
@@ -204,9 +199,11 @@ open-still xs ys d e discount adjust base n h c = go (eqb e d) refl
   where
     bytes : ys ≡ opening e discount adjust base xs .bytes
     bytes = ap (λ (l : Left). l .bytes) c
+
     own : Frames.Opening xs e discount adjust base → e ≡ d → Undisturbed xs ys d
     own (Frames.refused q m) p = undisturbed-by xs ys d (bytes ∙ q)
     own (Frames.opens s v z q) p = absurd (let a : recordOf xs d ≡ 0 = sym (ap (recordOf xs) p) ∙ v .absent in omega (arith, h .there))
+
     go : (b : Bool) → eqb e d ≡ b → Undisturbed xs ys d
     go true q = own (which xs e discount adjust base) (eqb-true e d q)
     go false q = rw bytes (open-leaves xs e discount adjust base d (λ p. eqb-false e d q (sym p)))
@@ -260,11 +257,16 @@ same-judgment : (zs : List ℕ) (a : Asked) (t u : Told) (ys ws : List ℕ)
     → Answered zs (a .reading) (a .last) (a .lent) (t .answer) (a .expected) (a .high) (a .low) (a .verdict) ys (t .expected) (t .high) (t .low) (t .verdict)
     → Answered zs (a .reading) (a .last) (a .lent) (u .answer) (a .expected) (a .high) (a .low) (a .verdict) ws (u .expected) (u .high) (u .low) (u .verdict)
     → (t ≡ u) × (ys ≡ ws)
-same-judgment zs a t u ys ws p q =
-    (λ i. record {
-      answer = (p .answer ∙ sym (q .answer)) i; expected = (p .point ∙ sym (q .point)) i; high = (p .highs ∙ sym (q .highs)) i;
-      low = (p .lows ∙ sym (q .lows)) i; verdict = (p .verdict ∙ sym (q .verdict)) i },
-    p .bytes ∙ sym (q .bytes))
+same-judgment zs a t u ys ws p q = (
+  λ i. record {
+    answer = (p .answer ∙ sym (q .answer)) i;
+    expected = (p .point ∙ sym (q .point)) i;
+    high = (p .highs ∙ sym (q .highs)) i;
+    low = (p .lows ∙ sym (q .lows)) i;
+    verdict = (p .verdict ∙ sym (q .verdict)) i;
+  },
+  p .bytes ∙ sym (q .bytes),
+)
 
 pub settled : (zs : List ℕ) (qs : List Ask) (ts us : List Tell) (ys ws : List ℕ) → Alone zs qs ts ys → Alone zs qs us ws → (ts ≡ us) × (ys ≡ ws)
 settled zs [] [] [] ys ws p q = (refl, p ∙ sym q)

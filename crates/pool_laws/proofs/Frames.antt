@@ -2,16 +2,15 @@
 use mathlib.Core.Path.{_≡_, refl, sym, ap, ap₂, _∙_}
 use mathlib.Core.Logic.{_≢_}
 use mathlib.Core.Bool.{Bool, true, false, cond, _&&_}
-use mathlib.Core.List.{List, [], _∷_, _++_}
-use Prim.Native.Nat.{ℕ, zero, suc, _+_, _≤_, _<_}
+use mathlib.Core.List.{List, _∷_, _++_}
+use Prim.Native.Nat.{ℕ, _+_, _<_}
 use native.Mathlib.Omega.{arith}
 use lib.Dec.{eqb, leb}
-use lib.ListN.{length, getD, take, drop, replicate, length-append, length-replicate, List·getD-append}
+use lib.ListN.{length, replicate, length-append, length-replicate, List·getD-append}
 use lib.Ieee.{Float}
-use borrow.Author.Tests.{eqb-true, eqb-false, eq-eqb, ne-eqb}
+use borrow.Author.Tests.{eqb-true, eqb-false, eq-eqb}
 use Rattle.types.specs.Refusals.{number}
 use Rattle.types.specs.declared.Refusal.{Refusal}
-use Rattle.types.specs.declared.Answer.the-variants as Answers
 use Rattle.types.specs.Refusals.{answered}
 use Rattle.predictorcorrector.specs.declared.PredictorCorrector.{PredictorCorrector}
 use Rattle.predictorcorrector.specs.declared.Updated.{Updated}
@@ -21,21 +20,19 @@ use Rattle.layout.specs.Numbers.{flagByte, flagBytes, f32Bytes, f64Bytes, i32By
 use Rattle.layout.specs.States.{joined, encodeThresholder, encodeDeviation}
 use Rattle.layout.specs.Chain.{encodeHead, encodeStateOver}
 use Rattle.layout.specs.Left.{Left, left}
-use Rattle.stored_state.proofs.Windows.{Alike}
 use Rattle.stored_state.proofs.Back.{state-length, head-put}
 use Rattle.c_chain.specs.States.{chainMade}
 use Rattle.c_chain.proofs.Steps.{refused-number}
-use Rattle.record_pool.specs.Lists.{occ}
-use Rattle.record_pool.specs.Pool.{place, firstFree, numberAt, flagsAt, flagsIn, stateAt, stateOf, usedOf, freeOf, rulesOk, recordOf, frontOf, seat, locate, vacancy, withState, opened, removed}
+use Rattle.record_pool.specs.Pool.{firstFree, numberAt, flagsIn, stateAt, stateOf, usedOf, freeOf, rulesOk, recordOf, frontOf, locate, vacancy, withState, opened, removed}
 use Rattle.record_pool.specs.declared.Seat.{Seat}
 use Rattle.record_pool.specs.declared.Located.{Located}
 use Rattle.record_pool.specs.declared.Located.the-variants.{At, Refused}
 use Rattle.record_pool.proofs.Passing.{passes, passes-size, within-used}
 use Rattle.record_pool.proofs.Finding.{held}
-use Rattle.record_pool.proofs.Locating.{Seated, located, Vacant, vacant, its-used}
-use Rattle.pool_drawers.specs.Drawers.{laidOut, layOut, openedWith, openBy, opening, removeBy, remove}
+use Rattle.record_pool.proofs.Locating.{located, Vacant, vacant, its-used}
+use Rattle.pool_drawers.specs.Drawers.{laidOut, layOut, openBy, opening, removeBy, remove}
 use Rattle.pool_laws.proofs.Opening.{opened-passes, opened-others, opened-states, opened-record, opened-used, opened-free}
-use Rattle.pool_laws.proofs.Removing.{removed-passes, removed-others, removed-states, removed-gone}
+use Rattle.pool_laws.proofs.Removing.{removed-passes, removed-others, removed-states}
 use Rattle.pool_laws.proofs.Settling.{settled-passes, settled-records, settled-states}
 use Rattle.pool_laws.proofs.LayingOut.{empty-passes}
 
@@ -179,6 +176,7 @@ module _ (xs : List ℕ) (d : ℕ) (discount : Float) (adjust base : ℕ) where
           let is : openBy (vacancy xs d) made d xs ≡ left (made .answer) xs =
           ap (λ (l : Located). openBy l made d xs) e ∙ ap (λ (b : Bool). cond b (left 0 (opened xs d rest)) (left (made .answer) xs)) q in
           refused (ap (λ (l : Left). l .bytes) is) (λ z. eqb-false (made .answer) 0 q (sym (ap (λ (l : Left). l .answer) is) ∙ z))
+
       go : (l : Located) → vacancy xs d ≡ l → Opening
       go (At s) e = asked s e (eqb (made .answer) 0) refl
       go (Refused why) e =

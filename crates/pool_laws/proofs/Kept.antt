@@ -56,14 +56,15 @@ module _ (c u i d : ℕ) (next number : ℕ → ℕ) (flags : ℕ → Bool) (us 
 
   pub open-kept : Rules (c + 1) i (next i) next′ number′ flags′ (i ∷ us) fs
   open-kept = record {
-      walk-used = (refl, r .walk-free .1, rw next-i (chain-frame next next′ u us (λ j k. let w = inside j (omega arith) in next-j j (w .0) (w .1) (not-i j (omega arith))) (r .walk-used)));
-      walk-free = chain-frame next next′ (next i) fs (λ j k. let w = inside j (omega arith) in next-j j (w .0) (w .1) (not-i j (omega arith))) (r .walk-free .2);
-      counted = omega (arith, r .counted);
-      once = λ j p q. omega (arith, r .once j p q);
-      within = λ j k. r .within j (omega arith);
-      ranged = open-ranged;
-      apart = open-apart;
-      flagged = open-flagged }
+    walk-used = (refl, r .walk-free .1, rw next-i (chain-frame next next′ u us (λ j k. let w = inside j (omega arith) in next-j j (w .0) (w .1) (not-i j (omega arith))) (r .walk-used)));
+    walk-free = chain-frame next next′ (next i) fs (λ j k. let w = inside j (omega arith) in next-j j (w .0) (w .1) (not-i j (omega arith))) (r .walk-free .2);
+    counted = omega (arith, r .counted);
+    once = λ j p q. omega (arith, r .once j p q);
+    within = λ j k. r .within j (omega arith);
+    ranged = open-ranged;
+    apart = open-apart;
+    flagged = open-flagged;
+  }
 
 -- ---- removing. us is ys, then the record i, then zs.
 module _ (c u u′ f i : ℕ) (next number : ℕ → ℕ) (flags : ℕ → Bool) (ys zs fs : List ℕ) (r : Rules c u f next number flags (ys ++ i ∷ zs) fs)
@@ -98,14 +99,15 @@ module _ (c u u′ f i : ℕ) (next number : ℕ → ℕ) (flags : ℕ → Bool)
 
   pub remove-kept : Rules (c - 1) u′ i next′ number′ flags′ (ys ++ zs) (i ∷ fs)
   remove-kept = record {
-      walk-used = walk;
-      walk-free = (refl, r .within i (omega (arith, parts i, same-refl i)) .0, rw next-i (chain-frame next next′ f fs next-free (r .walk-free)));
-      counted = omega (arith, r .counted, length-append ys (i ∷ zs), length-append ys zs);
-      once = λ j p q. omega (arith, r .once j p q, parts j);
-      within = λ j k. r .within j (omega (arith, parts j));
-      ranged = remove-ranged;
-      apart = λ n. rw images-left (omega (arith, occ-left n ys zs, r .apart n));
-      flagged = λ j k. let w = inside-removed j k in flags-j j (w .0) (w .1) (left-of j k .1) ∙ r .flagged j (left-of j k .0) }
+    walk-used = walk;
+    walk-free = (refl, r .within i (omega (arith, parts i, same-refl i)) .0, rw next-i (chain-frame next next′ f fs next-free (r .walk-free)));
+    counted = omega (arith, r .counted, length-append ys (i ∷ zs), length-append ys zs);
+    once = λ j p q. omega (arith, r .once j p q, parts j);
+    within = λ j k. r .within j (omega (arith, parts j));
+    ranged = remove-ranged;
+    apart = λ n. rw images-left (omega (arith, occ-left n ys zs, r .apart n));
+    flagged = λ j k. let w = inside-removed j k in flags-j j (w .0) (w .1) (left-of j k .1) ∙ r .flagged j (left-of j k .0);
+  }
 
 -- ---- a write that leaves the links: only yes/no bytes of used records matter.
 pub kept-still : (c u f : ℕ) (next number : ℕ → ℕ) (flags : ℕ → Bool) (us fs : List ℕ) (next′ number′ : ℕ → ℕ) (flags′ : ℕ → Bool)
@@ -113,11 +115,12 @@ pub kept-still : (c u f : ℕ) (next number : ℕ → ℕ) (flags : ℕ → Bool
     → ((j : ℕ) → 1 ≤ j → j ≤ 30 → next′ j ≡ next j) → ((j : ℕ) → 1 ≤ j → j ≤ 30 → number′ j ≡ number j)
     → ((j : ℕ) → 1 ≤ j → j ≤ 30 → flags j ≡ true → flags′ j ≡ true) → Rules c u f next′ number′ flags′ us fs
 kept-still c u f next number flags us fs next′ number′ flags′ r hn hm hf = record {
-    walk-used = chain-frame next next′ u us (λ j k. let w = r .within j (omega arith) in hn j (w .0) (w .1)) (r .walk-used);
-    walk-free = chain-frame next next′ f fs (λ j k. let w = r .within j (omega arith) in hn j (w .0) (w .1)) (r .walk-free);
-    counted = r .counted;
-    once = r .once;
-    within = r .within;
-    ranged = λ j k. let w = r .within j (omega arith) in rw (hm j (w .0) (w .1)) (r .ranged j k);
-    apart = λ n. rw (map-agree number′ number us (λ j k. let w = r .within j (omega arith) in hm j (w .0) (w .1))) (r .apart n);
-    flagged = λ j k. let w = r .within j (omega arith) in hf j (w .0) (w .1) (r .flagged j k) }
+  walk-used = chain-frame next next′ u us (λ j k. let w = r .within j (omega arith) in hn j (w .0) (w .1)) (r .walk-used);
+  walk-free = chain-frame next next′ f fs (λ j k. let w = r .within j (omega arith) in hn j (w .0) (w .1)) (r .walk-free);
+  counted = r .counted;
+  once = r .once;
+  within = r .within;
+  ranged = λ j k. let w = r .within j (omega arith) in rw (hm j (w .0) (w .1)) (r .ranged j k);
+  apart = λ n. rw (map-agree number′ number us (λ j k. let w = r .within j (omega arith) in hm j (w .0) (w .1))) (r .apart n);
+  flagged = λ j k. let w = r .within j (omega arith) in hf j (w .0) (w .1) (r .flagged j k);
+}

@@ -16,7 +16,6 @@ use Rattle.pool_drawers.specs.Drawers.{laidRecords, laidOut}
 use Rattle.record_pool.proofs.Occ.{Either, equal, other, either, same-other}
 use Rattle.record_pool.proofs.Bytes.{Agree, agree-trans, next-agrees}
 use Rattle.record_pool.proofs.Writes.{count-agrees, used-agrees, free-agrees, header-length, header-count, header-used, header-free, next-length, next-next, next-others, next-header}
-
 use Rattle.record_pool.proofs.Passing.{RulesAt, passes, used-of, free-of, passing}
 
 -- What the first k records lead to once they are laid.
@@ -102,16 +101,17 @@ module _ (zs : List ℕ) (size : length zs ≡ 61472) where
 
   pub laid-rules : RulesAt laid [] (upFrom 30 1)
   laid-rules = record {
-      walk-used = used-agrees headed laid header ∙ header-used zs 0 0 1 room (omega arith);
-      walk-free =
+    walk-used = used-agrees headed laid header ∙ header-used zs 0 0 1 room (omega arith);
+    walk-free =
         rw (free-agrees headed laid header ∙ header-free zs 0 0 1 room (omega arith))
         (up-chained (nextAt laid) (λ i h k. laid-next headed headed-size 30 i (omega arith) h k) 29 1 (omega arith) (omega arith));
-      counted = count-agrees headed laid header ∙ header-count zs 0 0 1 room (omega arith);
-      once = λ j h k. omega (arith, up-occ 30 1 j h (omega arith));
-      within = λ j k. let w : (1 ≤ j) × (j < 1 + 30) = up-within 30 1 j (omega arith) in omega arith;
-      ranged = λ j k. absurd (omega arith);
-      apart = λ n. omega arith;
-      flagged = λ j k. absurd (omega arith) }
+    counted = count-agrees headed laid header ∙ header-count zs 0 0 1 room (omega arith);
+    once = λ j h k. omega (arith, up-occ 30 1 j h (omega arith));
+    within = λ j k. let w : (1 ≤ j) × (j < 1 + 30) = up-within 30 1 j (omega arith) in omega arith;
+    ranged = λ j k. absurd (omega arith);
+    apart = λ n. omega arith;
+    flagged = λ j k. absurd (omega arith);
+  }
 
   pub laid-passes : rulesOk laid ≡ true
   laid-passes = passing laid [] (upFrom 30 1) (laid-size headed headed-size 30 (omega arith)) laid-rules

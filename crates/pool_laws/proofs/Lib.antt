@@ -5,4 +5,5 @@ pub mod Settling
 pub mod LayingOut
 pub mod Frames
 pub mod Alone
+mod Unwritten
 pub mod Theorems

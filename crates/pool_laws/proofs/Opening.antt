@@ -14,7 +14,6 @@ use Rattle.pool_laws.proofs.Kept.{open-kept}
 use Rattle.record_pool.proofs.Bytes.{Agree, agree-trans, behind-next, next-agrees, number-agrees, flags-agree, state-agrees}
 use Rattle.record_pool.proofs.Finding.{not-held, holder-agrees, passed-first, found-first}
 use Rattle.record_pool.proofs.Writes.{count-agrees, used-agrees, free-agrees, header-length, header-count, header-used, header-free, header-leaves, record-length, record-next, record-number, record-flags, record-others, record-header}
-
 use Rattle.record_pool.proofs.Passing.{once-only, RulesAt, passes-size, passes, used-of, free-of, passing, within-used, count-small, start-small, not-empty}
 
 -- ---- opening.

@@ -18,7 +18,6 @@ use Rattle.pool_laws.proofs.Kept.{remove-kept}
 use Rattle.record_pool.proofs.Bytes.{Agree, agree-trans, byte-at, length-bytes4, place-high, behind-next, next-agrees, number-agrees, flags-agree, state-agrees}
 use Rattle.record_pool.proofs.Finding.{Found, held, holder-agrees, passed, none-holds}
 use Rattle.record_pool.proofs.Writes.{count-agrees, used-agrees, free-agrees, header-length, header-count, header-used, header-free, header-leaves, next-length, next-next, next-others, next-rest, next-header, record-length, record-next, record-byte, record-others, record-header}
-
 use Rattle.record_pool.proofs.Passing.{once-only, RulesAt, passes-size, passes, used-of, free-of, passing, within-used, within-free, count-small, start-small}
 
 -- ---- removing, whatever unlinked the record. us is ys, then the record i, then zs; mid is the pool with i unlinked.
@@ -36,9 +35,10 @@ module _ (xs mid : List ℕ) (i u′ : ℕ) (rest ys zs fs : List ℕ) (size : l
   free-small = start-small (nextAt xs) (firstFree xs) fs (r .walk-free) (within-free r)
 
   pub stays : (j : ℕ) → 0 < occ j (ys ++ zs) + occ j fs → (1 ≤ j) × (j ≢ i)
-  stays j k =
-      (r .within j (omega (arith, mid-parts j)) .0,
-      λ e. omega (arith, once-only r j, mid-parts j, ap (λ (n : ℕ). same n j) e, same-refl j))
+  stays j k = (
+    r .within j (omega (arith, mid-parts j)) .0,
+    λ e. omega (arith, once-only r j, mid-parts j, ap (λ (n : ℕ). same n j) e, same-refl j),
+  )
 
   abbrev gone : List ℕ
   gone = withRecord mid i (firstFree xs) 0 rest
@@ -250,7 +250,8 @@ module _ (xs : List ℕ) (i : ℕ) (zs fs : List ℕ) (size : length xs ≡ 6147
         sized = gone-size xs mid i (nextAt xs i) nothing [] zs fs size r nothing-length ms mc mu mf mr mn mw;
         ruled = gone-rules xs mid i (nextAt xs i) nothing [] zs fs size r nothing-length ms mc mu mf mr mn mw;
         rests = gone-rests xs mid i (nextAt xs i) nothing [] zs fs size r nothing-length ms mc mu mf mr mn mw;
-        zeros = zero-bytes mid ms (w .0) (w .1) }
+        zeros = zero-bytes mid ms (w .0) (w .1);
+      }
 
   later-removal : (y : ℕ) (ys : List ℕ) → RulesAt xs ((y ∷ ys) ++ i ∷ zs) fs
       → Removal xs (withRecord (withNext (withHeader xs (countOf xs - 1) (firstUsed xs) i) (lastOr y ys) (nextAt xs i)) i (firstFree xs) 0 nothing) i (y ∷ ys) zs fs
@@ -268,7 +269,8 @@ module _ (xs : List ℕ) (i : ℕ) (zs fs : List ℕ) (size : length xs ≡ 6147
         sized = gone-size xs mid i (firstUsed xs) nothing (y ∷ ys) zs fs size r nothing-length ms mc mu mf mr mn mw;
         ruled = gone-rules xs mid i (firstUsed xs) nothing (y ∷ ys) zs fs size r nothing-length ms mc mu mf mr mn mw;
         rests = gone-rests xs mid i (firstUsed xs) nothing (y ∷ ys) zs fs size r nothing-length ms mc mu mf mr mn mw;
-        zeros = zero-bytes mid ms (w .0) (w .1) }
+        zeros = zero-bytes mid ms (w .0) (w .1);
+      }
 
   later-is : (p : ℕ) → p ≢ 0
       → withRecord (withNext (withHeader xs (countOf xs - 1) (firstUsed xs) i) p (nextAt xs i)) i (firstFree xs) 0 nothing ≡ removed xs p i
@@ -334,7 +336,7 @@ module _ (xs : List ℕ) (d : ℕ) (ok : rulesOk xs ≡ true) (there : 0 < recor
   removed-others e n =
       ap (holder (numberAt out) e) used-after
       ∙ holder-agrees (numberAt xs) (numberAt out) e (found .before ++ found .behind)
-        (λ j k. let o = other-record j k in number-agrees xs out j (all-of-it .rests j (o .0) (o .1)))
+      (λ j k. let o = other-record j k in number-agrees xs out j (all-of-it .rests j (o .0) (o .1)))
       ∙ sym (passed (numberAt xs) e it (found .before) (found .behind) (λ q. n (sym q ∙ found .has)))
       ∙ ap (holder (numberAt xs) e) (sym (found .whole))
 
@@ -352,6 +354,6 @@ module _ (xs : List ℕ) (d : ℕ) (ok : rulesOk xs ≡ true) (there : 0 < recor
   removed-gone =
       ap (holder (numberAt out) d) used-after
       ∙ holder-agrees (numberAt xs) (numberAt out) d (found .before ++ found .behind)
-        (λ j k. let o = other-record j k in number-agrees xs out j (all-of-it .rests j (o .0) (o .1)))
+      (λ j k. let o = other-record j k in number-agrees xs out j (all-of-it .rests j (o .0) (o .1)))
       ∙ none-holds (numberAt xs) d (found .before ++ found .behind)
-        (omega (arith, pool-rules .apart d, occ-mid-map (numberAt xs) d it (found .before) (found .behind), ap (λ (n : ℕ). same n d) (found .has), same-refl d))
+      (omega (arith, pool-rules .apart d, occ-mid-map (numberAt xs) d it (found .before) (found .behind), ap (λ (n : ℕ). same n d) (found .has), same-refl d))

@@ -1,18 +1,17 @@
 -- The two statements. Assumes nothing.
-use mathlib.Core.Path.{_≡_, refl, sym, ap, _∙_}
-use mathlib.Core.Bool.{true}
+use mathlib.Core.Path.{_≡_, ap, _∙_}
 use mathlib.Core.List.{List, _∷_, _++_}
 use Prim.Native.Nat.{ℕ, _+_, _≤_, _<_}
 use native.Mathlib.Omega.{arith}
 use lib.Dec.{eqb}
-use lib.ListN.{length, getD, take, drop, replicate}
+use lib.ListN.{getD, replicate}
 use lib.Seq.{take-at}
 use lib.Ieee.{Float}
 use Rattle.layout.specs.Places.{stateLength}
 use Rattle.layout.specs.Chain.{encodeStateOver}
-use Rattle.layout.specs.Left.{Left, left}
+use Rattle.layout.specs.Left.{Left}
 use Rattle.predictorcorrector.specs.State.{new}
-use Rattle.record_pool.specs.Pool.{place, countOf, firstUsed, firstFree, nextAt, stateAt, stateOf, usedOf, freeOf, rulesOk, recordOf, frontOf, withHeader, opened, removed}
+use Rattle.record_pool.specs.Pool.{place, countOf, firstUsed, firstFree, nextAt, stateAt, stateOf, usedOf, freeOf, recordOf, withHeader, opened, removed}
 use Rattle.record_pool.specs.declared.Seat.{Seat}
 use Rattle.record_pool.proofs.Passing.{passes, passes-size, used-of, free-of, passing}
 use Rattle.record_pool.proofs.Locating.{Vacant}
@@ -77,7 +76,8 @@ pool-rules = record {
   empty = (empty-passes, empty-used, empty-free);
   kept = kept;
   opened = opened-so;
-  removed = removed-so }
+  removed = removed-so;
+}
 
 pub pool-isolation : Isolation
 pool-isolation = record { alone = alone; isolated = isolated }

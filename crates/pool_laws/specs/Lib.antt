@@ -1,3 +1,4 @@
 pub mod Calls
 pub mod Rules
 pub mod Isolation
+pub mod Unwritten

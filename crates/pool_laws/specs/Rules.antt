@@ -2,7 +2,7 @@
 use Prim.Native.Nat.{ℕ, zero, suc, _+_, _≤_, _<_}
 use mathlib.Core.Path.{_≡_}
 use mathlib.Core.Bool.{true}
-use mathlib.Core.List.{List, [], _∷_, _++_, map}
+use mathlib.Core.List.{List, [], _∷_, _++_}
 use lib.Dec.{eqb}
 use lib.ListN.{length, getD, replicate}
 use lib.Ieee.{Float}
@@ -10,8 +10,8 @@ use Rattle.layout.specs.Chain.{encodeStateOver}
 use Rattle.layout.specs.Places.{stateLength}
 use Rattle.predictorcorrector.specs.State.{new}
 use Rattle.record_pool.specs.Chains as Chains
-use Rattle.record_pool.specs.Pool.{poolLength, place, countOf, firstUsed, firstFree, nextAt, numberAt, flagsAt, stateOf, usedOf, freeOf, rulesOk, recordOf, numbersOf}
-use Rattle.pool_drawers.specs.Drawers.{laidOut, layOut, opening, remove}
+use Rattle.record_pool.specs.Pool.{poolLength, place, countOf, firstUsed, firstFree, nextAt, numberAt, flagsAt, stateOf, usedOf, freeOf, rulesOk, recordOf}
+use Rattle.pool_drawers.specs.Drawers.{laidOut, opening, remove}
 use Rattle.pool_laws.specs.Calls.{Call, Contract, after}
 
 -- Document 02's words of a pool whose used chain is us and whose free chain is fs.

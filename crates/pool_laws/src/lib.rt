@@ -2,6 +2,7 @@
 // Functions that do nothing hold the theorems to their statements.
 ghost use Rattle.pool_laws.specs.Isolation.{Isolation};
 ghost use Rattle.pool_laws.specs.Rules.{PoolRules};
+ghost use Rattle.pool_laws.specs.Unwritten.{Unwritten};
 
 fn pool_rules()
     ensures { λ r. ⌜ PoolRules ⌝ }
@@ -9,4 +10,8 @@ fn pool_rules()
 
 fn pool_isolation()
     ensures { λ r. ⌜ Isolation ⌝ }
+{}
+
+fn pool_unwritten()
+    ensures { λ r. ⌜ Unwritten ⌝ }
 {}

@@ -64,6 +64,7 @@ really-not taken l k n b s e f = go (eqb (getD taken (n % 64) 0) 0) refl
   where
     whole : isTaken (getD taken (n % 64) 0) l k n ≡ false
     whole = sym e ∙ f
+
     go : (t : Bool) → eqb (getD taken (n % 64) 0) 0 ≡ t → occ n (take k l) ≡ 0
     go true p = zero-of (occ n (take k l)) refl
       where
@@ -83,6 +84,7 @@ really taken l k n b e t = go (eqb (getD taken (n % 64) 0) 0) refl
   where
     whole : isTaken (getD taken (n % 64) 0) l k n ≡ true
     whole = sym e ∙ t
+
     go : (t : Bool) → eqb (getD taken (n % 64) 0) 0 ≡ t → 0 < occ n (take k l)
     go true p = absurd (not-both (isTaken (getD taken (n % 64) 0) l k n) whole (ap (λ (b : Bool). cond b false (isBefore l k n)) p))
     go false p = pos-of (occ n (take k l)) refl
@@ -98,13 +100,17 @@ so-far-more taken l k n at b lt lk e ea s t f = record { once = λ j. once-at j 
   where
     zero-here : occ n (take k l) ≡ 0
     zero-here = really-not taken l k n b s t f
+
     next : (j : ℕ) → occ j (take (k + 1) l) ≡ occ j (take k l) + same n j
     next j = occ-take-next j k l lk ∙ ap (λ (m : ℕ). occ j (take k l) + same m j) e
+
     inside : at < 64
     inside = omega (arith, mod-lt n {m = 64} (omega arith))
+
     once-at : (j : ℕ) → Either n j → occ j (take (k + 1) l) ≤ 1
     once-at j (equal p q) = omega (arith, next j, ap (λ (m : ℕ). occ m (take k l)) p, zero-here)
     once-at j (other p q) = omega (arith, next j, s .once j)
+
     places-at : (j : ℕ) → 0 < occ j (take (k + 1) l) → Either (j % 64) at → 0 < getD (set taken at 1) (j % 64) 0
     places-at j h (equal p q) = omega (arith, ap (λ (m : ℕ). getD (set taken at 1) m 0) p, getD-set-same taken at 1 0 (omega (arith, inside)))
     places-at j h (other p q) =
@@ -120,8 +126,15 @@ pub twice : (taken l : List ℕ) (k n m : ℕ) (b : Bool) → k < m → m ≤ 30
     → false ≡ distinct (take m l)
 twice taken l k n m b h hm s e t f =
     sym (refuted (distinct (take m l)) (λ d.
-    omega (arith, distinct-once (take m l) d n, occ-take-le n (k + 1) m l (omega arith), occ-take-next n k l (omega arith), ap (λ (a : ℕ). same a n) e, same-refl n,
-      really taken l k n b t f)))
+    omega (
+      arith,
+      distinct-once (take m l) d n,
+      occ-take-le n (k + 1) m l (omega arith),
+      occ-take-next n k l (omega arith),
+      ap (λ (a : ℕ). same a n) e,
+      same-refl n,
+      really taken l k n b t f,
+    )))
 
 pub all-apart : (taken l : List ℕ) (k n : ℕ) → k ≤ n → n ≤ k → SoFar taken l k → true ≡ distinct (take n l)
 all-apart taken l k n a b s = sym (once-distinct (take n l) (λ j. omega (arith, s .once j, ap (λ (m : ℕ). occ j (take m l)) (le-antisymm a b))))

@@ -42,13 +42,22 @@ held number d p (x ∷ us) h = go (eqb (number x) d) refl (λ (k : 0 < holder nu
     go : (b : Bool) → eqb (number x) d ≡ b → (0 < holder number d us → Found number d x us (holder number d us))
         → 0 < holder number d (x ∷ us) → Found number d p (x ∷ us) (holder number d (x ∷ us))
     go true t rest k = rw (t, holder) (record {
-        before = []; behind = us; whole = refl; has = eqb-true (number x) d t; front = ap (λ (b : Bool). cond b p (inFront number d x us)) t })
+      before = [];
+      behind = us;
+      whole = refl;
+      has = eqb-true (number x) d t;
+      front = ap (λ (b : Bool). cond b p (inFront number d x us)) t;
+    })
     go false t rest k =
         let same-one : holder number d (x ∷ us) ≡ holder number d us = ap (λ (b : Bool). cond b x (holder number d us)) t in
         let f = rest (omega arith) in
         rw same-one (record {
-          before = x ∷ f .before; behind = f .behind; whole = ap (λ (l : List ℕ). x ∷ l) (f .whole); has = f .has;
-          front = ap (λ (b : Bool). cond b p (inFront number d x us)) t ∙ f .front })
+          before = x ∷ f .before;
+          behind = f .behind;
+          whole = ap (λ (l : List ℕ). x ∷ l) (f .whole);
+          has = f .has;
+          front = ap (λ (b : Bool). cond b p (inFront number d x us)) t ∙ f .front;
+        })
 
 -- A found record is one of the list.
 pub occ-mid : (i : ℕ) (ys zs : List ℕ) → 0 < occ i (ys ++ i ∷ zs)

@@ -4,10 +4,9 @@ use mathlib.Core.Bool.{Bool, true, false, cond}
 use mathlib.Core.List.{List, [], _∷_, _++_, map}
 use Prim.Native.Nat.{ℕ, zero, suc, _+_, _-_, _≤_}
 use native.Mathlib.Omega.{arith}
-use lib.ListN.{length, getD, take, drop, replicate}
+use lib.ListN.{length, getD, take, replicate}
 use Rattle.record_pool.specs.Pool.{numberAt, usedOf, rulesOk, numbersOf, listing}
-use Rattle.record_pool.specs.Walks.{UsedWalk, Both, WalksTell}
-use Rattle.record_pool.specs.declared.Listed.{Listed}
+use Rattle.record_pool.specs.Walks.{Both, WalksTell}
 use Rattle.record_pool.proofs.Walking.{used-same, short-used}
 
 -- A list that has nothing but zeros from place n on.

@@ -11,7 +11,7 @@ use Rattle.types.specs.declared.Refusal.{Refusal}
 use Rattle.types.specs.declared.Refusal.the-variants as Refusals
 use Rattle.layout.specs.Numbers.{le4}
 use Rattle.record_pool.specs.Lists.{occ}
-use Rattle.record_pool.specs.Chains.{isNumber, inFront}
+use Rattle.record_pool.specs.Chains.{isNumber}
 use Rattle.record_pool.specs.Pool.{place, countOf, firstUsed, firstFree, usedOf, freeOf, nextAt, numberAt, rulesOk, recordOf, frontOf, seat, locate, vacancy}
 use Rattle.record_pool.specs.declared.Seat.{Seat}
 use Rattle.record_pool.specs.declared.Located.{Located}
@@ -147,9 +147,18 @@ module _ (xs : List ℕ) (d : ℕ) (ok : rulesOk xs ≡ true) (there : 0 < recor
       let q : s .state ≡ place (recordOf xs d) + 8 = ap (λ (s : Seat). s .state) e in
       let c : s .count ≡ countOf xs = ap (λ (s : Seat). s .count) e in
       record {
-        ok = ok; there = there; same = e; size = passes-size xs ok; place = q ∙ ap (λ (n : ℕ). place n + 8) (sym i);
-        room = omega (arith, place-high (recordOf xs d) (w .0) (w .1)); low = omega arith; high = omega arith; front = omega (arith, its-front);
-        some = omega (arith, r .counted, occ-length (recordOf xs d) (usedOf xs), its-used); few = omega (arith, count-small r) }
+        ok = ok;
+        there = there;
+        same = e;
+        size = passes-size xs ok;
+        place = q ∙ ap (λ (n : ℕ). place n + 8) (sym i);
+        room = omega (arith, place-high (recordOf xs d) (w .0) (w .1));
+        low = omega arith;
+        high = omega arith;
+        front = omega (arith, its-front);
+        some = omega (arith, r .counted, occ-length (recordOf xs d) (usedOf xs), its-used);
+        few = omega (arith, count-small r);
+      }
 
 pub located : (xs : List ℕ) (d : ℕ) (s : Seat) → locate xs d ≡ At s → Seated xs d s
 unfolding locate
@@ -183,9 +192,17 @@ vacant xs d s h = go (rulesOk xs) (isNumber d) (eqb (recordOf xs d) 0) (eqb (fir
         let c : s .count ≡ countOf xs = ap (λ (s : Seat). s .count) same in
         let q : s .state ≡ place (firstFree xs) + 8 = ap (λ (s : Seat). s .state) same in
         record {
-          ok = eb; absent = eqb-true (recordOf xs d) 0 ez; number = number-true d en; same = same; size = passes-size xs eb;
-          place = q ∙ ap (λ (n : ℕ). place n + 8) (sym i); room = omega (arith, place-high (firstFree xs) (omega arith) small);
-          low = omega arith; high = omega arith; few = omega (arith, count-small r) }
+          ok = eb;
+          absent = eqb-true (recordOf xs d) 0 ez;
+          number = number-true d en;
+          same = same;
+          size = passes-size xs eb;
+          place = q ∙ ap (λ (n : ℕ). place n + 8) (sym i);
+          room = omega (arith, place-high (firstFree xs) (omega arith) small);
+          low = omega arith;
+          high = omega arith;
+          few = omega (arith, count-small r);
+        }
 
 -- What `seat_of` asks for, from what the code has found.
 pub seat-there : (xs : List ℕ) (d i front : ℕ) (b : Bool) → b ≡ rulesOk xs → b ≡ true → (i ≡ recordOf xs d) × (front ≡ frontOf xs d) → (i ≡ 0 → ⊥)

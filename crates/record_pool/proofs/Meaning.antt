@@ -46,8 +46,14 @@ seven a b c d e f g h =
     let h3 = and-left (a && b && c) d h4 in
     let h2 = and-left (a && b) c h3 in
     record {
-      t1 = and-left a b h2; t2 = and-right a b h2; t3 = and-right (a && b) c h3; t4 = and-right (a && b && c) d h4; t5 = and-right (a && b && c && d) e h5;
-      t6 = and-right (a && b && c && d && e) f h6; t7 = and-right (a && b && c && d && e && f) g h }
+      t1 = and-left a b h2;
+      t2 = and-right a b h2;
+      t3 = and-right (a && b) c h3;
+      t4 = and-right (a && b && c) d h4;
+      t5 = and-right (a && b && c && d) e h5;
+      t6 = and-right (a && b && c && d && e) f h6;
+      t7 = and-right (a && b && c && d && e && f) g h;
+    }
 
 all-seven : (a b c d e f g : Bool) → Seven a b c d e f g → a && b && c && d && e && f && g ≡ true
 all-seven a b c d e f g s = rw (s .t1, s .t2, s .t3, s .t4, s .t5, s .t6, s .t7)
@@ -93,17 +99,19 @@ module _ (count : ℕ) (number : ℕ → ℕ) (flags : ℕ → Bool) (us fs : Li
         within = within-told (t .t1) (t .t2);
         ranged = λ i k. number-true (number i) (every-true (λ i. isNumber (number i)) us (t .t5) i k);
         apart = distinct-once (map number us) (t .t6);
-        flagged = every-true flags us (t .t7) }
+        flagged = every-true flags us (t .t7);
+      }
 
   pub tell : Told count number flags us fs → rulesHold count number flags us fs ≡ true
   tell t = hold (record {
-      t1 = true-every isRecord us (λ i k. let w = t .within i (omega arith) in true-record i (w .0) (w .1));
-      t2 = true-every isRecord fs (λ i k. let w = t .within i (omega arith) in true-record i (w .0) (w .1));
-      t3 = true-every onceHere (downFrom 30) (λ i k. let w = down-within 30 i k in eq-eqb (occ i us + occ i fs) 1 (t .once i (w .0) (w .1)));
-      t4 = eq-eqb count (length us) (t .counted);
-      t5 = true-every (λ i. isNumber (number i)) us (λ i k. let w = t .ranged i k in true-number (number i) (w .0) (w .1));
-      t6 = once-distinct (map number us) (t .apart);
-      t7 = true-every flags us (t .flagged) })
+    t1 = true-every isRecord us (λ i k. let w = t .within i (omega arith) in true-record i (w .0) (w .1));
+    t2 = true-every isRecord fs (λ i k. let w = t .within i (omega arith) in true-record i (w .0) (w .1));
+    t3 = true-every onceHere (downFrom 30) (λ i k. let w = down-within 30 i k in eq-eqb (occ i us + occ i fs) 1 (t .once i (w .0) (w .1)));
+    t4 = eq-eqb count (length us) (t .counted);
+    t5 = true-every (λ i. isNumber (number i)) us (λ i k. let w = t .ranged i k in true-number (number i) (w .0) (w .1));
+    t6 = once-distinct (map number us) (t .apart);
+    t7 = true-every flags us (t .flagged);
+  })
 
   -- No chain is longer than thirty.
   at-most-once : Told count number flags us fs → (i : ℕ) → occ i us + occ i fs ≤ 1
@@ -128,7 +136,13 @@ module _ (count used free : ℕ) (next number : ℕ → ℕ) (flags : ℕ → Bo
       record {
         walk-used = walked 31 next used (omega (arith, used-short count number flags (chain 31 next used) (chain 31 next free) t));
         walk-free = walked 31 next free (omega (arith, free-short count number flags (chain 31 next used) (chain 31 next free) t));
-        counted = t .counted; once = t .once; within = t .within; ranged = t .ranged; apart = t .apart; flagged = t .flagged }
+        counted = t .counted;
+        once = t .once;
+        within = t .within;
+        ranged = t .ranged;
+        apart = t .apart;
+        flagged = t .flagged;
+      }
 
   module _ (us fs : List ℕ) (r : Rules count used free next number flags us fs) where
     abbrev as-told : Told count number flags us fs

@@ -70,4 +70,3 @@ start-small f s (x ∷ xs) c h = let w : (1 ≤ x) × (x ≤ 30) = h x (omega (a
 pub not-empty : (f : ℕ → ℕ) (s : ℕ) (xs : List ℕ) → Chained f s xs → 0 < s → (t : List ℕ) × (xs ≡ s ∷ t)
 not-empty f s [] c h = absurd (omega arith)
 not-empty f s (x ∷ xs) c h = (xs, ap (λ (n : ℕ). n ∷ xs) (sym (c .0)))
-

@@ -27,7 +27,13 @@ pub record Left (xs : List ℕ) (d at front : ℕ) : Type 0 where
 pub left-first : (xs : List ℕ) (d start : ℕ) → rulesOk xs ≡ true → start ≡ firstUsed xs → Left xs d start 0
 unfolding recordOf frontOf
 left-first xs d start ok e = record {
-    rest = usedOf xs; chained = rw e ((passes xs ok) .walk-used); short = short-used xs ok; within = within-used (passes xs ok); holds = refl; fronts = refl }
+  rest = usedOf xs;
+  chained = rw e ((passes xs ok) .walk-used);
+  short = short-used xs ok;
+  within = within-used (passes xs ok);
+  holds = refl;
+  fronts = refl;
+}
 
 -- The list that is left begins with `at`.
 begins : (f : ℕ → ℕ) (at : ℕ) (rest : List ℕ) → Chained f at rest → (at ≡ 0 → ⊥) → (t : List ℕ) × (rest ≡ at ∷ t) × Chained f (f at) t
@@ -51,7 +57,8 @@ left-next xs d at front number next n em ne en l =
       short = omega (arith, l .short, ap length (b .1));
       within = λ j k. l .within j (omega (arith, ap (occ j) (b .1)));
       holds = l .holds ∙ ap (holder (numberAt xs) d) (b .1) ∙ ap (λ (t : Bool). cond t at (holder (numberAt xs) d (b .0))) other;
-      fronts = l .fronts ∙ ap (inFront (numberAt xs) d front) (b .1) ∙ ap (λ (t : Bool). cond t front (inFront (numberAt xs) d at (b .0))) other }
+      fronts = l .fronts ∙ ap (inFront (numberAt xs) d front) (b .1) ∙ ap (λ (t : Bool). cond t front (inFront (numberAt xs) d at (b .0))) other;
+    }
 
 -- What is still to be walked.
 abbrev pub ahead : List ℕ → ℕ → ℕ
@@ -69,9 +76,10 @@ pub found-here : (xs : List ℕ) (d at front number : ℕ) → (at ≡ 0 → ⊥
 unfolding holder inFront
 found-here xs d at front number n em e l =
     let b = begins (nextAt xs) at (l .rest) (l .chained) n in
-    let it : eqb (numberAt xs at) d ≡ true = eq-eqb (numberAt xs at) d (sym em ∙ e) in
-    (sym (l .holds ∙ ap (holder (numberAt xs) d) (b .1) ∙ ap (λ (t : Bool). cond t at (holder (numberAt xs) d (b .0))) it),
-    sym (l .fronts ∙ ap (inFront (numberAt xs) d front) (b .1) ∙ ap (λ (t : Bool). cond t front (inFront (numberAt xs) d at (b .0))) it))
+    let it : eqb (numberAt xs at) d ≡ true = eq-eqb (numberAt xs at) d (sym em ∙ e) in (
+      sym (l .holds ∙ ap (holder (numberAt xs) d) (b .1) ∙ ap (λ (t : Bool). cond t at (holder (numberAt xs) d (b .0))) it),
+      sym (l .fronts ∙ ap (inFront (numberAt xs) d front) (b .1) ∙ ap (λ (t : Bool). cond t front (inFront (numberAt xs) d at (b .0))) it),
+    )
 
 pub found-nowhere : (xs : List ℕ) (d at front : ℕ) → at ≡ 0 → Left xs d at front → (0 ≡ recordOf xs d) × (front ≡ frontOf xs d)
 unfolding holder inFront

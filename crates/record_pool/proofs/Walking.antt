@@ -58,9 +58,11 @@ chain-same f i (u ∷ us) (v ∷ vs) c d =
 pub fresh-true : (seen : List ℕ) (at n : ℕ) → isFresh seen at n ≡ true → (n < 30) × (at ≤ 30) × (getD seen at 0 ≡ 0)
 unfolding isFresh isUnmarked
 fresh-true seen at n h =
-    let a = and-left (ltb n 30 && leb at 30) (eqb (getD seen at 0) 0) h in
-    (ltb-true n 30 (and-left (ltb n 30) (leb at 30) a), leb-true at 30 (and-right (ltb n 30) (leb at 30) a),
-    eqb-true (getD seen at 0) 0 (and-right (ltb n 30 && leb at 30) (eqb (getD seen at 0) 0) h))
+    let a = and-left (ltb n 30 && leb at 30) (eqb (getD seen at 0) 0) h in (
+      ltb-true n 30 (and-left (ltb n 30) (leb at 30) a),
+      leb-true at 30 (and-right (ltb n 30) (leb at 30) a),
+      eqb-true (getD seen at 0) 0 (and-right (ltb n 30 && leb at 30) (eqb (getD seen at 0) 0) h),
+    )
 
 pub true-fresh : (seen : List ℕ) (at n : ℕ) → n < 30 → at ≤ 30 → getD seen at 0 ≡ 0 → isFresh seen at n ≡ true
 unfolding isFresh isUnmarked
@@ -103,8 +105,16 @@ map-last f (u ∷ us) at = ap (λ (l : List ℕ). f u ∷ l) (map-last f us at)
 module _ (xs : List ℕ) where
   pub used-begin : (seen numbers : List ℕ) → ((j : ℕ) → j ≤ 30 → getD seen j 0 ≡ 0) → ((k : ℕ) → getD numbers k 0 ≡ 0) → UsedWalk xs (firstUsed xs) 0 seen numbers []
   used-begin seen numbers z y = record {
-      whole = refl; long = refl; marks = z; once = λ j. omega arith; within = λ j k. absurd (omega arith); images = refl; rest = λ k h. y k;
-      ranged = λ j k. absurd (omega arith); flagged = λ j k. absurd (omega arith) }
+    whole = refl;
+    long = refl;
+    marks = z;
+    once = λ j. omega arith;
+    within = λ j k. absurd (omega arith);
+    images = refl;
+    rest = λ k h. y k;
+    ranged = λ j k. absurd (omega arith);
+    flagged = λ j k. absurd (omega arith);
+  }
 
   pub used-step : (at n : ℕ) (seen numbers us : List ℕ) → length seen ≡ 31 → length numbers ≡ 30 → 0 < at → isFresh seen at n ≡ true → isSound xs at ≡ true
       → UsedWalk xs at n seen numbers us → UsedWalk xs (nextAt xs at) (n + 1) (set seen at 1) (set numbers n (numberAt xs at)) (us ++ at ∷ [])
@@ -120,23 +130,30 @@ module _ (xs : List ℕ) where
         images = image;
         rest = λ k l. getD-set-other numbers n k (numberAt xs at) 0 (λ q. omega arith) ∙ w .rest k (omega arith);
         ranged = λ j k. case-ranged j k (either at j);
-        flagged = λ j k. case-flagged j k (either at j) }
+        flagged = λ j k. case-flagged j k (either at j);
+      }
     where
       fr : (n < 30) × (at ≤ 30) × (getD seen at 0 ≡ 0)
       fr = fresh-true seen at n f
+
       so : (1 ≤ numberAt xs at) × (numberAt xs at ≤ 65535) × (flagsAt xs at ≡ true)
       so = sound-true xs at s
+
       here : occ at us ≡ 0
       here = sym (w .marks at (fr .1)) ∙ fr .2
+
       case-once : (j : ℕ) → Either at j → occ j (us ++ at ∷ []) ≤ 1
       case-once j (equal p e) = omega (arith, occ-last j at us, ap (λ (n : ℕ). occ n us) p, here)
       case-once j (other p e) = omega (arith, occ-last j at us, w .once j)
+
       case-within : (j : ℕ) → 0 < occ j (us ++ at ∷ []) → Either at j → (1 ≤ j) × (j ≤ 30)
       case-within j k (equal p e) = let b : at ≤ 30 = fr .1 in omega arith
       case-within j k (other p e) = w .within j (omega (arith, occ-last j at us))
+
       case-ranged : (j : ℕ) → 0 < occ j (us ++ at ∷ []) → Either at j → (1 ≤ numberAt xs j) × (numberAt xs j ≤ 65535)
       case-ranged j k (equal p e) = rw (sym p) (so .0, so .1)
       case-ranged j k (other p e) = w .ranged j (omega (arith, occ-last j at us))
+
       case-flagged : (j : ℕ) → 0 < occ j (us ++ at ∷ []) → Either at j → flagsAt xs j ≡ true
       case-flagged j k (equal p e) = ap (flagsAt xs) (sym p) ∙ so .2
       case-flagged j k (other p e) = w .flagged j (omega (arith, occ-last j at us))
@@ -186,24 +203,33 @@ module _ (xs : List ℕ) where
   -- ---- the free walk.
   pub free-begin : (n : ℕ) (seen numbers us : List ℕ) → UsedWalk xs 0 n seen numbers us → FreeWalk xs (firstFree xs) 0 seen us []
   free-begin n seen numbers us w = record {
-      whole = refl; long = refl; marks = λ j k. w .marks j k ∙ omega arith; once = λ j. omega (arith, w .once j); within = λ j k. w .within j (omega arith) }
+    whole = refl;
+    long = refl;
+    marks = λ j k. w .marks j k ∙ omega arith;
+    once = λ j. omega (arith, w .once j);
+    within = λ j k. w .within j (omega arith);
+  }
 
   pub free-step : (at n : ℕ) (seen us fs : List ℕ) → length seen ≡ 31 → 0 < at → isFresh seen at n ≡ true
       → FreeWalk xs at n seen us fs → FreeWalk xs (nextAt xs at) (n + 1) (set seen at 1) us (fs ++ at ∷ [])
   free-step at n seen us fs ls h f w = record {
-      whole = leads-more (nextAt xs) (firstFree xs) fs at h (w .whole);
-      long = omega (arith, length-append fs (at ∷ []), w .long);
-      marks = λ j k. marks-more seen at (λ j. occ j us + occ j fs) ls (fr .1) here (w .marks) j k ∙ omega (arith, occ-last j at fs);
-      once = λ j. case-once j (either at j);
-      within = λ j k. case-within j k (either at j) }
+    whole = leads-more (nextAt xs) (firstFree xs) fs at h (w .whole);
+    long = omega (arith, length-append fs (at ∷ []), w .long);
+    marks = λ j k. marks-more seen at (λ j. occ j us + occ j fs) ls (fr .1) here (w .marks) j k ∙ omega (arith, occ-last j at fs);
+    once = λ j. case-once j (either at j);
+    within = λ j k. case-within j k (either at j);
+  }
     where
       fr : (n < 30) × (at ≤ 30) × (getD seen at 0 ≡ 0)
       fr = fresh-true seen at n f
+
       here : occ at us + occ at fs ≡ 0
       here = sym (w .marks at (fr .1)) ∙ fr .2
+
       case-once : (j : ℕ) → Either at j → occ j us + occ j (fs ++ at ∷ []) ≤ 1
       case-once j (equal p e) = omega (arith, occ-last j at fs, ap (λ (n : ℕ). occ n us + occ n fs) p, here)
       case-once j (other p e) = omega (arith, occ-last j at fs, w .once j)
+
       case-within : (j : ℕ) → 0 < occ j us + occ j (fs ++ at ∷ []) → Either at j → (1 ≤ j) × (j ≤ 30)
       case-within j k (equal p e) = let b : at ≤ 30 = fr .1 in omega arith
       case-within j k (other p e) = w .within j (omega (arith, occ-last j at fs))
@@ -250,15 +276,20 @@ module _ (xs : List ℕ) where
 
     pub all-rules : length xs ≡ 61472 → countOf xs ≡ used → used + free ≡ 30 → distinct (take used numbers) ≡ true → rulesOk xs ≡ true
     all-rules size c s d = passing xs (b .us) (b .fs) size (record {
-        walk-used = chained-used;
-        walk-free = chained-free;
-        counted = c ∙ sym (b .first .long);
-        once = λ j h k. omega (arith, occ-append j (b .us) (b .fs), sum-full 30 (b .us ++ b .fs) both-within both-once
-          (omega (arith, length-append (b .us) (b .fs), b .first .long, b .second .long)) j h k);
-        within = b .second .within;
-        ranged = b .first .ranged;
-        apart = λ n. omega (arith, distinct-once (take used numbers) d n, ap (occ n) (b .first .images));
-        flagged = b .first .flagged })
+      walk-used = chained-used;
+      walk-free = chained-free;
+      counted = c ∙ sym (b .first .long);
+      once = λ j h k. omega (
+        arith,
+        occ-append j (b .us) (b .fs),
+        sum-full 30 (b .us ++ b .fs) both-within both-once
+            (omega (arith, length-append (b .us) (b .fs), b .first .long, b .second .long)) j h k,
+      );
+      within = b .second .within;
+      ranged = b .first .ranged;
+      apart = λ n. omega (arith, distinct-once (take used numbers) d n, ap (occ n) (b .first .images));
+      flagged = b .first .flagged;
+    })
 
     pub not-distinct : distinct (take used numbers) ≡ false → rulesOk xs ≡ false
     not-distinct f = refuted (rulesOk xs) (λ ok.
@@ -349,9 +380,10 @@ other-size xs n = sym (refuted (rulesOk xs) (λ ok. n (passes-size xs ok)))
 pub both-small : (xs : List ℕ) (fine : Bool) (used free : ℕ) (numbers : List ℕ)
     → (fine ≡ true → Both xs used free numbers) × (fine ≡ false → rulesOk xs ≡ false) → fine ≡ true → (used ≤ 30) × (free ≤ 30)
 both-small xs fine used free numbers w t =
-    let b = w .0 t in
-    (omega (arith, at-most 30 (b .us) (b .first .within) (b .first .once), b .first .long),
-    omega (arith, at-most 30 (b .fs) (λ j k. b .second .within j (omega arith)) (λ j. omega (arith, b .second .once j)), b .second .long))
+    let b = w .0 t in (
+      omega (arith, at-most 30 (b .us) (b .first .within) (b .first .once), b .first .long),
+      omega (arith, at-most 30 (b .fs) (λ j k. b .second .within j (omega arith)) (λ j. omega (arith, b .second .once j)), b .second .long),
+    )
 
 -- The mark that the code looks at.
 pub fresh-is : (seen : List ℕ) (at n slot : ℕ) (b : Bool) → slot ≡ markPlace at → b ≡ isUnmarked (getD seen slot 0) at n → b ≡ isFresh seen at n

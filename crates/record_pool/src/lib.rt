@@ -164,7 +164,12 @@ fn no_numbers() -> [u32; 30]
 fn broken() -> Walked
     ensures { λ r. ⌜ r .fine ≡ false ⌝ }
 {
-    Walked { fine: false, used: 0, free: 0, numbers: no_numbers() }
+    Walked {
+        fine: false,
+        used: 0,
+        free: 0,
+        numbers: no_numbers(),
+    }
 }
 
 // Both chains are walked; each record that is met is marked, so that none is met twice.
@@ -198,7 +203,12 @@ fn walks(pool: &[u8]) -> Walked
         free += 1;
         at = next_at(pool, at);
     }
-    Walked { fine: true, used, free, numbers }
+    Walked {
+        fine: true,
+        used,
+        free,
+        numbers,
+    }
 }
 
 fn no_places() -> [u8; 64]
@@ -343,7 +353,13 @@ pub fn listing(pool: &[u8]) -> Listed
     if rules_ok(pool) {
         let found = walks(pool);
         let numbers = found.numbers;
-        return Listed { sound: true, numbers };
+        return Listed {
+            sound: true,
+            numbers,
+        };
     }
-    Listed { sound: false, numbers: no_numbers() }
+    Listed {
+        sound: false,
+        numbers: no_numbers(),
+    }
 }

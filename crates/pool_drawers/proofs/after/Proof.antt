@@ -1,16 +1,9 @@
 use native.Mathlib.Numerals.{add-one}
-use borrow.Author.Tests.{lt-ltb, le-ltb, le-leb, lt-leb, eq-eqb, ne-eqb}
-use lib.ListN.{length, take, drop, getD, set, replicate}
-use native.Mathlib.Omega.{arith}
-use Prim.Native.Nat.{ℕ, suc, _+_, _≤_, _<_, _-_}
-use mathlib.Core.List.{List, [], _∷_, _++_}
-use mathlib.Core.Path.{_≡_, refl, sym, ap, _∙_}
-use denote.Ref.{now}
+use borrow.Author.Tests.{eq-eqb, ne-eqb}
+use Prim.Native.Nat.{_-_}
 use borrow.Author.Needs.{needs}
 use Rattle.pool_drawers.proofs.after.Statement.{statement}
 use Rattle.pool_drawers.proofs.after.Tie as tie
-use Rattle.pool_drawers.proofs.after.Reads as reads
-use Rattle.pool_drawers.proofs.after.Lts as lts
 
 returns : tie.Need-returns
 returns c = simp (eq-eqb _ 30 (c .if1 .taken))

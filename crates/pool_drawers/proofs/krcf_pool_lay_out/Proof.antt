@@ -3,11 +3,6 @@ use Rattle.pool_drawers.proofs.Calls.{lay-done, lay-refused}
 use denote.Ref.{now}
 use Rattle.pool_drawers.proofs.krcf_pool_lay_out.Statement.{statement}
 use Rattle.pool_drawers.proofs.krcf_pool_lay_out.Tie as tie
-use Rattle.pool_drawers.proofs.krcf_pool_lay_out.Reads as reads
-use Rattle.pool_drawers.proofs.krcf_pool_lay_out.Lts as lts
-use Rattle.layout.proofs.clear.Reads as clear-reads
-use Rattle.pool_drawers.proofs.lay_records.Reads as lay-records-reads
-use Rattle.pool_drawers.proofs.put_header.Reads as put-header-reads
 
 clear-requires : tie.Need-clear-requires
 clear-requires c κs = search needs

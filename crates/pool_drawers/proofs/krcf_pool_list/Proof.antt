@@ -3,10 +3,6 @@ use denote.Ref.{now}
 use borrow.Author.Needs.{needs}
 use Rattle.pool_drawers.proofs.krcf_pool_list.Statement.{statement}
 use Rattle.pool_drawers.proofs.krcf_pool_list.Tie as tie
-use Rattle.pool_drawers.proofs.krcf_pool_list.Reads as reads
-use Rattle.pool_drawers.proofs.krcf_pool_list.Lts as lts
-use Rattle.pool_drawers.proofs.put_numbers.Reads as put-numbers-reads
-use Rattle.record_pool.proofs.listing.Reads as listing-reads
 
 listing-requires : tie.Need-listing-requires
 listing-requires c κs = search needs

@@ -1,17 +1,9 @@
 use Rattle.pool_drawers.proofs.Calls.{spare, open-room, open-done, open-range, open-unmade, open-refused}
 use denote.Ref.{now}
-use borrow.Author.Tests.{le-leb, lt-leb, ne-eqb}
+use borrow.Author.Tests.{le-leb, lt-leb}
 use borrow.Author.Needs.{needs}
 use Rattle.pool_drawers.proofs.krcf_pool_open.Statement.{statement}
 use Rattle.pool_drawers.proofs.krcf_pool_open.Tie as tie
-use Rattle.pool_drawers.proofs.krcf_pool_open.Reads as reads
-use Rattle.pool_drawers.proofs.krcf_pool_open.Lts as lts
-use Rattle.pool_drawers.proofs.put_state.Reads as put-state-reads
-use Rattle.pool_drawers.proofs.take_in.Reads as take-in-reads
-use Rattle.predictorcorrector.proofs.PredictorCorrector.new.Reads as new-reads
-use Rattle.record_pool.proofs.vacancy.Reads as vacancy-reads
-use Rattle.types.proofs.Answer.number.Reads as Answer-number-reads
-use Rattle.types.proofs.Refusal.number.Reads as Refusal-number-reads
 
 vacancy-requires : tie.Need-vacancy-requires
 vacancy-requires c κs = search needs

@@ -1,14 +1,8 @@
 use Rattle.pool_drawers.proofs.Calls.{held, remove-done, remove-refused}
 use denote.Ref.{now}
-use mathlib.Core.Path.{_≡_, refl, sym, ap, _∙_}
 use borrow.Author.Needs.{needs}
 use Rattle.pool_drawers.proofs.krcf_pool_remove.Statement.{statement}
 use Rattle.pool_drawers.proofs.krcf_pool_remove.Tie as tie
-use Rattle.pool_drawers.proofs.krcf_pool_remove.Reads as reads
-use Rattle.pool_drawers.proofs.krcf_pool_remove.Lts as lts
-use Rattle.pool_drawers.proofs.take_out.Reads as take-out-reads
-use Rattle.record_pool.proofs.locate.Reads as locate-reads
-use Rattle.types.proofs.Refusal.number.Reads as number-reads
 
 locate-requires : tie.Need-locate-requires
 locate-requires c κs = search needs

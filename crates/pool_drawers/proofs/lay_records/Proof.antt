@@ -1,18 +1,12 @@
 use borrow.Author.Needs.{needs}
 use Rattle.pool_drawers.specs.Drawers.{laidRecords}
 use Rattle.pool_drawers.proofs.Calls.{laid-more, laid-all}
-use lib.ListN.{length, take, drop, getD, set, replicate}
+use lib.ListN.{length}
 use native.Mathlib.Omega.{arith}
-use Prim.Native.Nat.{ℕ, suc, _+_, _≤_, _<_, _-_}
-use mathlib.Core.List.{List, [], _∷_, _++_}
-use mathlib.Core.Path.{_≡_, refl, sym, ap, _∙_}
-use denote.Ref.{now}
+use Prim.Native.Nat.{_≤_, _-_}
+use mathlib.Core.Path.{_≡_, refl}
 use Rattle.pool_drawers.proofs.lay_records.Statement.{statement}
 use Rattle.pool_drawers.proofs.lay_records.Tie as tie
-use Rattle.pool_drawers.proofs.lay_records.Reads as reads
-use Rattle.pool_drawers.proofs.lay_records.Lts as lts
-use Rattle.pool_drawers.proofs.after.Reads as after-reads
-use Rattle.pool_drawers.proofs.put_next.Reads as put-next-reads
 
 abbrev Inv-loop : tie.InvT-loop
 Inv-loop pool₀ k₀ pool k = (k ≤ 30) × (length pool ≡ 61472) × (pool ≡ laidRecords k pool₀)

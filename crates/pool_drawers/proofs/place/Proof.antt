@@ -2,8 +2,6 @@ use Rattle.record_pool.specs.Pool.{place}
 use borrow.Author.Needs.{needs}
 use Rattle.pool_drawers.proofs.place.Statement.{statement}
 use Rattle.pool_drawers.proofs.place.Tie as tie
-use Rattle.pool_drawers.proofs.place.Reads as reads
-use Rattle.pool_drawers.proofs.place.Lts as lts
 
 sub-result : tie.Need-sub-result
 sub-result c = search needs

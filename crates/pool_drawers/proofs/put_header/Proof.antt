@@ -1,16 +1,10 @@
-use Rattle.record_pool.proofs.Putting.{header-put, record-put}
-use lib.ListN.{length, take, drop, getD, set, replicate}
+use Rattle.record_pool.proofs.Putting.{header-put}
 use native.Mathlib.Omega.{arith}
-use Prim.Native.Nat.{ℕ, suc, _+_, _≤_, _<_, _-_}
-use mathlib.Core.List.{List, [], _∷_, _++_}
-use mathlib.Core.Path.{_≡_, refl, sym, ap, _∙_}
+use Prim.Native.Nat.{_-_}
 use denote.Ref.{now}
 use borrow.Author.Needs.{needs}
 use Rattle.pool_drawers.proofs.put_header.Statement.{statement}
 use Rattle.pool_drawers.proofs.put_header.Tie as tie
-use Rattle.pool_drawers.proofs.put_header.Reads as reads
-use Rattle.pool_drawers.proofs.put_header.Lts as lts
-use Rattle.pool_drawers.proofs.put4.Reads as put4-reads
 
 put4-requires : tie.Need-put4-requires
 put4-requires c κs = search needs

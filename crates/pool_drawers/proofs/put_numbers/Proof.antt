@@ -7,8 +7,6 @@ use lib.ListN.{length}
 use Rattle.pool_drawers.proofs.Calls.{Copied, copied-none, copied-more, copied-all}
 use Rattle.pool_drawers.proofs.put_numbers.Statement.{statement}
 use Rattle.pool_drawers.proofs.put_numbers.Tie as tie
-use Rattle.pool_drawers.proofs.put_numbers.Reads as reads
-use Rattle.pool_drawers.proofs.put_numbers.Lts as lts
 
 abbrev Inv-loop : tie.InvT-loop
 Inv-loop out₀ numbers k₀ out k = (k ≤ 30) × (length out ≡ 30) × Copied numbers k out

@@ -3,11 +3,6 @@ use denote.Ref.{now}
 use borrow.Author.Needs.{needs}
 use Rattle.pool_drawers.proofs.put_record.Statement.{statement}
 use Rattle.pool_drawers.proofs.put_record.Tie as tie
-use Rattle.pool_drawers.proofs.put_record.Reads as reads
-use Rattle.pool_drawers.proofs.put_record.Lts as lts
-use Rattle.layout.proofs.clear.Reads as clear-reads
-use Rattle.pool_drawers.proofs.place.Reads as place-reads
-use Rattle.pool_drawers.proofs.put4.Reads as put4-reads
 
 place-requires : tie.Need-place-requires
 place-requires c κs = search needs

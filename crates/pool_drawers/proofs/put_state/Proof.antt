@@ -5,9 +5,6 @@ use native.Mathlib.Omega.{arith}
 use borrow.Author.Needs.{needs}
 use Rattle.pool_drawers.proofs.put_state.Statement.{statement}
 use Rattle.pool_drawers.proofs.put_state.Tie as tie
-use Rattle.pool_drawers.proofs.put_state.Reads as reads
-use Rattle.pool_drawers.proofs.put_state.Lts as lts
-use Rattle.layout.proofs.write_state.Reads as write-state-reads
 
 add-upto : tie.Need-add-upto
 add-upto c = search needs

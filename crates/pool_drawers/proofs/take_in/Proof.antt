@@ -3,10 +3,6 @@ use denote.Ref.{now}
 use borrow.Author.Needs.{needs}
 use Rattle.pool_drawers.proofs.take_in.Statement.{statement}
 use Rattle.pool_drawers.proofs.take_in.Tie as tie
-use Rattle.pool_drawers.proofs.take_in.Reads as reads
-use Rattle.pool_drawers.proofs.take_in.Lts as lts
-use Rattle.pool_drawers.proofs.put_header.Reads as put-header-reads
-use Rattle.pool_drawers.proofs.put_record.Reads as put-record-reads
 
 add-put-header : tie.Need-add-put-header
 add-put-header c = search needs

@@ -3,10 +3,6 @@ use denote.Ref.{now}
 use borrow.Author.Needs.{needs}
 use Rattle.pool_drawers.proofs.take_out.Statement.{statement}
 use Rattle.pool_drawers.proofs.take_out.Tie as tie
-use Rattle.pool_drawers.proofs.take_out.Reads as reads
-use Rattle.pool_drawers.proofs.take_out.Lts as lts
-use Rattle.pool_drawers.proofs.put_record.Reads as put-record-reads
-use Rattle.pool_drawers.proofs.unlink.Reads as unlink-reads
 
 unlink-requires : tie.Need-unlink-requires
 unlink-requires c κs = search needs

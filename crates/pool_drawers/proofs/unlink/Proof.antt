@@ -3,10 +3,6 @@ use denote.Ref.{now}
 use borrow.Author.Needs.{needs}
 use Rattle.pool_drawers.proofs.unlink.Statement.{statement}
 use Rattle.pool_drawers.proofs.unlink.Tie as tie
-use Rattle.pool_drawers.proofs.unlink.Reads as reads
-use Rattle.pool_drawers.proofs.unlink.Lts as lts
-use Rattle.pool_drawers.proofs.put_header.Reads as put-header-reads
-use Rattle.pool_drawers.proofs.put_next.Reads as put-next-reads
 
 sub-count : tie.Need-sub-count
 sub-count c = search needs

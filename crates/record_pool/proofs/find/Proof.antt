@@ -1,18 +1,8 @@
 use borrow.Author.Needs.{needs}
 use Rattle.record_pool.proofs.Searching.{Left, left-first, at-range, left-next, ahead, ahead-less, found-here, found-nowhere}
-use lib.ListN.{length, take, drop, getD, set, replicate}
-use native.Mathlib.Omega.{arith}
-use Prim.Native.Nat.{ℕ, suc, _+_, _≤_, _<_, _-_}
-use mathlib.Core.List.{List, [], _∷_, _++_}
-use mathlib.Core.Path.{_≡_, refl, sym, ap, _∙_}
-use denote.Ref.{now}
+use Prim.Native.Nat.{_-_}
 use Rattle.record_pool.proofs.find.Statement.{statement}
 use Rattle.record_pool.proofs.find.Tie as tie
-use Rattle.record_pool.proofs.find.Reads as reads
-use Rattle.record_pool.proofs.find.Lts as lts
-use Rattle.record_pool.proofs.index_at.Reads as index-at-reads
-use Rattle.record_pool.proofs.next_at.Reads as next-at-reads
-use Rattle.record_pool.proofs.number_at.Reads as number-at-reads
 
 abbrev Inv-loop : tie.InvT-loop
 Inv-loop pool drawer at₀ front₀ at front = Left pool drawer at front
@@ -20,35 +10,27 @@ Inv-loop pool drawer at₀ front₀ at front = Left pool drawer at front
 abbrev μ-loop : tie.MeasureT-loop
 μ-loop pool drawer at₀ front₀ at front = ahead pool at
 
--- src/lib.rt:243:9
 index-at-requires : tie.Need-index-at-requires Inv-loop μ-loop
 index-at-requires c κs = search needs
 
--- src/lib.rt:245:5
 loop-holds : tie.Need-loop-holds Inv-loop μ-loop
 loop-holds c = left-first _ _ _ (c .before .before .pre .0) (c .index-at .ensures)
 
--- src/lib.rt:246:12
 number-at-requires : tie.Need-number-at-requires Inv-loop μ-loop
 number-at-requires c κs = let b = at-range _ _ _ _ (c .loop-test .taken) (c .before .loop .inv) in search needs
 
--- src/lib.rt:247:13
 returns : tie.Need-returns Inv-loop μ-loop
 returns c = found-here _ _ _ _ _ (c .before .before .loop-test .taken) (c .before .number-at .ensures) (c .if1 .taken) (c .before .before .before .loop .inv)
 
--- src/lib.rt:250:9
 next-at-requires : tie.Need-next-at-requires Inv-loop μ-loop
 next-at-requires c κs = let b = at-range _ _ _ _ (c .before .before .loop-test .taken) (c .before .before .before .loop .inv) in search needs
 
--- src/lib.rt:245:5
 loop-less : tie.Need-loop-less Inv-loop μ-loop
 loop-less c = ahead-less _ _ _ _ _ (c .before .before .before .loop-test .taken) (c .next-at .ensures) (c .before .before .before .before .loop .inv)
 
--- src/lib.rt:245:5
 loop-again : tie.Need-loop-again Inv-loop μ-loop
 loop-again c = left-next _ _ _ _ _ _ (c .before .before .before .loop-test .taken) (c .before .before .number-at .ensures) (c .before .if1 .left) (c .next-at .ensures) (c .before .before .before .before .loop .inv)
 
--- src/lib.rt:239:1
 returns-2 : tie.Need-returns-2 Inv-loop μ-loop
 returns-2 c = found-nowhere _ _ _ _ (c .loop-test .left) (c .before .loop .inv)
 

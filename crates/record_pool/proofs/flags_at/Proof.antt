@@ -1,39 +1,29 @@
 use mathlib.Core.Path.{sym}
-use borrow.Author.Tests.{lt-ltb, le-ltb, le-leb, lt-leb, eq-eqb, ne-eqb}
+use borrow.Author.Tests.{le-leb, lt-leb}
 use Rattle.record_pool.specs.Pool.{flagsAt}
 use borrow.Author.Needs.{needs}
 use Rattle.record_pool.proofs.flags_at.Statement.{statement}
 use Rattle.record_pool.proofs.flags_at.Tie as tie
-use Rattle.record_pool.proofs.flags_at.Reads as reads
-use Rattle.record_pool.proofs.flags_at.Lts as lts
-use Rattle.record_pool.proofs.place.Reads as place-reads
 
--- src/lib.rt:73:9
 place-requires : tie.Need-place-requires
 place-requires c κs = search needs
 
--- src/lib.rt:74:14
 add-if1 : tie.Need-add-if1
 add-if1 c = search needs
 
--- src/lib.rt:74:8
 shared-slice-read-if1 : tie.Need-shared-slice-read-if1
 shared-slice-read-if1 c = search needs
 
--- src/lib.rt:75:22
 add-result : tie.Need-add-result
 add-result c = search needs
 
--- src/lib.rt:75:16
 shared-slice-read-result : tie.Need-shared-slice-read-result
 shared-slice-read-result c = search needs
 
--- src/lib.rt:75:9
 returns : tie.Need-returns
 unfolding flagsAt
 returns c = simp (sym (c .before .before .before .place .ensures .0), le-leb _ _ (c .before .if1 .taken))
 
--- src/lib.rt:69:1
 returns-2 : tie.Need-returns-2
 unfolding flagsAt
 returns-2 c = simp (sym (c .before .before .place .ensures .0), lt-leb _ _ (c .if1 .left))

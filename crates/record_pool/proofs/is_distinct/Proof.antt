@@ -1,17 +1,11 @@
 use borrow.Author.Needs.{needs}
 use Rattle.record_pool.proofs.Apart.{SoFar, so-far-none, so-far-more, twice, all-apart}
-use lib.ListN.{length, take, drop, getD, set, replicate}
+use lib.ListN.{length}
 use native.Mathlib.Omega.{arith}
-use Prim.Native.Nat.{ℕ, suc, _+_, _≤_, _<_, _-_}
-use mathlib.Core.List.{List, [], _∷_, _++_}
-use mathlib.Core.Path.{_≡_, refl, sym, ap, _∙_}
-use denote.Ref.{now}
+use Prim.Native.Nat.{_≤_, _-_}
+use mathlib.Core.Path.{_≡_, refl}
 use Rattle.record_pool.proofs.is_distinct.Statement.{statement}
 use Rattle.record_pool.proofs.is_distinct.Tie as tie
-use Rattle.record_pool.proofs.is_distinct.Reads as reads
-use Rattle.record_pool.proofs.is_distinct.Lts as lts
-use Rattle.record_pool.proofs.is_taken.Reads as is-taken-reads
-use Rattle.record_pool.proofs.no_places.Reads as no-places-reads
 
 abbrev Inv-loop : tie.InvT-loop
 Inv-loop n numbers taken₀ k₀ taken k = (k ≤ n) × (length numbers ≡ 30) × (length taken ≡ 64) × SoFar taken numbers k
@@ -19,59 +13,45 @@ Inv-loop n numbers taken₀ k₀ taken k = (k ≤ n) × (length numbers ≡ 30) 
 abbrev μ-loop : tie.MeasureT-loop
 μ-loop n numbers taken₀ k₀ taken k = n - k
 
--- src/lib.rt:215:21
 no-places-requires : tie.Need-no-places-requires Inv-loop μ-loop
 no-places-requires c κs = search needs
 
--- src/lib.rt:217:5
 loop-holds : tie.Need-loop-holds Inv-loop μ-loop
 loop-holds c = (omega arith, search needs, search needs, so-far-none _ _)
 
--- src/lib.rt:218:22
 mul-number : tie.Need-mul-number Inv-loop μ-loop
 mul-number c = search needs
 
--- src/lib.rt:218:22
 array-read-number : tie.Need-array-read-number Inv-loop μ-loop
 array-read-number c = search needs
 
--- src/lib.rt:219:27
 cast-is-taken : tie.Need-cast-is-taken Inv-loop μ-loop
 cast-is-taken c = search needs
 
--- src/lib.rt:219:21
 array-read-is-taken : tie.Need-array-read-is-taken Inv-loop μ-loop
 array-read-is-taken c = search needs
 
--- src/lib.rt:219:12
 is-taken-requires : tie.Need-is-taken-requires Inv-loop μ-loop
 is-taken-requires c κs = search needs
 
--- src/lib.rt:220:13
 returns : tie.Need-returns Inv-loop μ-loop
 returns c = twice (c .before .before .before .loop .taken) _ _ _ _ _ (c .before .before .loop-test .taken) (c .before .before .before .before .before .pre) (c .before .before .before .loop .inv .1) refl (c .before .is-taken .ensures) (c .if1 .taken)
 
--- src/lib.rt:222:15
 cast-taken : tie.Need-cast-taken Inv-loop μ-loop
 cast-taken c = search needs
 
--- src/lib.rt:222:9
 array-write-taken : tie.Need-array-write-taken Inv-loop μ-loop
 array-write-taken c = search needs
 
--- src/lib.rt:223:9
 add-k : tie.Need-add-k Inv-loop μ-loop
 add-k c = search needs
 
--- src/lib.rt:217:5
 loop-less : tie.Need-loop-less Inv-loop μ-loop
 loop-less c = search needs
 
--- src/lib.rt:217:5
 loop-again : tie.Need-loop-again Inv-loop μ-loop
 loop-again c = (omega arith, c .before .before .before .loop .inv .1, search needs, so-far-more (c .before .before .before .loop .taken) _ _ _ _ _ (c .before .before .before .loop .inv .2) (omega arith) refl refl (c .before .before .before .loop .inv .3) (c .before .is-taken .ensures) (c .if1 .left))
 
--- src/lib.rt:211:1
 returns-2 : tie.Need-returns-2 Inv-loop μ-loop
 returns-2 c = all-apart _ _ _ _ (c .before .loop .inv .0) (c .loop-test .left) (c .before .loop .inv .3)
 

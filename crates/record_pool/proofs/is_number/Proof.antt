@@ -1,16 +1,12 @@
-use borrow.Author.Tests.{lt-ltb, le-ltb, le-leb, lt-leb, eq-eqb, ne-eqb}
+use borrow.Author.Tests.{le-leb, lt-leb}
 use Rattle.record_pool.specs.Chains.{isNumber}
 use Rattle.record_pool.proofs.is_number.Statement.{statement}
 use Rattle.record_pool.proofs.is_number.Tie as tie
-use Rattle.record_pool.proofs.is_number.Reads as reads
-use Rattle.record_pool.proofs.is_number.Lts as lts
 
--- src/lib.rt:84:9
 returns : tie.Need-returns
 unfolding isNumber
 returns c = simp (le-leb _ _ (c .if1 .taken))
 
--- src/lib.rt:80:1
 returns-2 : tie.Need-returns-2
 unfolding isNumber
 returns-2 c = simp (lt-leb _ _ (c .if1 .left))

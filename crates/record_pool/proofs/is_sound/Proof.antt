@@ -3,30 +3,20 @@ use Rattle.record_pool.specs.Walks.{isSound}
 use borrow.Author.Needs.{needs}
 use Rattle.record_pool.proofs.is_sound.Statement.{statement}
 use Rattle.record_pool.proofs.is_sound.Tie as tie
-use Rattle.record_pool.proofs.is_sound.Reads as reads
-use Rattle.record_pool.proofs.is_sound.Lts as lts
-use Rattle.record_pool.proofs.flags_at.Reads as flags-at-reads
-use Rattle.record_pool.proofs.is_number.Reads as is-number-reads
-use Rattle.record_pool.proofs.number_at.Reads as number-at-reads
 
--- src/lib.rt:93:18
 number-at-requires : tie.Need-number-at-requires
 number-at-requires c κs = search needs
 
--- src/lib.rt:93:8
 is-number-requires : tie.Need-is-number-requires
 is-number-requires c κs = search needs
 
--- src/lib.rt:94:9
 flags-at-requires : tie.Need-flags-at-requires
 flags-at-requires c κs = search needs
 
--- src/lib.rt:94:9
 returns : tie.Need-returns
 unfolding isSound
 returns c = simp (sym (c .before .before .before .number-at .ensures), sym (c .before .before .is-number .ensures) ∙ c .before .if1 .taken, c .flags-at .ensures)
 
--- src/lib.rt:89:1
 returns-2 : tie.Need-returns-2
 unfolding isSound
 returns-2 c = simp (sym (c .before .before .number-at .ensures), sym (c .before .is-number .ensures) ∙ c .if1 .left)

@@ -4,11 +4,6 @@ use Rattle.record_pool.proofs.Gathering.{listing-broken, listing-sound}
 use borrow.Author.Needs.{needs}
 use Rattle.record_pool.proofs.listing.Statement.{statement}
 use Rattle.record_pool.proofs.listing.Tie as tie
-use Rattle.record_pool.proofs.listing.Reads as reads
-use Rattle.record_pool.proofs.listing.Lts as lts
-use Rattle.record_pool.proofs.no_numbers.Reads as no-numbers-reads
-use Rattle.record_pool.proofs.rules_ok.Reads as rules-ok-reads
-use Rattle.record_pool.proofs.walks.Reads as walks-reads
 
 rules-ok-requires : tie.Need-rules-ok-requires
 rules-ok-requires c κs = search needs

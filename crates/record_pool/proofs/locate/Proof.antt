@@ -4,11 +4,6 @@ use Rattle.record_pool.proofs.Locating.{locate-broken, locate-absent, l
 use borrow.Author.Needs.{needs}
 use Rattle.record_pool.proofs.locate.Statement.{statement}
 use Rattle.record_pool.proofs.locate.Tie as tie
-use Rattle.record_pool.proofs.locate.Reads as reads
-use Rattle.record_pool.proofs.locate.Lts as lts
-use Rattle.record_pool.proofs.find.Reads as find-reads
-use Rattle.record_pool.proofs.rules_ok.Reads as rules-ok-reads
-use Rattle.record_pool.proofs.seat_of.Reads as seat-of-reads
 
 rules-ok-requires : tie.Need-rules-ok-requires
 rules-ok-requires c κs = search needs

@@ -3,20 +3,13 @@ use Rattle.record_pool.specs.Pool.{nextAt}
 use borrow.Author.Needs.{needs}
 use Rattle.record_pool.proofs.next_at.Statement.{statement}
 use Rattle.record_pool.proofs.next_at.Tie as tie
-use Rattle.record_pool.proofs.next_at.Reads as reads
-use Rattle.record_pool.proofs.next_at.Lts as lts
-use Rattle.record_pool.proofs.index_at.Reads as index-at-reads
-use Rattle.record_pool.proofs.place.Reads as place-reads
 
--- src/lib.rt:58:21
 place-requires : tie.Need-place-requires
 place-requires c κs = search needs
 
--- src/lib.rt:58:5
 index-at-requires : tie.Need-index-at-requires
 index-at-requires c κs = search needs
 
--- src/lib.rt:54:1
 returns : tie.Need-returns
 unfolding nextAt
 returns c = simp (sym (c .before .place .ensures .0), c .index-at .ensures)

@@ -3,24 +3,16 @@ use Rattle.record_pool.specs.Pool.{numberAt}
 use borrow.Author.Needs.{needs}
 use Rattle.record_pool.proofs.number_at.Statement.{statement}
 use Rattle.record_pool.proofs.number_at.Tie as tie
-use Rattle.record_pool.proofs.number_at.Reads as reads
-use Rattle.record_pool.proofs.number_at.Lts as lts
-use Rattle.record_pool.proofs.place.Reads as place-reads
-use Rattle.record_pool.proofs.read4.Reads as read4-reads
 
--- src/lib.rt:65:18
 place-requires : tie.Need-place-requires
 place-requires c κs = search needs
 
--- src/lib.rt:65:18
 add-read4 : tie.Need-add-read4
 add-read4 c = search needs
 
--- src/lib.rt:65:5
 read4-requires : tie.Need-read4-requires
 read4-requires c κs = search needs
 
--- src/lib.rt:61:1
 returns : tie.Need-returns
 unfolding numberAt
 returns c = simp (sym (c .before .place .ensures .0), c .read4 .ensures)

@@ -1,52 +1,34 @@
 use Rattle.record_pool.proofs.Walking.{decided, other-number, other-sum, other-size, both-small}
-use lib.ListN.{length, take, drop, getD, set, replicate}
-use native.Mathlib.Omega.{arith}
-use Prim.Native.Nat.{ℕ, suc, _+_, _≤_, _<_, _-_}
-use mathlib.Core.List.{List, [], _∷_, _++_}
-use mathlib.Core.Path.{_≡_, refl, sym, ap, _∙_}
-use denote.Ref.{now}
+use Prim.Native.Nat.{_-_}
+use mathlib.Core.Path.{sym}
 use borrow.Author.Needs.{needs}
 use Rattle.record_pool.proofs.rules_ok.Statement.{statement}
 use Rattle.record_pool.proofs.rules_ok.Tie as tie
-use Rattle.record_pool.proofs.rules_ok.Reads as reads
-use Rattle.record_pool.proofs.rules_ok.Lts as lts
-use Rattle.record_pool.proofs.index_at.Reads as index-at-reads
-use Rattle.record_pool.proofs.is_distinct.Reads as is-distinct-reads
-use Rattle.record_pool.proofs.walks.Reads as walks-reads
 
--- src/lib.rt:216:9
 returns : tie.Need-returns
 returns c = other-size _ (c .if1 .taken)
 
--- src/lib.rt:218:9
 walks-requires : tie.Need-walks-requires
 walks-requires c κs = search needs
 
--- src/lib.rt:220:22
 index-at-requires : tie.Need-index-at-requires
 index-at-requires c κs = search needs
 
--- src/lib.rt:221:13
 returns-2 : tie.Need-returns-2
 returns-2 c = other-number _ _ _ _ _ _ (c .before .before .before .before .walks .ensures) (c .before .before .before .if2 .taken) (c .before .before .index-at .ensures) (c .if3 .taken)
 
--- src/lib.rt:223:12
 add-if4 : tie.Need-add-if4
 add-if4 c = let b = both-small _ _ _ _ _ (c .before .before .before .before .before .walks .ensures) (c .before .before .before .before .if2 .taken) in search needs
 
--- src/lib.rt:224:13
 returns-3 : tie.Need-returns-3
 returns-3 c = other-sum _ _ _ _ _ (c .before .before .before .before .before .before .walks .ensures) (c .before .before .before .before .before .if2 .taken) (c .if4 .taken)
 
--- src/lib.rt:227:9
 is-distinct-requires : tie.Need-is-distinct-requires
 is-distinct-requires c κs = let b = both-small _ _ _ _ _ (c .before .before .before .before .before .before .before .walks .ensures) (c .before .before .before .before .before .before .if2 .taken) in search needs
 
--- src/lib.rt:227:9
 returns-4 : tie.Need-returns-4
 returns-4 c = decided _ _ _ _ _ _ _ (c .before .before .before .before .before .before .before .before .before .if1 .left) (c .before .before .before .before .before .before .before .before .walks .ensures) (c .before .before .before .before .before .before .before .if2 .taken) (c .before .before .before .before .before .before .index-at .ensures) (c .before .before .before .before .if3 .left) (c .before .before .if4 .left) (c .is-distinct .ensures)
 
--- src/lib.rt:212:1
 returns-5 : tie.Need-returns-5
 returns-5 c = sym ((c .before .walks .ensures .1) (c .if2 .left))
 

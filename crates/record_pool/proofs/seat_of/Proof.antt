@@ -2,10 +2,6 @@ use Rattle.record_pool.proofs.Locating.{seat-is}
 use borrow.Author.Needs.{needs}
 use Rattle.record_pool.proofs.seat_of.Statement.{statement}
 use Rattle.record_pool.proofs.seat_of.Tie as tie
-use Rattle.record_pool.proofs.seat_of.Reads as reads
-use Rattle.record_pool.proofs.seat_of.Lts as lts
-use Rattle.record_pool.proofs.place.Reads as place-reads
-use Rattle.record_pool.proofs.read4.Reads as read4-reads
 
 place-requires : tie.Need-place-requires
 place-requires c κs = search needs

@@ -4,13 +4,6 @@ use Rattle.record_pool.proofs.Locating.{vacancy-broken, vacancy-unnumbe
 use borrow.Author.Needs.{needs}
 use Rattle.record_pool.proofs.vacancy.Statement.{statement}
 use Rattle.record_pool.proofs.vacancy.Tie as tie
-use Rattle.record_pool.proofs.vacancy.Reads as reads
-use Rattle.record_pool.proofs.vacancy.Lts as lts
-use Rattle.record_pool.proofs.find.Reads as find-reads
-use Rattle.record_pool.proofs.index_at.Reads as index-at-reads
-use Rattle.record_pool.proofs.is_number.Reads as is-number-reads
-use Rattle.record_pool.proofs.rules_ok.Reads as rules-ok-reads
-use Rattle.record_pool.proofs.seat_of.Reads as seat-of-reads
 
 rules-ok-requires : tie.Need-rules-ok-requires
 rules-ok-requires c κs = search needs

@@ -1,26 +1,14 @@
 use Rattle.record_pool.proofs.Walking.{fresh-is, used-first, used-again, used-broken, used-unsound, free-first, free-again, free-broken, told-broken, told-fine, fresh-bounds}
-use denote.Ref.{now}
-use mathlib.Core.Path.{_≡_, refl, sym, ap, _∙_}
-use mathlib.Core.List.{List, []}
+use mathlib.Core.Path.{_≡_, sym, _∙_}
+use mathlib.Core.List.{List}
 use Prim.Native.Nat.{ℕ, _≤_, _-_}
 use native.Mathlib.Omega.{arith}
 use lib.ListN.{length}
 use borrow.Author.Needs.{needs}
 use borrow.Author.Tests.{not-true, not-false}
-use Rattle.record_pool.specs.Walks.{UsedWalk, FreeWalk, isFresh, isSound}
+use Rattle.record_pool.specs.Walks.{UsedWalk, FreeWalk}
 use Rattle.record_pool.proofs.walks.Statement.{statement}
 use Rattle.record_pool.proofs.walks.Tie as tie
-use Rattle.record_pool.proofs.walks.Reads as reads
-use Rattle.record_pool.proofs.walks.Lts as lts
-use Rattle.record_pool.proofs.broken.Reads as broken-reads
-use Rattle.record_pool.proofs.index_at.Reads as index-at-reads
-use Rattle.record_pool.proofs.is_fresh.Reads as is-fresh-reads
-use Rattle.record_pool.proofs.is_sound.Reads as is-sound-reads
-use Rattle.record_pool.proofs.mark_place.Reads as mark-place-reads
-use Rattle.record_pool.proofs.next_at.Reads as next-at-reads
-use Rattle.record_pool.proofs.no_marks.Reads as no-marks-reads
-use Rattle.record_pool.proofs.no_numbers.Reads as no-numbers-reads
-use Rattle.record_pool.proofs.number_at.Reads as number-at-reads
 
 abbrev Inv-loop : tie.InvT-loop
 Inv-loop pool seen₀ numbers₀ at₀ used₀ seen numbers at used = (length seen ≡ 31) × (length numbers ≡ 30) × (used ≤ 30) × ((us : List ℕ) × UsedWalk pool at used seen numbers us)
@@ -34,135 +22,102 @@ Inv-loop2 pool seen₀ numbers at₀ used free₀ seen at free = (length seen �
 abbrev μ-loop2 : tie.MeasureT-loop2
 μ-loop2 pool seen₀ numbers at₀ used free₀ seen at free = 30 - free
 
--- src/lib.rt:151:20
 no-marks-requires : tie.Need-no-marks-requires Inv-loop μ-loop Inv-loop2 μ-loop2
 no-marks-requires c κs = search needs
 
--- src/lib.rt:152:23
 no-numbers-requires : tie.Need-no-numbers-requires Inv-loop μ-loop Inv-loop2 μ-loop2
 no-numbers-requires c κs = search needs
 
--- src/lib.rt:153:9
 index-at-requires : tie.Need-index-at-requires Inv-loop μ-loop Inv-loop2 μ-loop2
 index-at-requires c κs = search needs
 
--- src/lib.rt:155:5
 loop-holds : tie.Need-loop-holds Inv-loop μ-loop Inv-loop2 μ-loop2
 loop-holds c = (search needs, search needs, omega arith, used-first _ _ _ _ (c .index-at .ensures) (c .before .before .no-marks .ensures) (c .before .no-numbers .ensures))
 
--- src/lib.rt:156:27
 mark-place-requires : tie.Need-mark-place-requires Inv-loop μ-loop Inv-loop2 μ-loop2
 mark-place-requires c κs = search needs
 
--- src/lib.rt:156:22
 array-read-is-fresh : tie.Need-array-read-is-fresh Inv-loop μ-loop Inv-loop2 μ-loop2
 array-read-is-fresh c = search needs
 
--- src/lib.rt:156:13
 is-fresh-requires : tie.Need-is-fresh-requires Inv-loop μ-loop Inv-loop2 μ-loop2
 is-fresh-requires c κs = search needs
 
--- src/lib.rt:157:13
 broken-requires : tie.Need-broken-requires Inv-loop μ-loop Inv-loop2 μ-loop2
 broken-requires c κs = search needs
 
--- src/lib.rt:157:13
 returns : tie.Need-returns Inv-loop μ-loop Inv-loop2 μ-loop2
 returns c = let w = c .before .before .before .before .before .loop .inv .3 in told-broken _ _ _ _ _ (c .broken .ensures) (used-broken _ _ _ _ _ (w .0) (omega arith) (w .1) (sym (fresh-is (c .before .before .before .before .before .loop .seen) (c .before .before .before .before .before .loop .at) (c .before .before .before .before .before .loop .used) _ _ (c .before .before .before .mark-place .ensures .0) (c .before .before .is-fresh .ensures)) ∙ not-true _ (c .before .if1 .taken)))
 
--- src/lib.rt:159:13
 is-sound-requires : tie.Need-is-sound-requires Inv-loop μ-loop Inv-loop2 μ-loop2
 is-sound-requires c κs = let b = fresh-bounds _ _ _ _ (fresh-is (c .before .before .before .before .loop .seen) (c .before .before .before .before .loop .at) (c .before .before .before .before .loop .used) _ _ (c .before .before .mark-place .ensures .0) (c .before .is-fresh .ensures)) (not-false _ (c .if1 .left)) in search needs
 
--- src/lib.rt:160:13
 broken-requires-2 : tie.Need-broken-requires-2 Inv-loop μ-loop Inv-loop2 μ-loop2
 broken-requires-2 c κs = search needs
 
--- src/lib.rt:160:13
 returns-2 : tie.Need-returns-2 Inv-loop μ-loop Inv-loop2 μ-loop2
 returns-2 c = let w = c .before .before .before .before .before .before .before .loop .inv .3 in told-broken _ _ _ _ _ (c .broken2 .ensures) (used-unsound _ _ _ _ _ (w .0) (omega arith) (w .1) (sym (c .before .before .is-sound .ensures) ∙ not-true _ (c .before .if2 .taken)))
 
--- src/lib.rt:162:9
 array-write-seen : tie.Need-array-write-seen Inv-loop μ-loop Inv-loop2 μ-loop2
 array-write-seen c = let b = fresh-bounds _ _ _ _ (fresh-is (c .before .before .before .before .before .before .loop .seen) (c .before .before .before .before .before .before .loop .at) (c .before .before .before .before .before .before .loop .used) _ _ (c .before .before .before .before .mark-place .ensures .0) (c .before .before .before .is-fresh .ensures)) (not-false _ (c .before .before .if1 .left)) in search needs
 
--- src/lib.rt:163:25
 number-at-requires : tie.Need-number-at-requires Inv-loop μ-loop Inv-loop2 μ-loop2
 number-at-requires c κs = let b = fresh-bounds _ _ _ _ (fresh-is (c .before .before .before .before .before .before .loop .seen) (c .before .before .before .before .before .before .loop .at) (c .before .before .before .before .before .before .loop .used) _ _ (c .before .before .before .before .mark-place .ensures .0) (c .before .before .before .is-fresh .ensures)) (not-false _ (c .before .before .if1 .left)) in search needs
 
--- src/lib.rt:163:9
 mul-numbers : tie.Need-mul-numbers Inv-loop μ-loop Inv-loop2 μ-loop2
 mul-numbers c = search needs
 
--- src/lib.rt:163:9
 array-write-numbers : tie.Need-array-write-numbers Inv-loop μ-loop Inv-loop2 μ-loop2
 array-write-numbers c = let b = fresh-bounds _ _ _ _ (fresh-is (c .before .before .before .before .before .before .before .loop .seen) (c .before .before .before .before .before .before .before .loop .at) (c .before .before .before .before .before .before .before .loop .used) _ _ (c .before .before .before .before .before .mark-place .ensures .0) (c .before .before .before .before .is-fresh .ensures)) (not-false _ (c .before .before .before .if1 .left)) in search needs
 
--- src/lib.rt:164:9
 add-used : tie.Need-add-used Inv-loop μ-loop Inv-loop2 μ-loop2
 add-used c = search needs
 
--- src/lib.rt:165:9
 next-at-requires : tie.Need-next-at-requires Inv-loop μ-loop Inv-loop2 μ-loop2
 next-at-requires c κs = let b = fresh-bounds _ _ _ _ (fresh-is (c .before .before .before .before .before .before .before .loop .seen) (c .before .before .before .before .before .before .before .loop .at) (c .before .before .before .before .before .before .before .loop .used) _ _ (c .before .before .before .before .before .mark-place .ensures .0) (c .before .before .before .before .is-fresh .ensures)) (not-false _ (c .before .before .before .if1 .left)) in search needs
 
--- src/lib.rt:155:5
 loop-less : tie.Need-loop-less Inv-loop μ-loop Inv-loop2 μ-loop2
 loop-less c = let b = fresh-bounds _ _ _ _ (fresh-is (c .before .before .before .before .before .before .before .before .loop .seen) (c .before .before .before .before .before .before .before .before .loop .at) (c .before .before .before .before .before .before .before .before .loop .used) _ _ (c .before .before .before .before .before .before .mark-place .ensures .0) (c .before .before .before .before .before .is-fresh .ensures)) (not-false _ (c .before .before .before .before .if1 .left)) in omega arith
 
--- src/lib.rt:155:5
 loop-again : tie.Need-loop-again Inv-loop μ-loop Inv-loop2 μ-loop2
 loop-again c = let b = fresh-bounds _ _ _ _ (fresh-is (c .before .before .before .before .before .before .before .before .loop .seen) (c .before .before .before .before .before .before .before .before .loop .at) (c .before .before .before .before .before .before .before .before .loop .used) _ _ (c .before .before .before .before .before .before .mark-place .ensures .0) (c .before .before .before .before .before .is-fresh .ensures)) (not-false _ (c .before .before .before .before .if1 .left)) in (search needs, search needs, omega arith, used-again _ _ _ _ _ _ _ _ _ (c .before .before .before .before .before .before .before .before .loop .inv .0) (c .before .before .before .before .before .before .before .before .loop .inv .1) (omega arith) (fresh-is (c .before .before .before .before .before .before .before .before .loop .seen) (c .before .before .before .before .before .before .before .before .loop .at) (c .before .before .before .before .before .before .before .before .loop .used) _ _ (c .before .before .before .before .before .before .mark-place .ensures .0) (c .before .before .before .before .before .is-fresh .ensures)) (not-false _ (c .before .before .before .before .if1 .left)) (c .before .before .before .is-sound .ensures) (not-false _ (c .before .before .if2 .left)) (c .next-at .ensures) (c .before .number-at .ensures) (c .before .before .before .before .before .before .before .before .loop .inv .3))
 
--- src/lib.rt:167:5
 index-at-requires-2 : tie.Need-index-at-requires-2 Inv-loop μ-loop Inv-loop2 μ-loop2
 index-at-requires-2 c κs = search needs
 
--- src/lib.rt:169:5
 loop2-holds : tie.Need-loop2-holds Inv-loop μ-loop Inv-loop2 μ-loop2
 loop2-holds c = (c .before .before .loop .inv .0, omega arith, free-first _ _ _ _ _ _ (c .before .loop-test .left) (c .index-at2 .ensures) (c .before .before .loop .inv .3))
 
--- src/lib.rt:170:27
 mark-place-requires-2 : tie.Need-mark-place-requires-2 Inv-loop μ-loop Inv-loop2 μ-loop2
 mark-place-requires-2 c κs = search needs
 
--- src/lib.rt:170:22
 array-read-is-fresh-2 : tie.Need-array-read-is-fresh-2 Inv-loop μ-loop Inv-loop2 μ-loop2
 array-read-is-fresh-2 c = search needs
 
--- src/lib.rt:170:13
 is-fresh-requires-2 : tie.Need-is-fresh-requires-2 Inv-loop μ-loop Inv-loop2 μ-loop2
 is-fresh-requires-2 c κs = search needs
 
--- src/lib.rt:171:13
 broken-requires-3 : tie.Need-broken-requires-3 Inv-loop μ-loop Inv-loop2 μ-loop2
 broken-requires-3 c κs = search needs
 
--- src/lib.rt:171:13
 returns-3 : tie.Need-returns-3 Inv-loop μ-loop Inv-loop2 μ-loop2
 returns-3 c = let w = c .before .before .before .before .before .loop2 .inv .2 in told-broken _ _ _ _ _ (c .broken3 .ensures) (free-broken _ _ _ _ _ _ _ (w .0) (w .1) (omega arith) (w .2) (w .3) (sym (fresh-is (c .before .before .before .before .before .loop2 .seen) (c .before .before .before .before .before .loop2 .at) (c .before .before .before .before .before .loop2 .free) _ _ (c .before .before .before .mark-place2 .ensures .0) (c .before .before .is-fresh2 .ensures)) ∙ not-true _ (c .before .if3 .taken)))
 
--- src/lib.rt:173:9
 array-write-seen-2 : tie.Need-array-write-seen-2 Inv-loop μ-loop Inv-loop2 μ-loop2
 array-write-seen-2 c = let b = fresh-bounds _ _ _ _ (fresh-is (c .before .before .before .before .loop2 .seen) (c .before .before .before .before .loop2 .at) (c .before .before .before .before .loop2 .free) _ _ (c .before .before .mark-place2 .ensures .0) (c .before .is-fresh2 .ensures)) (not-false _ (c .if3 .left)) in search needs
 
--- src/lib.rt:174:9
 add-free : tie.Need-add-free Inv-loop μ-loop Inv-loop2 μ-loop2
 add-free c = search needs
 
--- src/lib.rt:175:9
 next-at-requires-2 : tie.Need-next-at-requires-2 Inv-loop μ-loop Inv-loop2 μ-loop2
 next-at-requires-2 c κs = let b = fresh-bounds _ _ _ _ (fresh-is (c .before .before .before .before .loop2 .seen) (c .before .before .before .before .loop2 .at) (c .before .before .before .before .loop2 .free) _ _ (c .before .before .mark-place2 .ensures .0) (c .before .is-fresh2 .ensures)) (not-false _ (c .if3 .left)) in search needs
 
--- src/lib.rt:169:5
 loop2-less : tie.Need-loop2-less Inv-loop μ-loop Inv-loop2 μ-loop2
 loop2-less c = let b = fresh-bounds _ _ _ _ (fresh-is (c .before .before .before .before .before .loop2 .seen) (c .before .before .before .before .before .loop2 .at) (c .before .before .before .before .before .loop2 .free) _ _ (c .before .before .before .mark-place2 .ensures .0) (c .before .before .is-fresh2 .ensures)) (not-false _ (c .before .if3 .left)) in omega arith
 
--- src/lib.rt:169:5
 loop2-again : tie.Need-loop2-again Inv-loop μ-loop Inv-loop2 μ-loop2
 loop2-again c = let b = fresh-bounds _ _ _ _ (fresh-is (c .before .before .before .before .before .loop2 .seen) (c .before .before .before .before .before .loop2 .at) (c .before .before .before .before .before .loop2 .free) _ _ (c .before .before .before .mark-place2 .ensures .0) (c .before .before .is-fresh2 .ensures)) (not-false _ (c .before .if3 .left)) in (search needs, omega arith, free-again _ _ _ _ _ _ _ _ _ (c .before .before .before .before .before .loop2 .inv .0) (omega arith) (fresh-is (c .before .before .before .before .before .loop2 .seen) (c .before .before .before .before .before .loop2 .at) (c .before .before .before .before .before .loop2 .free) _ _ (c .before .before .before .mark-place2 .ensures .0) (c .before .before .is-fresh2 .ensures)) (not-false _ (c .before .if3 .left)) (c .next-at2 .ensures) (c .before .before .before .before .before .loop2 .inv .2))
 
--- src/lib.rt:147:1
 returns-4 : tie.Need-returns-4 Inv-loop μ-loop Inv-loop2 μ-loop2
 returns-4 c = told-fine _ _ _ _ _ _ _ (c .loop2-test .left) (c .before .loop2 .inv .2)
 
