@@ -10,8 +10,8 @@ use lib.Ieee.{Float, binary32, binary64, fits, lt}
 use lib.Ieee.Bits.{ofBits-fits}
 use borrow.Author.Tests.{eq-eqb}
 use Rattle.types.specs.Refusals.{answered}
-use Rattle.types.specs.declared.Refusal.the-variants as Refusals
-use Rattle.types.specs.declared.Answer.the-variants as Answers
+use Rattle.types.specs.declared.Refusal.the-variants.{Discount, Range, Horizon}
+use Rattle.types.specs.declared.Answer.the-variants.{Done, Refused}
 use Rattle.deviation.specs.Statistics.{isDiscount}
 use Rattle.basicthresholder.specs.Const.{zero32, zFactorDefault}
 use Rattle.basicthresholder.specs.Updates.{done, refused, isHorizon, withScoreDifferencing, setScoreDifferencing}
@@ -100,7 +100,7 @@ module _ (x z : Float) (n : ℕ) (zs ys : List ℕ) (r : Ready zs z) (h : T (fit
   unfolding setHorizon setScoreDifferencing
   horizon-factor = go (isHorizon x) ∙ held-factor zs ∙ r .factor
     where
-      go : (b : Bool) → cond b (done (withScoreDifferencing (decodeState zs .«basic_thresholder») x)) (refused Refusals.Horizon (decodeState zs .«basic_thresholder»)) .thresholder .«z_factor»
+      go : (b : Bool) → cond b (done (withScoreDifferencing (decodeState zs .«basic_thresholder») x)) (refused Horizon (decodeState zs .«basic_thresholder»)) .thresholder .«z_factor»
           ≡ decodeState zs .«basic_thresholder» .«z_factor»
       go true = refl
       go false = refl
@@ -168,7 +168,7 @@ judgments (judgment q ∷ qs) (judged t ∷ ts) zs zs′ z y j a f =
       factor = m .factor;
     }
 
--- They are settings and judgments of which no setting is one.
+-- They are a list of settings and judgments that has no setting.
 no-settings : (cs : List OverC.Call) (zs : List ℕ) → OverC.JudgedInTurn zs cs → OverC.SetInTurn zs cs
 no-settings [] zs t = tt
 no-settings (OverC.krcf-new d auto base out n ys ∷ cs) zs t = absurd t
@@ -223,8 +223,8 @@ new-factor : (d : Float) (auto : Bool) (base : ℕ) → new d auto base .state .
 unfolding new refusedNew freshState
 new-factor d auto base = go (isDiscount d) (leb 1 base && leb base 16)
   where
-    go : (a b : Bool) → cond a (cond b (updated Answers.Done (freshState d auto base)) (refusedNew (Answers.Refused Refusals.Range))) (refusedNew (Answers.Refused Refusals.Discount)) .state .«basic_thresholder» .«z_factor»
-        ≡ zFactorDefault
+    go : (a b : Bool)
+        → cond a (cond b (updated Done (freshState d auto base)) (refusedNew (Refused Range))) (refusedNew (Refused Discount)) .state .«basic_thresholder» .«z_factor» ≡ zFactorDefault
     go true true = refl
     go true false = refl
     go false b = refl
@@ -258,7 +258,7 @@ module _ (xs : List ℕ) (d : ℕ) (discount : Float) (adjust base : ℕ) (ys : 
           }
 
   default-fits : T (fits binary32 zFactorDefault)
-  default-fits = ofBits-fits binary32 0x4040_0000
+  default-fits = ofBits-fits binary32 _
 
   asking : Asking (stateOf ys d) zFactorDefault zFactorDefault
   asking = record {

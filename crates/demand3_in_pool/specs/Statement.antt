@@ -20,6 +20,7 @@ use Rattle.pool_laws.specs.Isolation.{Ask, setting, judgment, Tell, answer, jud
 abbrev pub Distance : Asked → Type 0
 Distance a = length (a .reading) ≡ readingLength → T (not (eqb (getD (a .reading) strategyAt 0) 0))
 
+-- Judgments of such readings, and no setting.
 abbrev pub Judgments : List Ask → Type 0
 Judgments [] = Unit
 Judgments (setting c ∷ qs) = ⊥

@@ -10,7 +10,7 @@ use lib.Dec.{eqb, leb, lit≤}
 use lib.Ieee.{Float}
 use lib.ListN.{length, getD, take, drop, set, replicate, length-replicate, length-take, length-drop}
 use lib.Seq.{getD-set-same, getD-set-other, ext-getD}
-use borrow.Author.Tests.{eq-eqb, ne-eqb}
+use borrow.Author.Tests.{eq-eqb, ne-eqb, lt-ltb}
 use Rattle.types.specs.Refusals.{number, answered}
 use Rattle.types.specs.declared.Refusal.{Refusal}
 use Rattle.predictorcorrector.specs.declared.Updated.{Updated}
@@ -24,6 +24,9 @@ use Rattle.stored_state.proofs.Back.{state-length}
 use Rattle.c_chain.proofs.Steps.{made-refused, made-range, made-done}
 use Rattle.c_chain.specs.States.{chainMade}
 use Rattle.record_pool.specs.Pool.{place, countOf, firstUsed, firstFree, nextAt, rulesOk, locate, vacancy, numbersOf, listing, withHeader, withNext, withRecord, withState, opened, unlinked, removed}
+use Rattle.pool_links.specs.Links as Links
+use Rattle.pool_links.specs.declared.Header.{Header}
+use Rattle.pool_links.specs.declared.Link.{Link}
 use Rattle.record_pool.specs.declared.Seat.{Seat}
 use Rattle.record_pool.specs.declared.Listed.{Listed}
 use Rattle.record_pool.specs.declared.Located.{Located}
@@ -47,26 +50,33 @@ drop-zeros (suc n) zero k e = absurd (omega arith)
 drop-zeros (suc n) (suc m) k e = drop-zeros n m k (omega arith)
 
 -- ---- removing.
-pub unlink-first : (xs a : List ℕ) (s : Seat) → Held xs s → s .front ≡ 0 → a ≡ withHeader xs (s .count - 1) (s .next) (s .index) → a ≡ unlinked xs (s .front) (s .index)
+pub unlink-first : (xs a : List ℕ) (s : Seat) (index front : ℕ) (h : Header) → Held xs s → index ≡ s .index → front ≡ s .front → h ≡ Links.removed index front (s .next) (s .count) (s .used)
+    → s .front ≡ 0 → a ≡ withHeader xs (h .count) (h .used) (h .free) → a ≡ unlinked xs (s .front) (s .index)
 unfolding unlinked
-unlink-first xs a s h z ea =
-    ea ∙ ap₂ (λ (c n : ℕ). withHeader xs (c - 1) n (s .index)) (h .placed .count) (h .placed .next)
+unlink-first xs a s index front h k ei ef eh z ea =
+    ea ∙ ap (λ (h : Header). withHeader xs (h .count) (h .used) (h .free)) eh
+    ∙ ap (λ (b : Bool). withHeader xs (s .count - 1) (cond b (s .next) (s .used)) index) (eq-eqb front 0 (ef ∙ z))
+    ∙ (λ t. withHeader xs (k .placed .count t - 1) (k .placed .next t) (ei t))
     ∙ sym (ap (λ (b : Bool). cond b (withHeader xs (countOf xs - 1) (nextAt xs (s .index)) (s .index))
     (withNext (withHeader xs (countOf xs - 1) (firstUsed xs) (s .index)) (s .front) (nextAt xs (s .index)))) (eq-eqb (s .front) 0 z))
 
-pub unlink-later : (xs a b : List ℕ) (s : Seat) → Held xs s → (s .front ≡ 0 → ⊥) → a ≡ withHeader xs (s .count - 1) (s .used) (s .index) → b ≡ withNext a (s .front) (s .next)
-    → b ≡ unlinked xs (s .front) (s .index)
+pub unlink-later : (xs a b : List ℕ) (s : Seat) (index front next : ℕ) (h : Header) → Held xs s → index ≡ s .index → front ≡ s .front
+    → h ≡ Links.removed index front (s .next) (s .count) (s .used) → (s .front ≡ 0 → ⊥) → a ≡ withHeader xs (h .count) (h .used) (h .free)
+    → next ≡ Links.mended index (s .next) → b ≡ withNext a (s .front) next → b ≡ unlinked xs (s .front) (s .index)
 unfolding unlinked
-unlink-later xs a b s h z ea eb =
-    eb ∙ ap (λ (l : List ℕ). withNext l (s .front) (s .next)) ea
-    ∙ (λ t. withNext (withHeader xs (h .placed .count t - 1) (h .placed .used t) (s .index)) (s .front) (h .placed .next t))
+unlink-later xs a b s index front next h k ei ef eh z ea en eb =
+    eb ∙ ap₂ (λ (l : List ℕ) (n : ℕ). withNext l (s .front) n) (ea ∙ ap (λ (h : Header). withHeader xs (h .count) (h .used) (h .free)) eh
+    ∙ ap (λ (b : Bool). withHeader xs (s .count - 1) (cond b (s .next) (s .used)) index) (ne-eqb front 0 (λ q. z (sym ef ∙ q)))) en
+    ∙ (λ t. withNext (withHeader xs (k .placed .count t - 1) (k .placed .used t) (ei t)) (s .front) (k .placed .next t))
     ∙ sym (ap (λ (b : Bool). cond b (withHeader xs (countOf xs - 1) (nextAt xs (s .index)) (s .index))
     (withNext (withHeader xs (countOf xs - 1) (firstUsed xs) (s .index)) (s .front) (nextAt xs (s .index)))) (ne-eqb (s .front) 0 z))
 
-pub taken-out : (xs a b : List ℕ) (s : Seat) → Held xs s → a ≡ unlinked xs (s .front) (s .index) → b ≡ withRecord a (s .index) (s .free) 0 (replicate 2040 0)
-    → b ≡ removed xs (s .front) (s .index)
+pub taken-out : (xs a b : List ℕ) (s : Seat) (l : Link) → Held xs s → a ≡ unlinked xs (s .front) (s .index) → l ≡ Links.removedLink (s .free)
+    → b ≡ withRecord a (s .index) (l .next) (l .number) (replicate 2040 0) → b ≡ removed xs (s .front) (s .index)
 unfolding removed
-taken-out xs a b s h ea eb = eb ∙ (λ t. withRecord (ea t) (s .index) (h .placed .free t) 0 (replicate 2040 0))
+taken-out xs a b s l h ea el eb =
+    eb ∙ (λ t. withRecord (ea t) (s .index) (el t .next) (el t .number) (replicate 2040 0))
+    ∙ ap (λ (f : ℕ). withRecord (unlinked xs (s .front) (s .index)) (s .index) f 0 (replicate 2040 0)) (h .placed .free)
 
 pub held : (xs : List ℕ) (d : ℕ) (r : Located) (s : Seat) → r ≡ locate xs d → r ≡ At s → Held xs s
 held xs d r s e q =
@@ -78,7 +88,6 @@ held xs d r s e q =
         low = t .low;
         high = t .high;
         near = t .front;
-        few = t .few;
         next = ap (λ (s : Seat). s .next) f ∙ ap (nextAt xs) (sym (ap (λ (s : Seat). s .index) f));
         count = ap (λ (s : Seat). s .count) f;
         used = ap (λ (s : Seat). s .used) f;
@@ -114,12 +123,15 @@ unfolding layOut
 lay-refused xs n = sym (ap (λ (t : Bool). cond t (left 0 laidOut) (left 13 xs)) (ne-eqb (length xs) 61472 n))
 
 -- ---- opening.
-pub taken-in : (xs a b : List ℕ) (d : ℕ) (s : Seat) → Spare xs s → a ≡ withHeader xs (s .count + 1) (s .index) (s .next) → b ≡ withRecord a (s .index) (s .used) d (replicate 2040 0)
-    → b ≡ opened xs d (replicate 2040 0)
-unfolding opened
-taken-in xs a b d s h ea eb =
-    eb ∙ ap (λ (l : List ℕ). withRecord l (s .index) (s .used) d (replicate 2040 0)) ea
-    ∙ (λ t. withRecord (withHeader xs (h .placed .count t + 1) (h .first t) ((h .placed .next ∙ ap (nextAt xs) (h .first)) t)) (h .first t) (h .placed .used t) d (replicate 2040 0))
+pub taken-in : (xs a b : List ℕ) (d : ℕ) (s : Seat) (index : ℕ) (h : Header) (l : Link) → Spare xs s → index ≡ s .index → h ≡ Links.opened index (s .next) (s .count)
+    → a ≡ withHeader xs (h .count) (h .used) (h .free) → l ≡ Links.openedLink (s .used) d
+    → b ≡ withRecord a (s .index) (l .next) (l .number) (replicate 2040 0) → b ≡ opened xs d (replicate 2040 0)
+unfolding opened Links.raised
+taken-in xs a b d s index h l k ei eh ea el eb =
+    let more : Links.raised (s .count) ≡ countOf xs + 1 = rw (lt-ltb (s .count) 30 (omega (arith, k .fewer))) (ap (λ (n : ℕ). n + 1) (k .placed .count)) in
+    eb ∙ (λ t. withRecord (ea t) (s .index) (el t .next) (el t .number) (replicate 2040 0))
+    ∙ ap (λ (h : Header). withRecord (withHeader xs (h .count) (h .used) (h .free)) (s .index) (s .used) d (replicate 2040 0)) eh
+    ∙ (λ t. withRecord (withHeader xs (more t) ((ei ∙ k .first) t) ((k .placed .next ∙ ap (nextAt xs) (k .first)) t)) (k .first t) (k .placed .used t) d (replicate 2040 0))
 
 pub spare : (xs : List ℕ) (d : ℕ) (r : Located) (s : Seat) → r ≡ vacancy xs d → r ≡ At s → Spare xs s
 spare xs d r s e q =
@@ -132,12 +144,12 @@ spare xs d r s e q =
         low = t .low;
         high = t .high;
         near = omega arith;
-        few = t .few;
         next = ap (λ (s : Seat). s .next) f ∙ ap (nextAt xs) (sym (ap (λ (s : Seat). s .index) f));
         count = ap (λ (s : Seat). s .count) f;
         used = ap (λ (s : Seat). s .used) f;
         free = ap (λ (s : Seat). s .free) f;
       };
+      fewer = t .fewer;
       first = ap (λ (s : Seat). s .index) f;
     }
 

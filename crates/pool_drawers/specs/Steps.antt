@@ -12,7 +12,6 @@ pub record Placed (xs : List ℕ) (s : Seat) : Type 0 where
   pub low : 1 ≤ s .index
   pub high : s .index ≤ 30
   pub near : s .front ≤ 30
-  pub few : s .count ≤ 30
   pub next : s .next ≡ nextAt xs (s .index)
   pub count : s .count ≡ countOf xs
   pub used : s .used ≡ firstUsed xs
@@ -25,4 +24,5 @@ pub record Held (xs : List ℕ) (s : Seat) : Type 0 where
 
 pub record Spare (xs : List ℕ) (s : Seat) : Type 0 where
   pub placed : Placed xs s
+  pub fewer : s .count ≤ 29
   pub first : s .index ≡ firstFree xs

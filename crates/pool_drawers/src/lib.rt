@@ -1,5 +1,7 @@
 // Laying out a pool, opening and removing a drawer, listing all: for a host that calls over C. A call answers the documents' number, 0 where it is done; a refused
 // one has written nothing.
+use pool_links::Header;
+use pool_links::Link;
 use predictorcorrector::PredictorCorrector;
 use record_pool::Located;
 use record_pool::Seat;
@@ -39,13 +41,13 @@ fn put4(out: &mut [u8], at: usize, n: u32)
     out[at + 3] = (n / 0x100_0000 % 0x100) as u8;
 }
 
-fn put_header(pool: &mut [u8], count: u32, used: u32, free: u32)
+fn put_header(pool: &mut [u8], header: Header)
     requires { ⌜ length (now pool) ≡ 61472 ⌝ }
-    ensures { λ _. ⌜ now (pool .exit) ≡ Pool.withHeader (now (pool .entry)) count used free ⌝ }
+    ensures { λ _. ⌜ now (pool .exit) ≡ Pool.withHeader (now (pool .entry)) (header .count) (header .used) (header .free) ⌝ }
 {
-    put4(pool, 0, count);
-    put4(pool, 4, used);
-    put4(pool, 8, free);
+    put4(pool, 0, header.count);
+    put4(pool, 4, header.used);
+    put4(pool, 8, header.free);
 }
 
 fn put_next(pool: &mut [u8], i: usize, next: u32)
@@ -56,13 +58,13 @@ fn put_next(pool: &mut [u8], i: usize, next: u32)
 }
 
 // A whole record: zeros behind its number.
-fn put_record(pool: &mut [u8], i: usize, next: u32, number: u32)
+fn put_record(pool: &mut [u8], i: usize, link: Link)
     requires { ⌜ length (now pool) ≡ 61472 ⌝ ∗ ⌜ 1 ≤ i ⌝ ∗ ⌜ i ≤ 30 ⌝ }
-    ensures { λ _. ⌜ now (pool .exit) ≡ Pool.withRecord (now (pool .entry)) i next number (replicate 2040 0) ⌝ }
+    ensures { λ _. ⌜ now (pool .exit) ≡ Pool.withRecord (now (pool .entry)) i (link .next) (link .number) (replicate 2040 0) ⌝ }
 {
     let at = place(i);
-    put4(pool, at, next);
-    put4(pool, at + 4, number);
+    put4(pool, at, link.next);
+    put4(pool, at + 4, link.number);
     let from = at + 8;
     let upto = at + 2048;
     layout::clear(&mut pool[from..upto]);
@@ -73,13 +75,15 @@ fn unlink(pool: &mut [u8], seat: Seat)
     requires { ⌜ Held (now pool) seat ⌝ }
     ensures { λ _. ⌜ now (pool .exit) ≡ Pool.unlinked (now (pool .entry)) (seat .front) (seat .index) ⌝ }
 {
-    let count = seat.count - 1;
-    if seat.front == 0 {
-        put_header(pool, count, seat.next, seat.index as u32);
-        return;
+    let index = seat.index as u32;
+    let front = seat.front as u32;
+    put_header(
+        pool,
+        pool_links::removed(index, front, seat.next, seat.count, seat.used),
+    );
+    if seat.front != 0 {
+        put_next(pool, seat.front, pool_links::mended(index, seat.next));
     }
-    put_header(pool, count, seat.used, seat.index as u32);
-    put_next(pool, seat.front, seat.next);
 }
 
 fn take_out(pool: &mut [u8], seat: Seat)
@@ -87,7 +91,7 @@ fn take_out(pool: &mut [u8], seat: Seat)
     ensures { λ _. ⌜ now (pool .exit) ≡ Pool.removed (now (pool .entry)) (seat .front) (seat .index) ⌝ }
 {
     unlink(pool, seat);
-    put_record(pool, seat.index, seat.free, 0);
+    put_record(pool, seat.index, pool_links::removed_link(seat.free));
 }
 
 // The first free record becomes the first used, with the drawer's number and zeros.
@@ -95,8 +99,9 @@ fn take_in(pool: &mut [u8], seat: Seat, drawer: u32)
     requires { ⌜ Spare (now pool) seat ⌝ }
     ensures { λ _. ⌜ now (pool .exit) ≡ Pool.opened (now (pool .entry)) drawer (replicate 2040 0) ⌝ }
 {
-    put_header(pool, seat.count + 1, seat.index as u32, seat.next);
-    put_record(pool, seat.index, seat.used, drawer);
+    let index = seat.index as u32;
+    put_header(pool, pool_links::opened(index, seat.next, seat.count));
+    put_record(pool, seat.index, pool_links::opened_link(seat.used, drawer));
 }
 
 // A state put over the bytes from `at` on.
@@ -148,7 +153,14 @@ pub extern "C" fn krcf_pool_lay_out(pool: &mut [u8]) -> u8
 {
     if pool.len() == POOL_LENGTH {
         layout::clear(pool);
-        put_header(pool, 0, 0, 1);
+        put_header(
+            pool,
+            Header {
+                count: 0,
+                used: 0,
+                free: 1,
+            },
+        );
         lay_records(pool);
         return 0;
     }

@@ -168,15 +168,18 @@ module _ (zs reading last : List ℕ) (b : Lent) (e h w v : ℕ) where
   unfolding storedUnlessSame
   by u c e = ap (λ (c : Bool). cond c zs (encodeStateOver zs u)) (sym e)
 
+  changed-by : (x : Verdict) → changesState x ≡ true → outcomeOver zs reading last b e h w v ≡ Accepted x → encodeStateOver zs (after r l b s x) ≡ storedUnlessSame zs (after r l b s x)
+  changed-by x c i = by (after r l b s x) false (changed r l b s (passes-six (accepted-done x i)) x c)
+
   unwritten : (o : Outcome) → outcomeOver zs reading last b e h w v ≡ o → stateLeft o zs (stateOver zs reading last b o) ≡ storedUnlessSame zs (stateOver zs reading last b o)
   unfolding stateLeft stored changesState stateOver stateAfter after
   unwritten (Refused why) i = by s true (state-same s)
   unwritten (Accepted Skipped) i = by s true (state-same s)
-  unwritten (Accepted (Quiet t)) i = by (after r l b s (Quiet t)) false (changed r l b s (passes-six (accepted-done (Quiet t) i)) (Quiet t) refl)
-  unwritten (Accepted (Corrected t m)) i = by (after r l b s (Corrected t m)) false (changed r l b s (passes-six (accepted-done (Corrected t m) i)) (Corrected t m) refl)
-  unwritten (Accepted (Raised t g)) i = by (after r l b s (Raised t g)) false (changed r l b s (passes-six (accepted-done (Raised t g) i)) (Raised t g) refl)
+  unwritten (Accepted (Quiet t)) i = changed-by (Quiet t) refl i
+  unwritten (Accepted (Corrected t m)) i = changed-by (Corrected t m) refl i
+  unwritten (Accepted (Raised t g)) i = changed-by (Raised t g) refl i
 
 pub pool-unwritten : Unwritten
 pool-unwritten = record {
-  judged = λ zs reading last b n e h w v ys e′ h′ w′ v′ a. a .bytes ∙ unwritten zs reading last b (length e) (length h) (length w) (length v) (outcomeOver zs reading last b (length e) (length h) (length w) (length v)) refl;
+  judged = λ zs reading last b n e h w v ys e′ h′ w′ v′ a. a .bytes ∙ unwritten zs reading last b (length e) (length h) (length w) (length v) _ refl;
 }

@@ -21,7 +21,7 @@ use Rattle.record_pool.proofs.Chaining.{lastOr, last-in}
 use Rattle.record_pool.proofs.Bytes.{place-high}
 use Rattle.record_pool.proofs.Finding.{held, held-in}
 use Rattle.record_pool.proofs.Meaning.{number-true}
-use Rattle.record_pool.proofs.Passing.{passes, passes-size, within-used, within-free, count-small, start-small}
+use Rattle.record_pool.proofs.Passing.{passes, passes-size, within-used, within-free, count-small, count-below, start-small}
 
 -- ---- the code's branches.
 pub seat-is : (xs : List ℕ) (i front at next count used free : ℕ) → at ≡ place i → next ≡ le4 xs at → count ≡ countOf xs → used ≡ firstUsed xs → free ≡ firstFree xs
@@ -111,7 +111,7 @@ pub record Vacant (xs : List ℕ) (d : ℕ) (s : Seat) : Type 0 where
   pub room : s .state + 2040 ≤ 61472
   pub low : 1 ≤ s .index
   pub high : s .index ≤ 30
-  pub few : s .count ≤ 30
+  pub fewer : s .count ≤ 29
 
 none : (s : Seat) (why : Refusal) → Refused why ≡ At s → ⊥
 none s why e = let z : _≡_ {A = ℕ} 0 1 = cc in omega arith
@@ -201,7 +201,7 @@ vacant xs d s h = go (rulesOk xs) (isNumber d) (eqb (recordOf xs d) 0) (eqb (fir
           room = omega (arith, place-high (firstFree xs) (omega arith) small);
           low = omega arith;
           high = omega arith;
-          few = omega (arith, count-small r);
+          fewer = omega (arith, count-below r (omega arith));
         }
 
 -- What `seat_of` asks for, from what the code has found.

@@ -1,16 +1,16 @@
 -- The test of a pool and the rules in words. Assumes nothing.
-use mathlib.Core.Path.{_≡_, refl, sym, ap}
+use mathlib.Core.Path.{_≡_, refl, sym, ap, _∙_}
 use mathlib.Core.Bool.{Bool, true}
-use mathlib.Core.List.{List, [], _∷_}
+use mathlib.Core.List.{List, [], _∷_, _++_}
 use Prim.Native.Nat.{ℕ, zero, suc, _+_, _-_, _≤_, _<_}
 use native.Mathlib.Omega.{arith}
 use lib.Dec.{eqb}
-use lib.ListN.{length}
+use lib.ListN.{length, length-append}
 use borrow.Author.Tests.{eqb-true, eq-eqb}
 use Rattle.record_pool.specs.Lists.{occ}
 use Rattle.record_pool.specs.Chains.{Chained, Rules}
 use Rattle.record_pool.specs.Pool.{countOf, firstUsed, firstFree, nextAt, numberAt, flagsAt, usedOf, freeOf, rulesOk}
-use Rattle.record_pool.proofs.Occ.{same-refl, and-left, and-right, and-both}
+use Rattle.record_pool.proofs.Occ.{same-refl, and-left, and-right, and-both, occ-append, full-length}
 use Rattle.record_pool.proofs.Meaning.{means, tested, used-is, free-is, Told, used-short}
 
 -- The rules of a pool with the chains us and fs.
@@ -70,3 +70,10 @@ start-small f s (x ∷ xs) c h = let w : (1 ≤ x) × (x ≤ 30) = h x (omega (a
 pub not-empty : (f : ℕ → ℕ) (s : ℕ) (xs : List ℕ) → Chained f s xs → 0 < s → (t : List ℕ) × (xs ≡ s ∷ t)
 not-empty f s [] c h = absurd (omega arith)
 not-empty f s (x ∷ xs) c h = (xs, ap (λ (n : ℕ). n ∷ xs) (sym (c .0)))
+
+-- A pool that has a free record has fewer than thirty drawers.
+pub count-below : {c u f : ℕ} {next number : ℕ → ℕ} {flags : ℕ → Bool} {us fs : List ℕ} → Rules c u f next number flags us fs → 0 < f → c ≤ 29
+count-below {us} {fs} r h =
+    let all = full-length 30 (us ++ fs) (λ i k. r .within i (omega (arith, occ-append i us fs))) (λ i a b. occ-append i us fs ∙ r .once i a b) in
+    let t = not-empty _ _ fs (r .walk-free) h in
+    omega (arith, all, length-append us fs, ap length (t .1), r .counted)

@@ -8,7 +8,8 @@ use native.Mathlib.Numerals.{add-one}
 use lib.Dec.{eqb, leb, ltb}
 use lib.ListN.{length, getD, take, set, replicate, length-append, getD-replicate}
 use lib.Seq.{getD-set-same, getD-set-other, take-suc-set}
-use borrow.Author.Tests.{eqb-true, eq-eqb, ltb-true, lt-ltb, leb-true, le-leb}
+use borrow.Author.Tests.{eqb-true, eqb-false, eq-eqb, ltb-true, lt-ltb, leb-true, le-leb}
+use Rattle.pool_links.specs.Links.{countsAgree}
 use Rattle.record_pool.specs.Lists.{same, occ, distinct}
 use Rattle.record_pool.specs.Chains.{Chained, isNumber}
 use Rattle.record_pool.specs.Pool.{countOf, firstUsed, firstFree, nextAt, numberAt, flagsAt, usedOf, freeOf, rulesOk}
@@ -366,11 +367,11 @@ decided xs fine used free numbers count true size w t c u s d =
     sym (all-rules xs used free numbers (w .0 t) size (sym c ∙ sym u) s (sym d))
 decided xs fine used free numbers count false size w t c u s d = sym (not-distinct xs used free numbers (w .0 t) (sym d))
 
-pub other-number : (xs : List ℕ) (fine : Bool) (used free : ℕ) (numbers : List ℕ) (count : ℕ)
+other-number : (xs : List ℕ) (fine : Bool) (used free : ℕ) (numbers : List ℕ) (count : ℕ)
     → (fine ≡ true → Both xs used free numbers) × (fine ≡ false → rulesOk xs ≡ false) → fine ≡ true → count ≡ countOf xs → (used ≡ count → ⊥) → false ≡ rulesOk xs
 other-number xs fine used free numbers count w t c n = sym (other-count xs used free numbers (w .0 t) (λ e. n (sym (c ∙ e))))
 
-pub other-sum : (xs : List ℕ) (fine : Bool) (used free : ℕ) (numbers : List ℕ)
+other-sum : (xs : List ℕ) (fine : Bool) (used free : ℕ) (numbers : List ℕ)
     → (fine ≡ true → Both xs used free numbers) × (fine ≡ false → rulesOk xs ≡ false) → fine ≡ true → (used + free ≡ 30 → ⊥) → false ≡ rulesOk xs
 other-sum xs fine used free numbers w t n = sym (not-thirty xs used free numbers (w .0 t) n)
 
@@ -399,3 +400,27 @@ fresh-is seen at n slot b es e = e ∙ ap (λ (s : ℕ). isUnmarked (getD seen s
         off : (a b : Bool) → a && false && b ≡ false
         off true b = refl
         off false b = refl
+
+-- The lengths agree, or the rules do not hold.
+pub agreed : (count used free : ℕ) (b : Bool) → b ≡ countsAgree count used free → b ≡ true → (used ≡ count) × (used + free ≡ 30)
+unfolding countsAgree
+agreed count used free b e t =
+    let h = sym e ∙ t in
+    let r = and-right (eqb used count) _ h in
+    (eqb-true used count (and-left (eqb used count) _ h), eqb-true (used + free) 30 (and-right (leb free 30) _ (and-right (leb used 30) _ r)))
+
+pub disagreed : (xs : List ℕ) (fine : Bool) (used free : ℕ) (numbers : List ℕ) (count : ℕ) (b : Bool)
+    → (fine ≡ true → Both xs used free numbers) × (fine ≡ false → rulesOk xs ≡ false) → fine ≡ true → count ≡ countOf xs → b ≡ countsAgree count used free → b ≡ false
+    → false ≡ rulesOk xs
+unfolding countsAgree
+disagreed xs fine used free numbers count b w t c e f = go (eqb used count) (eqb (used + free) 30) refl refl
+  where
+    small : (used ≤ 30) × (free ≤ 30)
+    small = both-small xs fine used free numbers w t
+
+    go : (p q : Bool) → eqb used count ≡ p → eqb (used + free) 30 ≡ q → false ≡ rulesOk xs
+    go false q ep eq = other-number xs fine used free numbers count w t c (eqb-false used count ep)
+    go true false ep eq = other-sum xs fine used free numbers w t (eqb-false (used + free) 30 eq)
+    go true true ep eq =
+        absurd (let z : _≡_ {A = Bool} true false = sym (and-both (eqb used count) _ ep (and-both (leb used 30) _ (le-leb used 30 (small .0)) (and-both (leb free 30) _ (le-leb free 30 (small .1)) eq))) ∙ sym e ∙ f in
+        not-both true refl z)

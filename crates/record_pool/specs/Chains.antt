@@ -5,6 +5,7 @@ use mathlib.Core.Bool.{Bool, true, cond, _&&_}
 use mathlib.Core.List.{List, [], _∷_, map}
 use lib.Dec.{eqb, leb}
 use lib.ListN.{length}
+unfoldable pub use Rattle.pool_links.specs.Links.{isNumber}
 use Rattle.record_pool.specs.Lists.{occ, every, distinct, downFrom}
 
 -- The records from i on, at most k of them.
@@ -21,10 +22,6 @@ Chained next i (x ∷ xs) = (i ≡ x) × (0 < x) × Chained next (next x) xs
 -- 1 to 30.
 unfoldable pub isRecord : ℕ → Bool
 isRecord i = leb 1 i && leb i 30
-
--- 1 to 65,535.
-unfoldable pub isNumber : ℕ → Bool
-isNumber n = leb 1 n && leb n 65535
 
 -- In words: the used chain is us and the free one fs, the count is the used chain's length, each record stands in just one chain and once,
 -- and the drawer numbers of used records are in range and held once.

@@ -6,7 +6,6 @@ ghost use Prim.Native.Nat.{_+_, _≤_, _<_};
 ghost use lib.ListN.{length, replicate, take};
 ghost use Rattle.layout.specs.Numbers as Numbers;
 ghost use Rattle.record_pool.specs.Lists as Lists;
-ghost use Rattle.record_pool.specs.Chains as Chains;
 ghost use Rattle.record_pool.specs.Pool as Pool;
 ghost use Rattle.record_pool.specs.Walks.{markPlace, isUnmarked, isSound, isBefore, isTaken, WalksTell};
 
@@ -108,20 +107,11 @@ fn flags_at(pool: &[u8], i: usize) -> bool
     false
 }
 
-fn is_number(n: u32) -> bool
-    ensures { λ r. ⌜ r ≡ Chains.isNumber n ⌝ }
-{
-    if 1 <= n {
-        return n <= 65535;
-    }
-    false
-}
-
 fn is_sound(pool: &[u8], i: usize) -> bool
     requires { ⌜ length (now pool) ≡ 61472 ⌝ ∗ ⌜ 1 ≤ i ⌝ ∗ ⌜ i ≤ 30 ⌝ }
     ensures { λ r. ⌜ r ≡ isSound (now (pool .entry)) i ⌝ }
 {
-    if is_number(number_at(pool, i)) {
+    if pool_links::is_number(number_at(pool, i)) {
         return flags_at(pool, i);
     }
     false
@@ -268,14 +258,10 @@ fn rules_ok(pool: &[u8]) -> bool
     }
     let w = walks(pool);
     if w.fine {
-        if w.used != index_at(pool, 0) {
-            return false;
+        if pool_links::counts_agree(index_at(pool, 0), w.used, w.free) {
+            let numbers = w.numbers;
+            return is_distinct(numbers, w.used);
         }
-        if w.used + w.free != 30 {
-            return false;
-        }
-        let numbers = w.numbers;
-        return is_distinct(numbers, w.used);
     }
     false
 }
@@ -331,7 +317,7 @@ pub fn vacancy(pool: &[u8], drawer: u32) -> Located
     ensures { λ r. ⌜ r ≡ Pool.vacancy (now (pool .entry)) drawer ⌝ }
 {
     if rules_ok(pool) {
-        if is_number(drawer) {
+        if pool_links::is_number(drawer) {
             let spot = find(pool, drawer);
             if spot.record == 0 {
                 let index = index_at(pool, 8);

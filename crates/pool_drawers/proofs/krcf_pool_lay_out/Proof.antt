@@ -1,6 +1,6 @@
-use borrow.Author.Needs.{needs}
-use Rattle.pool_drawers.proofs.Calls.{lay-done, lay-refused}
 use denote.Ref.{now}
+use Rattle.pool_drawers.proofs.Calls.{lay-done, lay-refused}
+use borrow.Author.Needs.{needs}
 use Rattle.pool_drawers.proofs.krcf_pool_lay_out.Statement.{statement}
 use Rattle.pool_drawers.proofs.krcf_pool_lay_out.Tie as tie
 

@@ -1,7 +1,5 @@
-use Rattle.record_pool.proofs.Putting.{header-put}
-use native.Mathlib.Omega.{arith}
-use Prim.Native.Nat.{_-_}
 use denote.Ref.{now}
+use Rattle.record_pool.proofs.Putting.{header-put}
 use borrow.Author.Needs.{needs}
 use Rattle.pool_drawers.proofs.put_header.Statement.{statement}
 use Rattle.pool_drawers.proofs.put_header.Tie as tie
@@ -19,7 +17,7 @@ same-length : tie.Need-same-length
 same-length c = search needs
 
 returns : tie.Need-returns
-returns c = header-put (now (c .before .before .before .before .before .before .before .before .before .before .before .before .before .args .pool)) _ _ _ _ _ _ (omega arith) (c .before .before .before .before .before .before .before .before .before .before .put4 .ensures) (c .before .before .before .before .before .before .put42 .ensures) (c .before .before .put43 .ensures)
+returns c = header-put (now (c .before .before .before .before .before .before .before .before .before .before .before .before .before .args .pool)) _ _ _ _ _ _ (c .before .before .before .before .before .before .before .before .before .before .before .before .before .pre) (c .before .before .before .before .before .before .before .before .before .before .put4 .ensures) (c .before .before .before .before .before .before .put42 .ensures) (c .before .before .put43 .ensures)
 
 pub put-header-spec : {M : Type 1} → statement M
 put-header-spec =

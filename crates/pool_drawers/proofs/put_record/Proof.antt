@@ -1,5 +1,5 @@
-use Rattle.record_pool.proofs.Putting.{record-put}
 use denote.Ref.{now}
+use Rattle.record_pool.proofs.Putting.{record-put}
 use borrow.Author.Needs.{needs}
 use Rattle.pool_drawers.proofs.put_record.Statement.{statement}
 use Rattle.pool_drawers.proofs.put_record.Tie as tie
