@@ -1,6 +1,6 @@
-//! Judges the recorded month and prints one week of it as a ward wants to see it: the readings that
-//! are raised, corrected or could not be judged, and each drawer's figures and counts. Every night the
-//! drawers are stored, and read back in the morning.
+//! Judges the recorded month up to the end of one week, and prints that week as a ward wants to see
+//! it: the readings that are raised, corrected or could not be judged, and each drawer's figures and
+//! counts. Every night the drawers are stored, and read back in the morning.
 
 mod ward;
 
@@ -11,7 +11,7 @@ use ward::{lines, wanted, Judged, Line, Wanted, Ward, Watched, MONTH, SHINGLE};
 use withdrawal_watch::Verdict;
 
 const HELP: &str = "\
-Judges the recorded month of five drawers and prints what was said in one week of it.
+Judges the recorded month of five drawers up to the end of one week, and prints what was said in it.
 
     week [DAY]    the week that begins on this day of the month, 1 to 24; 12 if none is given
 

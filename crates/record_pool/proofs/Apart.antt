@@ -12,7 +12,7 @@ use lib.ListN.{length, getD, take, set}
 use lib.Seq.{take-suc, getD-set-same, getD-set-other}
 use borrow.Author.Tests.{eqb-true, eq-eqb, ne-eqb}
 use Rattle.record_pool.specs.Lists.{same, occ, distinct}
-use Rattle.record_pool.specs.Walks.{isBefore, isTaken}
+use Rattle.record_pool.specs.Steps.{isBefore, isTaken}
 use Rattle.record_pool.proofs.Occ.{Either, equal, other, either, same-refl, same-other, occ-append, distinct-once, once-distinct}
 use Rattle.record_pool.proofs.Walking.{refuted, not-both}
 

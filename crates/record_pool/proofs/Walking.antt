@@ -13,7 +13,7 @@ use Rattle.pool_links.specs.Links.{countsAgree}
 use Rattle.record_pool.specs.Lists.{same, occ, distinct}
 use Rattle.record_pool.specs.Chains.{Chained, isNumber}
 use Rattle.record_pool.specs.Pool.{countOf, firstUsed, firstFree, nextAt, numberAt, flagsAt, usedOf, freeOf, rulesOk}
-use Rattle.record_pool.specs.Walks.{Leads, isFresh, isUnmarked, markPlace, isSound, UsedWalk, FreeWalk, Both}
+use Rattle.record_pool.specs.Steps.{Leads, isFresh, isUnmarked, markPlace, isSound, UsedWalk, FreeWalk, Both}
 use Rattle.record_pool.proofs.Occ.{Either, equal, other, either, same-refl, and-left, and-right, and-both, occ-append, distinct-once, once-distinct, sum-full, full-length, at-most}
 use Rattle.record_pool.proofs.Meaning.{number-true, true-number, used-short, free-short}
 use Rattle.record_pool.proofs.Passing.{once-only}

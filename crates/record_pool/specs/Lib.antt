@@ -1,4 +1,4 @@
 pub mod Lists
 pub mod Chains
 pub mod Pool
-pub mod Walks
+pub mod Steps

@@ -7,7 +7,7 @@ ghost use lib.ListN.{length, replicate, take};
 ghost use Rattle.layout.specs.Numbers as Numbers;
 ghost use Rattle.record_pool.specs.Lists as Lists;
 ghost use Rattle.record_pool.specs.Pool as Pool;
-ghost use Rattle.record_pool.specs.Walks.{markPlace, isUnmarked, isSound, isBefore, isTaken, WalksTell};
+ghost use Rattle.record_pool.specs.Steps.{markPlace, isUnmarked, isSound, isBefore, isTaken, WalksTell};
 
 // How many bytes a pool has.
 const POOL_LENGTH: usize = 61_472;

@@ -1,4 +1,4 @@
-use Rattle.record_pool.specs.Walks.{isUnmarked}
+use Rattle.record_pool.specs.Steps.{isUnmarked}
 use borrow.Author.Tests.{lt-ltb, le-ltb, le-leb, lt-leb}
 use Prim.Native.Nat.{_-_}
 use Rattle.record_pool.proofs.is_fresh.Statement.{statement}

@@ -1,5 +1,5 @@
 use mathlib.Core.Path.{sym, _∙_}
-use Rattle.record_pool.specs.Walks.{isSound}
+use Rattle.record_pool.specs.Steps.{isSound}
 use borrow.Author.Needs.{needs}
 use Rattle.record_pool.proofs.is_sound.Statement.{statement}
 use Rattle.record_pool.proofs.is_sound.Tie as tie

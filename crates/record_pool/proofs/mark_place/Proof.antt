@@ -1,4 +1,4 @@
-use Rattle.record_pool.specs.Walks.{markPlace}
+use Rattle.record_pool.specs.Steps.{markPlace}
 use borrow.Author.Tests.{le-leb, lt-leb}
 use native.Mathlib.Omega.{arith}
 use Prim.Native.Nat.{_-_}

@@ -6,7 +6,7 @@ use native.Mathlib.Omega.{arith}
 use lib.ListN.{length}
 use borrow.Author.Needs.{needs}
 use borrow.Author.Tests.{not-true, not-false}
-use Rattle.record_pool.specs.Walks.{UsedWalk, FreeWalk}
+use Rattle.record_pool.specs.Steps.{UsedWalk, FreeWalk}
 use Rattle.record_pool.proofs.walks.Statement.{statement}
 use Rattle.record_pool.proofs.walks.Tie as tie
 
