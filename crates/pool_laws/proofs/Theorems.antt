@@ -1,19 +1,24 @@
 -- The two statements. Assumes nothing.
-use mathlib.Core.Path.{_≡_, ap, _∙_}
-use mathlib.Core.List.{List, _∷_, _++_}
-use Prim.Native.Nat.{ℕ, _+_, _≤_, _<_}
+use mathlib.Core.Path.{_≡_, refl, ap, _∙_}
+use mathlib.Core.Bool.{Bool, true, false, cond}
+use mathlib.Core.List.{List, [], _∷_, _++_, map}
+use Prim.Native.Nat.{ℕ, zero, suc, _+_, _-_, _≤_, _<_}
 use native.Mathlib.Omega.{arith}
 use lib.Dec.{eqb}
-use lib.ListN.{getD, replicate}
+use lib.ListN.{length, getD, replicate, length-append, length-replicate}
 use lib.Seq.{take-at}
 use lib.Ieee.{Float}
 use Rattle.layout.specs.Places.{stateLength}
 use Rattle.layout.specs.Chain.{encodeStateOver}
 use Rattle.layout.specs.Left.{Left}
 use Rattle.predictorcorrector.specs.State.{new}
-use Rattle.record_pool.specs.Pool.{place, countOf, firstUsed, firstFree, nextAt, stateAt, stateOf, usedOf, freeOf, recordOf, withHeader, opened, removed}
+use borrow.Author.Tests.{eqb-true, eqb-false}
+use Rattle.record_pool.specs.Lists.{occ}
+use Rattle.record_pool.specs.Pool.{place, countOf, firstUsed, firstFree, nextAt, stateAt, stateOf, usedOf, freeOf, rulesOk, recordOf, numberAt, numbersOf, withHeader, opened, removed}
 use Rattle.record_pool.specs.declared.Seat.{Seat}
-use Rattle.record_pool.proofs.Passing.{passes, passes-size, used-of, free-of, passing}
+use Rattle.record_pool.proofs.Passing.{passes, passes-size, used-of, free-of, passing, within-used, count-small}
+use Rattle.record_pool.proofs.Occ.{same-other, occ-append, occ-map}
+use Rattle.record_pool.proofs.Finding.{not-held, held, held-in}
 use Rattle.record_pool.proofs.Locating.{Vacant}
 use Rattle.record_pool.proofs.Writes.{header-length, record-state}
 use Rattle.pool_drawers.specs.Drawers.{opening, remove}
@@ -69,6 +74,41 @@ removed-so xs d z =
     let r = removed-or-refused xs d z in
     rw (r .2) (removed-free xs d (r .1) (r .0), removed-used xs d (r .1) (r .0), removed-zeros xs d (r .1) (r .0))
 
+-- ---- listing.
+map-long : (f : ℕ → ℕ) (xs : List ℕ) → length (map f xs) ≡ length xs
+map-long f [] = refl
+map-long f (x ∷ xs) = ap suc (map-long f xs)
+
+no-zeros : (d k : ℕ) → 1 ≤ d → occ d (replicate k 0) ≡ 0
+no-zeros d zero h = refl
+no-zeros d (suc k) h = omega (arith, same-other 0 d (λ e. omega arith), no-zeros d k h)
+
+module _ (xs : List ℕ) (ok : rulesOk xs ≡ true) where
+  few : length (usedOf xs) ≤ 30
+  few = omega (arith, count-small (passes xs ok), passes xs ok .counted)
+
+  listed-long : length (numbersOf xs) ≡ 30
+  unfolding numbersOf
+  listed-long =
+      omega (arith, length-append (map (numberAt xs) (usedOf xs)) (replicate (30 - length (usedOf xs)) 0), map-long (numberAt xs) (usedOf xs), length-replicate {A = ℕ} (30 - length (usedOf xs)) 0, few)
+
+  held-once : (d : ℕ) (b : Bool) → eqb (recordOf xs d) 0 ≡ b → occ d (map (numberAt xs) (usedOf xs)) ≡ cond b 0 1
+  unfolding recordOf
+  held-once d true e = not-held (numberAt xs) d (usedOf xs) (λ j k. within-used (passes xs ok) j k .0) (eqb-true (recordOf xs d) 0 e)
+  held-once d false e =
+      let n = eqb-false (recordOf xs d) 0 e in
+      let f = held (numberAt xs) d 0 (usedOf xs) (omega arith) in
+      let some = occ-map (numberAt xs) (recordOf xs d) (usedOf xs) (held-in (numberAt xs) d (usedOf xs) (omega arith)) in
+      omega (arith, ap (λ (n : ℕ). occ n (map (numberAt xs) (usedOf xs))) (f .has), some, passes xs ok .apart d)
+
+  listed-so : (length (numbersOf xs) ≡ 30) × ((d : ℕ) → 1 ≤ d → occ d (numbersOf xs) ≡ cond (eqb (recordOf xs d) 0) 0 1)
+  unfolding numbersOf
+  listed-so = (
+    listed-long,
+    λ d h. occ-append d (map (numberAt xs) (usedOf xs)) (replicate (30 - length (usedOf xs)) 0)
+        ∙ omega (arith, no-zeros d (30 - length (usedOf xs)) h, held-once d (eqb (recordOf xs d) 0) refl),
+  )
+
 pub pool-rules : PoolRules
 pool-rules = record {
   means = λ xs ok. (passes-size xs ok, passes xs ok);
@@ -77,6 +117,7 @@ pool-rules = record {
   kept = kept;
   opened = opened-so;
   removed = removed-so;
+  listed = listed-so;
 }
 
 pub pool-isolation : Isolation

@@ -1,7 +1,7 @@
 -- Rule 13 and what each call does to the two chains: what this crate proves. Definitions only.
 use Prim.Native.Nat.{ℕ, zero, suc, _+_, _≤_, _<_}
 use mathlib.Core.Path.{_≡_}
-use mathlib.Core.Bool.{true}
+use mathlib.Core.Bool.{true, cond}
 use mathlib.Core.List.{List, [], _∷_, _++_}
 use lib.Dec.{eqb}
 use lib.ListN.{length, getD, replicate}
@@ -9,8 +9,9 @@ use lib.Ieee.{Float}
 use Rattle.layout.specs.Chain.{encodeStateOver}
 use Rattle.layout.specs.Places.{stateLength}
 use Rattle.predictorcorrector.specs.State.{new}
+use Rattle.record_pool.specs.Lists.{occ}
 use Rattle.record_pool.specs.Chains as Chains
-use Rattle.record_pool.specs.Pool.{poolLength, place, countOf, firstUsed, firstFree, nextAt, numberAt, flagsAt, stateOf, usedOf, freeOf, rulesOk, recordOf}
+use Rattle.record_pool.specs.Pool.{poolLength, place, countOf, firstUsed, firstFree, nextAt, numberAt, flagsAt, stateOf, usedOf, freeOf, rulesOk, recordOf, numbersOf}
 use Rattle.pool_drawers.specs.Drawers.{laidOut, opening, remove}
 use Rattle.pool_laws.specs.Calls.{Call, Contract, after}
 
@@ -40,3 +41,6 @@ pub record PoolRules : Type 0 where
       → (freeOf (o .bytes) ≡ recordOf xs d ∷ freeOf xs)
       × ((ys : List ℕ) × (zs : List ℕ) × (usedOf xs ≡ ys ++ recordOf xs d ∷ zs) × (usedOf (o .bytes) ≡ ys ++ zs))
       × ((n : ℕ) → place (recordOf xs d) + 4 ≤ n → n < place (recordOf xs d) + 2048 → getD (o .bytes) n 0 ≡ 0)
+  -- A listing has thirty places; of the numbers above 0 it has each that is a drawer's once, and no other.
+  pub listed : (xs : List ℕ) → rulesOk xs ≡ true
+      → (length (numbersOf xs) ≡ 30) × ((d : ℕ) → 1 ≤ d → occ d (numbersOf xs) ≡ cond (eqb (recordOf xs d) 0) 0 1)
