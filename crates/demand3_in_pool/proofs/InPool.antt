@@ -30,15 +30,16 @@ use Rattle.stored_state.proofs.Back.{state-length, head-put}
 use Rattle.c_chain.specs.States.{chainRefusal, chainSet, horizonSetIn, chainMade}
 use Rattle.demand3_over_c.specs.Calls as OverC
 use Rattle.demand3_over_c.proofs.OverC.{demand-3-over-c}
-use Rattle.record_pool.specs.Pool.{firstFree, flagsIn, stateOf, rulesOk, recordOf}
-use Rattle.record_pool.specs.declared.Seat.{Seat}
+use Rattle.record_pool.specs.Pool.{firstFree, stateOf, rulesOk, recordOf}
+use Rattle.record_pool.specs.Steps.{flagsIn}
+use Rattle.record_pool.specs.declared.Slot.{Slot}
 use Rattle.pool_drawers.specs.Drawers.{opening}
 use Rattle.pool_settings.specs.Sameness.{sameFloat, sameState}
-use Rattle.pool_settings.specs.Settings.{z-factor, lower-threshold, initial-threshold, horizon, storedUnlessSame}
+use Rattle.pool_settings.specs.Settings.{z-factor, lower-threshold, initial-threshold, horizon, storedUnlessSame, setOn}
 use Rattle.pool_settings.proofs.Sameness.{float-same, z-factor-compared}
 use Rattle.pool_laws.specs.Calls.{Asked, Call, opens, Contract, InTurn}
 use Rattle.pool_laws.specs.Calls as Pools
-use Rattle.pool_laws.specs.Isolation.{Ask, setting, judgment, Tell, answer, judged, asks, tells, Stays, setOn, Alone, Holds}
+use Rattle.pool_laws.specs.Isolation.{Ask, setting, judgment, Tell, answer, judged, asks, tells, Stays, Alone, Holds}
 use Rattle.pool_laws.proofs.Frames.{made-bytes, which, opens-passes, stored-flags}
 use Rattle.pool_laws.proofs.Frames as Frames
 use Rattle.pool_laws.proofs.Alone.{alone}
@@ -83,7 +84,7 @@ data HorizonSet (x z : Float) (n : ℕ) (zs ys : List ℕ) : Type 0 where
 
 module _ (x z : Float) (n : ℕ) (zs ys : List ℕ) (r : Ready zs z) (h : T (fits binary32 x)) where
   factor-set : left n ys ≡ setOn (z-factor x) zs → FactorSet x z n zs ys
-  unfolding storedUnlessSame chainSet
+  unfolding setOn storedUnlessSame chainSet
   factor-set e = go (sameFloat (f32At zs zFactorAt) x) refl
     where
       stored : (b : Bool) → sameFloat (f32At zs zFactorAt) x ≡ b → left n ys ≡ left 0 (cond b zs (encodeStateOver zs (zFactorSet (decodeState zs) x)))
@@ -106,7 +107,7 @@ module _ (x z : Float) (n : ℕ) (zs ys : List ℕ) (r : Ready zs z) (h : T (fit
       go false = refl
 
   horizon-set : left n ys ≡ setOn (horizon x) zs → HorizonSet x z n zs ys
-  unfolding storedUnlessSame horizonSetIn f32At
+  unfolding setOn storedUnlessSame horizonSetIn f32At
   horizon-set e = go (eqb (answered (u .answer)) 0) (sameState (decodeState zs) (u .state)) refl refl
     where
       u : Updated
@@ -133,7 +134,7 @@ record Matched (Turn : List ℕ → List OverC.Call → Type 0) (zs : List ℕ) 
   shown : OverC.shownOf calls ≡ shownIn ts
   factor : T (lt zero32 (zAfter y qs)) → OverC.zAfter z calls ≡ zAfter y qs
 
-abbrev called : Asked → Pools.Told → List ℕ → OverC.Judging
+abbrev called : Asked → Pools.Reply → List ℕ → OverC.Judging
 called a t ys = record {
   reading = a .reading;
   last = a .last;
@@ -251,7 +252,7 @@ module _ (xs : List ℕ) (d : ℕ) (discount : Float) (adjust base : ℕ) (ys : 
       go (Frames.refused q n) = absurd (n accepted)
       go (Frames.opens s v z q) =
           let first : recordOf ys d ≡ firstFree xs = ap (λ (l : List ℕ). recordOf l d) bytes ∙ pool-rules .opened xs d discount adjust base accepted .2 in
-          let index : s .index ≡ firstFree xs = ap (λ (s : Seat). s .index) (v .same) in
+          let index : s .index ≡ firstFree xs = ap (λ (s : Slot). s .index) (v .same) in
           record {
             holds = record { sound = ap rulesOk (bytes ∙ ap (λ (l : Left). l .bytes) q) ∙ opens-passes xs d discount adjust base s v z; there = omega (arith, first, index, v .low) };
             contract = λ i. left (sym z i) ((state-is ∙ sym (made-bytes xs d discount adjust base z)) i);

@@ -24,10 +24,10 @@ use Rattle.stored_state.proofs.Back.{state-length}
 use Rattle.c_chain.proofs.Steps.{made-refused, made-range, made-done}
 use Rattle.c_chain.specs.States.{chainMade}
 use Rattle.record_pool.specs.Pool.{place, countOf, firstUsed, firstFree, nextAt, rulesOk, locate, vacancy, numbersOf, listing, withHeader, withNext, withRecord, withState, opened, unlinked, removed}
-use Rattle.pool_links.specs.Links as Links
+use Rattle.pool_links.specs.Steps as Links
 use Rattle.pool_links.specs.declared.Header.{Header}
 use Rattle.pool_links.specs.declared.Link.{Link}
-use Rattle.record_pool.specs.declared.Seat.{Seat}
+use Rattle.record_pool.specs.declared.Slot.{Slot}
 use Rattle.record_pool.specs.declared.Listed.{Listed}
 use Rattle.record_pool.specs.declared.Located.{Located}
 use Rattle.record_pool.specs.declared.Located.the-variants.{At, Refused}
@@ -50,7 +50,7 @@ drop-zeros (suc n) zero k e = absurd (omega arith)
 drop-zeros (suc n) (suc m) k e = drop-zeros n m k (omega arith)
 
 -- ---- removing.
-pub unlink-first : (xs a : List ℕ) (s : Seat) (index front : ℕ) (h : Header) → Held xs s → index ≡ s .index → front ≡ s .front → h ≡ Links.removed index front (s .next) (s .count) (s .used)
+pub unlink-first : (xs a : List ℕ) (s : Slot) (index front : ℕ) (h : Header) → Held xs s → index ≡ s .index → front ≡ s .front → h ≡ Links.removed index front (s .next) (s .count) (s .used)
     → s .front ≡ 0 → a ≡ withHeader xs (h .count) (h .used) (h .free) → a ≡ unlinked xs (s .front) (s .index)
 unfolding unlinked
 unlink-first xs a s index front h k ei ef eh z ea =
@@ -60,25 +60,25 @@ unlink-first xs a s index front h k ei ef eh z ea =
     ∙ sym (ap (λ (b : Bool). cond b (withHeader xs (countOf xs - 1) (nextAt xs (s .index)) (s .index))
     (withNext (withHeader xs (countOf xs - 1) (firstUsed xs) (s .index)) (s .front) (nextAt xs (s .index)))) (eq-eqb (s .front) 0 z))
 
-pub unlink-later : (xs a b : List ℕ) (s : Seat) (index front next : ℕ) (h : Header) → Held xs s → index ≡ s .index → front ≡ s .front
+pub unlink-later : (xs a b : List ℕ) (s : Slot) (index front : ℕ) (h : Header) → Held xs s → index ≡ s .index → front ≡ s .front
     → h ≡ Links.removed index front (s .next) (s .count) (s .used) → (s .front ≡ 0 → ⊥) → a ≡ withHeader xs (h .count) (h .used) (h .free)
-    → next ≡ Links.mended index (s .next) → b ≡ withNext a (s .front) next → b ≡ unlinked xs (s .front) (s .index)
+    → b ≡ withNext a (s .front) (s .next) → b ≡ unlinked xs (s .front) (s .index)
 unfolding unlinked
-unlink-later xs a b s index front next h k ei ef eh z ea en eb =
-    eb ∙ ap₂ (λ (l : List ℕ) (n : ℕ). withNext l (s .front) n) (ea ∙ ap (λ (h : Header). withHeader xs (h .count) (h .used) (h .free)) eh
-    ∙ ap (λ (b : Bool). withHeader xs (s .count - 1) (cond b (s .next) (s .used)) index) (ne-eqb front 0 (λ q. z (sym ef ∙ q)))) en
+unlink-later xs a b s index front h k ei ef eh z ea eb =
+    eb ∙ ap (λ (l : List ℕ). withNext l (s .front) (s .next)) (ea ∙ ap (λ (h : Header). withHeader xs (h .count) (h .used) (h .free)) eh
+    ∙ ap (λ (b : Bool). withHeader xs (s .count - 1) (cond b (s .next) (s .used)) index) (ne-eqb front 0 (λ q. z (sym ef ∙ q))))
     ∙ (λ t. withNext (withHeader xs (k .placed .count t - 1) (k .placed .used t) (ei t)) (s .front) (k .placed .next t))
     ∙ sym (ap (λ (b : Bool). cond b (withHeader xs (countOf xs - 1) (nextAt xs (s .index)) (s .index))
     (withNext (withHeader xs (countOf xs - 1) (firstUsed xs) (s .index)) (s .front) (nextAt xs (s .index)))) (ne-eqb (s .front) 0 z))
 
-pub taken-out : (xs a b : List ℕ) (s : Seat) (l : Link) → Held xs s → a ≡ unlinked xs (s .front) (s .index) → l ≡ Links.removedLink (s .free)
+pub taken-out : (xs a b : List ℕ) (s : Slot) (l : Link) → Held xs s → a ≡ unlinked xs (s .front) (s .index) → l ≡ Links.removedLink (s .free)
     → b ≡ withRecord a (s .index) (l .next) (l .number) (replicate 2040 0) → b ≡ removed xs (s .front) (s .index)
 unfolding removed
 taken-out xs a b s l h ea el eb =
     eb ∙ (λ t. withRecord (ea t) (s .index) (el t .next) (el t .number) (replicate 2040 0))
     ∙ ap (λ (f : ℕ). withRecord (unlinked xs (s .front) (s .index)) (s .index) f 0 (replicate 2040 0)) (h .placed .free)
 
-pub held : (xs : List ℕ) (d : ℕ) (r : Located) (s : Seat) → r ≡ locate xs d → r ≡ At s → Held xs s
+pub held : (xs : List ℕ) (d : ℕ) (r : Located) (s : Slot) → r ≡ locate xs d → r ≡ At s → Held xs s
 held xs d r s e q =
     let t = located xs d s (sym e ∙ q) in
     let f = t .same in
@@ -88,15 +88,15 @@ held xs d r s e q =
         low = t .low;
         high = t .high;
         near = t .front;
-        next = ap (λ (s : Seat). s .next) f ∙ ap (nextAt xs) (sym (ap (λ (s : Seat). s .index) f));
-        count = ap (λ (s : Seat). s .count) f;
-        used = ap (λ (s : Seat). s .used) f;
-        free = ap (λ (s : Seat). s .free) f;
+        next = ap (λ (s : Slot). s .next) f ∙ ap (nextAt xs) (sym (ap (λ (s : Slot). s .index) f));
+        count = ap (λ (s : Slot). s .count) f;
+        used = ap (λ (s : Slot). s .used) f;
+        free = ap (λ (s : Slot). s .free) f;
       };
       some = t .some;
     }
 
-pub remove-done : (xs out : List ℕ) (d : ℕ) (r : Located) (s : Seat) → r ≡ locate xs d → r ≡ At s → out ≡ removed xs (s .front) (s .index) → left 0 out ≡ remove d xs
+pub remove-done : (xs out : List ℕ) (d : ℕ) (r : Located) (s : Slot) → r ≡ locate xs d → r ≡ At s → out ≡ removed xs (s .front) (s .index) → left 0 out ≡ remove d xs
 unfolding remove
 remove-done xs out d r s e q eo = ap (left 0) eo ∙ sym (ap (λ (l : Located). removeBy l xs) (sym e ∙ q))
 
@@ -123,7 +123,7 @@ unfolding layOut
 lay-refused xs n = sym (ap (λ (t : Bool). cond t (left 0 laidOut) (left 13 xs)) (ne-eqb (length xs) 61472 n))
 
 -- ---- opening.
-pub taken-in : (xs a b : List ℕ) (d : ℕ) (s : Seat) (index : ℕ) (h : Header) (l : Link) → Spare xs s → index ≡ s .index → h ≡ Links.opened index (s .next) (s .count)
+pub taken-in : (xs a b : List ℕ) (d : ℕ) (s : Slot) (index : ℕ) (h : Header) (l : Link) → Spare xs s → index ≡ s .index → h ≡ Links.opened index (s .next) (s .count)
     → a ≡ withHeader xs (h .count) (h .used) (h .free) → l ≡ Links.openedLink (s .used) d
     → b ≡ withRecord a (s .index) (l .next) (l .number) (replicate 2040 0) → b ≡ opened xs d (replicate 2040 0)
 unfolding opened Links.raised
@@ -133,32 +133,32 @@ taken-in xs a b d s index h l k ei eh ea el eb =
     ∙ ap (λ (h : Header). withRecord (withHeader xs (h .count) (h .used) (h .free)) (s .index) (s .used) d (replicate 2040 0)) eh
     ∙ (λ t. withRecord (withHeader xs (more t) ((ei ∙ k .first) t) ((k .placed .next ∙ ap (nextAt xs) (k .first)) t)) (k .first t) (k .placed .used t) d (replicate 2040 0))
 
-pub spare : (xs : List ℕ) (d : ℕ) (r : Located) (s : Seat) → r ≡ vacancy xs d → r ≡ At s → Spare xs s
+pub spare : (xs : List ℕ) (d : ℕ) (r : Located) (s : Slot) → r ≡ vacancy xs d → r ≡ At s → Spare xs s
 spare xs d r s e q =
     let t = vacant xs d s (sym e ∙ q) in
     let f = t .same in
-    let front : s .front ≡ 0 = ap (λ (s : Seat). s .front) f in
+    let front : s .front ≡ 0 = ap (λ (s : Slot). s .front) f in
     record {
       placed = record {
         size = t .size;
         low = t .low;
         high = t .high;
         near = omega arith;
-        next = ap (λ (s : Seat). s .next) f ∙ ap (nextAt xs) (sym (ap (λ (s : Seat). s .index) f));
-        count = ap (λ (s : Seat). s .count) f;
-        used = ap (λ (s : Seat). s .used) f;
-        free = ap (λ (s : Seat). s .free) f;
+        next = ap (λ (s : Slot). s .next) f ∙ ap (nextAt xs) (sym (ap (λ (s : Slot). s .index) f));
+        count = ap (λ (s : Slot). s .count) f;
+        used = ap (λ (s : Slot). s .used) f;
+        free = ap (λ (s : Slot). s .free) f;
       };
       fewer = t .fewer;
-      first = ap (λ (s : Seat). s .index) f;
+      first = ap (λ (s : Slot). s .index) f;
     }
 
-pub open-room : (xs a : List ℕ) (d : ℕ) (r : Located) (s : Seat) → r ≡ vacancy xs d → r ≡ At s → a ≡ opened xs d (replicate 2040 0)
+pub open-room : (xs a : List ℕ) (d : ℕ) (r : Located) (s : Slot) → r ≡ vacancy xs d → r ≡ At s → a ≡ opened xs d (replicate 2040 0)
     → (length a ≡ 61472) × (s .state + stateLength ≤ 61472)
 unfolding opened
 open-room xs a d r s e q ea =
     let t = vacant xs d s (sym e ∙ q) in
-    let i : s .index ≡ firstFree xs = ap (λ (s : Seat). s .index) (t .same) in
+    let i : s .index ≡ firstFree xs = ap (λ (s : Slot). s .index) (t .same) in
     let low = t .low in
     let high = t .high in
     let room = t .room in (
@@ -202,7 +202,7 @@ state-put xs ys at n s size room e ey =
     ∙ ap (λ (b : Bool). cond b (encodeStateOver ps s) ps) (eq-eqb (length ps) stateLength long) in
     part-put xs ys at n (ap length is ∙ state-length ps s long ∙ sym e) ∙ ap (pasted xs at) is
 
-module _ (xs a : List ℕ) (d adjust base : ℕ) (discount : Float) (r : Located) (s : Seat) (made : Updated) (why : ℕ) (e : r ≡ vacancy xs d) (q : r ≡ At s)
+module _ (xs a : List ℕ) (d adjust base : ℕ) (discount : Float) (r : Located) (s : Slot) (made : Updated) (why : ℕ) (e : r ≡ vacancy xs d) (q : r ≡ At s)
     (m : made ≡ new discount (eqb adjust 1) base) (w : why ≡ answered (made .answer)) where
   abbrev zeros : List ℕ
   zeros = replicate stateLength 0
@@ -230,7 +230,7 @@ module _ (xs a : List ℕ) (d adjust base : ℕ) (discount : Float) (r : Located
   unfolding writtenOf
   open-done out z l ea eo =
       let t = vacant xs d s (sym e ∙ q) in
-      let i : s .index ≡ firstFree xs = ap (λ (s : Seat). s .index) (t .same) in
+      let i : s .index ≡ firstFree xs = ap (λ (s : Slot). s .index) (t .same) in
       let at : s .state ≡ place (firstFree xs) + 8 = t .place ∙ ap (λ (n : ℕ). place n + 8) i in
       let low = t .low in
       let high = t .high in

@@ -1,5 +1,5 @@
 -- Laying out a pool, opening and removing a drawer, listing all: what each call answers, and every byte afterwards. A refused call changes none.
-use Prim.Native.Nat.{ℕ, zero, suc}
+use Prim.Native.Nat.{ℕ, zero, suc, _-_}
 use mathlib.Core.Bool.{cond, _&&_}
 use mathlib.Core.List.{List, _++_}
 use lib.Dec.{eqb}
@@ -32,7 +32,7 @@ layOut xs = cond (eqb (length xs) poolLength) (left 0 laidOut) (left (number Ref
 
 -- ---- opening: 13, then 11, then 12, then what `krcf_new` refuses; the state is the one that it makes, and zeros stand behind it.
 abbrev pub openedWith : Left → ℕ → List ℕ → Left
-openedWith made d xs = cond (eqb (made .answer) 0) (left 0 (opened xs d (made .bytes ++ replicate 730 0))) (left (made .answer) xs)
+openedWith made d xs = cond (eqb (made .answer) 0) (left 0 (opened xs d (made .bytes ++ replicate (2040 - stateLength) 0))) (left (made .answer) xs)
 
 abbrev pub openBy : Located → Left → ℕ → List ℕ → Left
 openBy (At s) made d xs = openedWith made d xs

@@ -4,7 +4,7 @@ use pool_links::Header;
 use pool_links::Link;
 use predictorcorrector::PredictorCorrector;
 use record_pool::Located;
-use record_pool::Seat;
+use record_pool::Slot;
 ghost use mathlib.Core.Path.{_≡_};
 ghost use Prim.Native.Nat.{_+_, _≤_};
 ghost use lib.ListN.{length, take, drop, replicate};
@@ -71,37 +71,37 @@ fn put_record(pool: &mut [u8], i: usize, link: Link)
 }
 
 // The used chain goes on behind the record without it; the record is named as the first free.
-fn unlink(pool: &mut [u8], seat: Seat)
-    requires { ⌜ Held (now pool) seat ⌝ }
-    ensures { λ _. ⌜ now (pool .exit) ≡ Pool.unlinked (now (pool .entry)) (seat .front) (seat .index) ⌝ }
+fn unlink(pool: &mut [u8], slot: Slot)
+    requires { ⌜ Held (now pool) slot ⌝ }
+    ensures { λ _. ⌜ now (pool .exit) ≡ Pool.unlinked (now (pool .entry)) (slot .front) (slot .index) ⌝ }
 {
-    let index = seat.index as u32;
-    let front = seat.front as u32;
+    let index = slot.index as u32;
+    let front = slot.front as u32;
     put_header(
         pool,
-        pool_links::removed(index, front, seat.next, seat.count, seat.used),
+        pool_links::removed(index, front, slot.next, slot.count, slot.used),
     );
-    if seat.front != 0 {
-        put_next(pool, seat.front, pool_links::mended(index, seat.next));
+    if slot.front != 0 {
+        put_next(pool, slot.front, slot.next);
     }
 }
 
-fn take_out(pool: &mut [u8], seat: Seat)
-    requires { ⌜ Held (now pool) seat ⌝ }
-    ensures { λ _. ⌜ now (pool .exit) ≡ Pool.removed (now (pool .entry)) (seat .front) (seat .index) ⌝ }
+fn take_out(pool: &mut [u8], slot: Slot)
+    requires { ⌜ Held (now pool) slot ⌝ }
+    ensures { λ _. ⌜ now (pool .exit) ≡ Pool.removed (now (pool .entry)) (slot .front) (slot .index) ⌝ }
 {
-    unlink(pool, seat);
-    put_record(pool, seat.index, pool_links::removed_link(seat.free));
+    unlink(pool, slot);
+    put_record(pool, slot.index, pool_links::removed_link(slot.free));
 }
 
 // The first free record becomes the first used, with the drawer's number and zeros.
-fn take_in(pool: &mut [u8], seat: Seat, drawer: u32)
-    requires { ⌜ Spare (now pool) seat ⌝ }
+fn take_in(pool: &mut [u8], slot: Slot, drawer: u32)
+    requires { ⌜ Spare (now pool) slot ⌝ }
     ensures { λ _. ⌜ now (pool .exit) ≡ Pool.opened (now (pool .entry)) drawer (replicate 2040 0) ⌝ }
 {
-    let index = seat.index as u32;
-    put_header(pool, pool_links::opened(index, seat.next, seat.count));
-    put_record(pool, seat.index, pool_links::opened_link(seat.used, drawer));
+    let index = slot.index as u32;
+    put_header(pool, pool_links::opened(index, slot.next, slot.count));
+    put_record(pool, slot.index, pool_links::opened_link(slot.used, drawer));
 }
 
 // A state put over the bytes from `at` on.
@@ -179,14 +179,14 @@ pub extern "C" fn krcf_pool_open(
     ensures { λ r. ⌜ left r (now (pool .exit)) ≡ Drawers.opening drawer discount «auto_adjust» «base_dimension» (now (pool .entry)) ⌝ }
 {
     match record_pool::vacancy(pool, drawer) {
-        Located::At(seat) => {
+        Located::At(slot) => {
             let made = PredictorCorrector::new(discount, auto_adjust == 1, base_dimension);
             let answer = made.answer;
             let why = answer.number();
             if why == 0 {
                 if auto_adjust <= 1 {
-                    take_in(pool, seat, drawer);
-                    put_state(pool, seat.state, made.state);
+                    take_in(pool, slot, drawer);
+                    put_state(pool, slot.state, made.state);
                     return 0;
                 }
                 return RANGE;
@@ -202,8 +202,8 @@ pub extern "C" fn krcf_pool_remove(pool: &mut [u8], drawer: u32) -> u8
     ensures { λ r. ⌜ left r (now (pool .exit)) ≡ Drawers.remove drawer (now (pool .entry)) ⌝ }
 {
     match record_pool::locate(pool, drawer) {
-        Located::At(seat) => {
-            take_out(pool, seat);
+        Located::At(slot) => {
+            take_out(pool, slot);
             0
         }
         Located::Refused(why) => why.number(),

@@ -13,26 +13,26 @@ use Rattle.layout.specs.Places.{stateLength}
 use Rattle.layout.specs.Numbers.{pasted}
 use Rattle.c_judging.specs.Judging.{Answered}
 use Rattle.record_pool.specs.Pool.{locate, place, stateAt, withState}
-use Rattle.record_pool.specs.declared.Seat.{Seat}
+use Rattle.record_pool.specs.declared.Slot.{Slot}
 use Rattle.record_pool.specs.declared.Located.{Located}
 use Rattle.record_pool.specs.declared.Located.the-variants.{At, Refused}
-use Rattle.record_pool.proofs.Locating.{Seated, located}
+use Rattle.record_pool.proofs.Locating.{Occupied, located}
 use Rattle.record_pool.proofs.Putting.{part-put}
 use Rattle.pool_judging.specs.Judging.{JudgedBy, Judged}
 
 -- ---- the part that is lent to the judge.
-module _ (xs : List ℕ) (d : ℕ) (l : Located) (el : l ≡ locate xs d) (s : Seat) (es : l ≡ At s) where
-  seated-is : Seated xs d s
-  seated-is = located xs d s (sym el ∙ es)
+module _ (xs : List ℕ) (d : ℕ) (l : Located) (el : l ≡ locate xs d) (s : Slot) (es : l ≡ At s) where
+  occupied-is : Occupied xs d s
+  occupied-is = located xs d s (sym el ∙ es)
 
   pub judged-room : (s .state + stateLength ≤ 61472) × (length xs ≡ 61472)
-  judged-room = let k = seated-is in (omega (arith, k .room), k .size)
+  judged-room = let k = occupied-is in (omega (arith, k .room), k .size)
 
   part-is : take (s .state + stateLength - s .state) (drop (s .state) xs) ≡ stateAt xs (s .index)
   unfolding stateAt
   part-is =
       let n : s .state + stateLength - s .state ≡ stateLength = omega arith in
-      ap (λ (n : ℕ). take n (drop (s .state) xs)) n ∙ ap (λ (a : ℕ). take stateLength (drop a xs)) (seated-is .place)
+      ap (λ (n : ℕ). take n (drop (s .state) xs)) n ∙ ap (λ (a : ℕ). take stateLength (drop a xs)) (occupied-is .place)
 
   whole-is : (ys : List ℕ) → length ys ≡ length (take (s .state + stateLength - s .state) (drop (s .state) xs))
       → take (s .state) xs ++ (ys ++ drop (s .state + stateLength - s .state) (drop (s .state) xs)) ≡ withState xs (s .index) ys
@@ -40,10 +40,10 @@ module _ (xs : List ℕ) (d : ℕ) (l : Located) (el : l ≡ locate xs d) (s : S
   whole-is ys e =
       let n : ℕ = s .state + stateLength - s .state in
       let fits : n ≤ length (drop (s .state) xs) = omega (arith, judged-room .0, judged-room .1, length-drop (s .state) xs) in
-      part-put xs ys (s .state) n (e ∙ length-take-le n (drop (s .state) xs) fits) ∙ ap (λ (a : ℕ). pasted xs a ys) (seated-is .place)
+      part-put xs ys (s .state) n (e ∙ length-take-le n (drop (s .state) xs) fits) ∙ ap (λ (a : ℕ). pasted xs a ys) (occupied-is .place)
 
 module _ (xs reading last : List ℕ) (b : Lent) (n : ℕ) (e h w : List Float) (v : List ℕ) (d : ℕ) (l : Located) (el : l ≡ locate xs d) where
-  pub judged-there : (s : Seat) → l ≡ At s → (ys : List ℕ) (e′ h′ w′ : List Float) (v′ : List ℕ)
+  pub judged-there : (s : Slot) → l ≡ At s → (ys : List ℕ) (e′ h′ w′ : List Float) (v′ : List ℕ)
       → length ys ≡ length (take (s .state + stateLength - s .state) (drop (s .state) xs))
       → Answered (take (s .state + stateLength - s .state) (drop (s .state) xs)) reading last b n e h w v ys e′ h′ w′ v′
       → Judged xs reading last b n e h w v (take (s .state) xs ++ (ys ++ drop (s .state + stateLength - s .state) (drop (s .state) xs))) e′ h′ w′ v′ d

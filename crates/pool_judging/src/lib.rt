@@ -1,4 +1,4 @@
-// Judging a drawer in a pool, for a host that calls over C: document 01's number, 0 for an accepted reading; a refused call has written nothing.
+// Judging a drawer in a pool, for a host that calls over C: the documents' number, 0 for an accepted reading; a refused call has written nothing.
 use record_pool::Located;
 ghost use Rattle.descriptor.specs.Lent.{lent};
 ghost use Rattle.pool_judging.specs.Judging as Judging;
@@ -34,8 +34,8 @@ pub extern "C" fn krcf_pool_detect_and_modify(
         (now (pool .exit)) (now (expected .exit)) (now («out_high» .exit)) (now («out_low» .exit)) (now (verdict .exit)) drawer ⌝ }
 {
     match record_pool::locate(pool, drawer) {
-        Located::At(seat) => {
-            let from = seat.state;
+        Located::At(slot) => {
+            let from = slot.state;
             let upto = from + layout::STATE_LENGTH;
             c_judging::krcf_detect_and_modify(
                 &mut pool[from..upto],

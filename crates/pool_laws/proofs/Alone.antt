@@ -22,7 +22,8 @@ use Rattle.layout.specs.Chain.{decodeState, encodeStateOver}
 use Rattle.layout.specs.Left.{Left, left}
 use Rattle.stored_state.proofs.Back.{state-length}
 use Rattle.c_judging.specs.Judging.{Answered, outcomeOver, stateOver}
-use Rattle.record_pool.specs.Pool.{place, flagsAt, flagsIn, stateAt, stateOf, rulesOk, recordOf, frontOf, seat, locate, withState}
+use Rattle.record_pool.specs.Pool.{place, flagsAt, stateAt, stateOf, rulesOk, recordOf, frontOf, slot, locate, withState}
+use Rattle.record_pool.specs.Steps.{flagsIn}
 use Rattle.record_pool.specs.declared.Located.{Located}
 use Rattle.record_pool.specs.declared.Located.the-variants.{At, Refused}
 use Rattle.record_pool.proofs.Passing.{passes, passes-size, within-used}
@@ -31,10 +32,10 @@ use Rattle.record_pool.proofs.Locating.{located, its-used}
 use Rattle.pool_drawers.specs.Drawers.{opening, remove}
 use Rattle.pool_settings.proofs.Stored.{state-byte, state-long}
 use Rattle.pool_settings.specs.Sameness.{sameState}
-use Rattle.pool_settings.specs.Settings.{Setting, changed, storedUnlessSame, storedAt, setBy, set}
+use Rattle.pool_settings.specs.Settings.{Setting, changed, storedUnlessSame, storedOn, setOn, inRecord, setBy, set}
 use Rattle.pool_judging.specs.Judging.{JudgedIn, Unjudged, JudgedBy}
-use Rattle.pool_laws.specs.Calls.{Asked, Told, Call, lays-out, opens, removes, lists, sets, judges, Contract, after, InTurn, afterAll}
-use Rattle.pool_laws.specs.Isolation.{Ask, setting, judgment, Tell, answer, judged, asks, tells, Stays, setOn, Alone, Holds}
+use Rattle.pool_laws.specs.Calls.{Asked, Reply, Call, lays-out, opens, removes, lists, sets, judges, Contract, after, InTurn, afterAll}
+use Rattle.pool_laws.specs.Isolation.{Ask, setting, judgment, Tell, answer, judged, asks, tells, Stays, Alone, Holds}
 use Rattle.pool_laws.proofs.Frames.{Undisturbed, undisturbed-by, lay-out-kept, remove-kept, remove-leaves, stored-flags, which, open-kept, open-leaves, Wrote, nothing, state, wrote-kept, wrote-records, wrote-leaves}
 use Rattle.pool_laws.proofs.Frames as Frames
 
@@ -66,17 +67,20 @@ module _ (xs : List ℕ) (d : ℕ) (h : Holds xs d) where
   its-size : length xs ≡ 61472
   its-size = passes-size xs (h .sound)
 
+  pub its-room : place i + 8 + stateLength ≤ length xs
+  its-room = omega (arith, its-size, place-high i (in-range .0) (in-range .1))
+
   pub its-state-long : length (stateAt xs i) ≡ stateLength
-  its-state-long = state-long xs i (omega (arith, its-size, place-high i (in-range .0) (in-range .1)))
+  its-state-long = state-long xs i its-room
 
   its-flags : flagsIn (stateAt xs i) ≡ true
   its-flags = flags-of xs i its-size (in-range .0) (in-range .1) ∙ passes xs (h .sound) .flagged i (its-used xs d (h .sound) (h .there))
 
-  pub is-there : locate xs d ≡ At (seat xs (recordOf xs d) (frontOf xs d))
+  pub is-there : locate xs d ≡ At (slot xs (recordOf xs d) (frontOf xs d))
   unfolding locate
   is-there =
-      ap (λ (b : Bool). cond b (cond (eqb (recordOf xs d) 0) (Refused Refusals.Drawer) (At (seat xs (recordOf xs d) (frontOf xs d)))) (Refused Refusals.Pool)) (h .sound)
-      ∙ ap (λ (b : Bool). cond b (Refused Refusals.Drawer) (At (seat xs (recordOf xs d) (frontOf xs d)))) (ne-eqb (recordOf xs d) 0 (λ e. omega (arith, h .there)))
+      ap (λ (b : Bool). cond b (cond (eqb (recordOf xs d) 0) (Refused Refusals.Drawer) (At (slot xs (recordOf xs d) (frontOf xs d)))) (Refused Refusals.Pool)) (h .sound)
+      ∙ ap (λ (b : Bool). cond b (Refused Refusals.Drawer) (At (slot xs (recordOf xs d) (frontOf xs d)))) (ne-eqb (recordOf xs d) 0 (λ e. omega (arith, h .there)))
 
   -- Bytes of a state put there.
   put-there : (ys out : List ℕ) → length ys ≡ stateLength → flagsIn ys ≡ true → out ≡ withState xs i ys → Wrote xs d out × (stateOf out d ≡ ys)
@@ -94,40 +98,29 @@ module _ (xs : List ℕ) (d : ℕ) (h : Holds xs d) where
       go true = (its-state-long, its-flags)
       go false = (state-length (stateAt xs i) s its-state-long, stored-flags (stateAt xs i) s its-state-long)
 
-  module _ (c : Setting) (n : ℕ) (out : List ℕ) (e : left n out ≡ set c d xs) where
-    abbrev u : Updated
-    u = changed c (decodeState (stateAt xs i))
+  set-fine : (c : Setting) → (length (setOn c (stateAt xs i) .bytes) ≡ stateLength) × (flagsIn (setOn c (stateAt xs i) .bytes) ≡ true)
+  unfolding setOn
+  set-fine c = go (changed c (decodeState (stateAt xs i)))
+    where
+      by : (u : Updated) (b : Bool) → (length (cond b (left 0 (storedUnlessSame (stateAt xs i) (u .state))) (left (answered (u .answer)) (stateAt xs i)) .bytes) ≡ stateLength)
+          × (flagsIn (cond b (left 0 (storedUnlessSame (stateAt xs i) (u .state))) (left (answered (u .answer)) (stateAt xs i)) .bytes) ≡ true)
+      by u true = stored-fine (u .state)
+      by u false = (its-state-long, its-flags)
 
-    set-is : left n out ≡ storedAt u xs i
+      go : (u : Updated) → (length (storedOn u (stateAt xs i) .bytes) ≡ stateLength) × (flagsIn (storedOn u (stateAt xs i) .bytes) ≡ true)
+      go u = by u (eqb (answered (u .answer)) 0)
+
+  module _ (c : Setting) (n : ℕ) (out : List ℕ) (e : left n out ≡ set c d xs) where
+    pub set-is : left n out ≡ inRecord xs i (setOn c (stateAt xs i))
     unfolding set
     set-is = e ∙ ap (λ (l : Located). setBy l c xs) is-there
 
-    set-by : (a : Bool) → eqb (answered (u .answer)) 0 ≡ a
-        → left n out ≡ cond a (left 0 (withState xs i (storedUnlessSame (stateAt xs i) (u .state)))) (left (answered (u .answer)) xs)
-    unfolding storedAt
-    set-by a p = set-is ∙ ap (λ (a : Bool). cond a (left 0 (withState xs i (storedUnlessSame (stateAt xs i) (u .state)))) (left (answered (u .answer)) xs)) p
-
-    alone-by : (a : Bool) → eqb (answered (u .answer)) 0 ≡ a → setOn c (stateOf xs d) ≡ cond a (left 0 (storedUnlessSame (stateAt xs i) (u .state))) (left (answered (u .answer)) (stateAt xs i))
-    unfolding stateOf
-    alone-by a p = ap (λ (a : Bool). cond a (left 0 (storedUnlessSame (stateAt xs i) (u .state))) (left (answered (u .answer)) (stateAt xs i))) p
-
-    at-record : stateAt xs i ≡ stateOf xs d
-    unfolding stateOf
-    at-record = refl
-
     pub set-there : Wrote xs d out × (left n (stateOf out d) ≡ setOn c (stateOf xs d))
-    set-there = go (eqb (answered (u .answer)) 0) refl
-      where
-        go : (a : Bool) → eqb (answered (u .answer)) 0 ≡ a → Wrote xs d out × (left n (stateOf out d) ≡ setOn c (stateOf xs d))
-        go false p =
-            let r = set-by false p in
-            let same : out ≡ xs = ap (λ (l : Left). l .bytes) r in
-            (nothing same, (λ t. left (r t .answer) (stateOf (same t) d)) ∙ sym (alone-by false p ∙ ap (left (answered (u .answer))) at-record))
-        go true p =
-            let r = set-by true p in
-            let f = stored-fine (u .state) in
-            let w = put-there (storedUnlessSame (stateAt xs i) (u .state)) out (f .0) (f .1) (ap (λ (l : Left). l .bytes) r) in
-            (w .0, (λ t. left (r t .answer) (w .1 t)) ∙ sym (alone-by true p))
+    unfolding stateOf
+    set-there =
+        let f = set-fine c in
+        let w = put-there (setOn c (stateAt xs i) .bytes) out (f .0) (f .1) (ap (λ (l : Left). l .bytes) set-is) in
+        (w .0, λ t. left (set-is t .answer) (w .1 t))
 
   -- ---- a judgment.
   left-fine : (o : Outcome) (s : PredictorCorrector) → (length (stateLeft o (stateAt xs i) s) ≡ stateLength) × (flagsIn (stateLeft o (stateAt xs i) s) ≡ true)
@@ -139,16 +132,20 @@ module _ (xs : List ℕ) (d : ℕ) (h : Holds xs d) where
       go true = (state-length (stateAt xs i) s its-state-long, stored-flags (stateAt xs i) s its-state-long)
   left-fine (Outcomes.Refused why) s = (its-state-long, its-flags)
 
-  -- The judgment that a tells, over the bytes zs, which it left as ys.
-  abbrev pub AnsweredBy : List ℕ → Asked → Told → List ℕ → Type 0
+  -- What was told of the judgment a over the bytes zs, which it left as ys.
+  abbrev pub AnsweredBy : List ℕ → Asked → Reply → List ℕ → Type 0
   AnsweredBy zs a t ys =
       Answered zs (a .reading) (a .last) (a .lent) (t .answer) (a .expected) (a .high) (a .low) (a .verdict) ys (t .expected) (t .high) (t .low) (t .verdict)
 
-  pub judged-there : (a : Asked) (t : Told) (out : List ℕ) → Contract xs (judges d a t out) → Wrote xs d out × AnsweredBy (stateOf xs d) a t (stateOf out d)
+  pub judged-in : (a : Asked) (t : Reply) (out : List ℕ) → Contract xs (judges d a t out)
+      → JudgedIn xs (a .reading) (a .last) (a .lent) (t .answer) (a .expected) (a .high) (a .low) (a .verdict) out (t .expected) (t .high) (t .low) (t .verdict) i
+  judged-in a t out c =
+      subst (JudgedBy xs (a .reading) (a .last) (a .lent) (t .answer) (a .expected) (a .high) (a .low) (a .verdict) out (t .expected) (t .high) (t .low) (t .verdict)) is-there c
+
+  pub judged-there : (a : Asked) (t : Reply) (out : List ℕ) → Contract xs (judges d a t out) → Wrote xs d out × AnsweredBy (stateOf xs d) a t (stateOf out d)
   unfolding stateOf
   judged-there a t out c =
-      let j : JudgedIn xs (a .reading) (a .last) (a .lent) (t .answer) (a .expected) (a .high) (a .low) (a .verdict) out (t .expected) (t .high) (t .low) (t .verdict) i =
-      subst (JudgedBy xs (a .reading) (a .last) (a .lent) (t .answer) (a .expected) (a .high) (a .low) (a .verdict) out (t .expected) (t .high) (t .low) (t .verdict)) is-there c in
+      let j = judged-in a t out c in
       let b = j .judged .bytes in
       let o : Outcome = outcomeOver (stateAt xs i) (a .reading) (a .last) (a .lent) (length (a .expected)) (length (a .high)) (length (a .low)) (length (a .verdict)) in
       let s : PredictorCorrector = stateOver (stateAt xs i) (a .reading) (a .last) (a .lent) o in
@@ -165,7 +162,7 @@ set-wrote xs d c n out e = go (locate xs d) refl
     go (At s) q = let t = located xs d s q in set-there xs d (record { sound = t .ok; there = t .there }) c n out e .0
     go (Refused why) q = nothing (ap (λ (l : Left). l .bytes) (e ∙ ap (λ (l : Located). setBy l c xs) q))
 
-pub judged-wrote : (xs : List ℕ) (d : ℕ) (a : Asked) (t : Told) (out : List ℕ) → Contract xs (judges d a t out) → Wrote xs d out
+pub judged-wrote : (xs : List ℕ) (d : ℕ) (a : Asked) (t : Reply) (out : List ℕ) → Contract xs (judges d a t out) → Wrote xs d out
 judged-wrote xs d a t out c = go (locate xs d) refl
   where
     go : (l : Located) → locate xs d ≡ l → Wrote xs d out
@@ -175,14 +172,14 @@ judged-wrote xs d a t out c = go (locate xs d) refl
         subst (JudgedBy xs (a .reading) (a .last) (a .lent) (t .answer) (a .expected) (a .high) (a .low) (a .verdict) out (t .expected) (t .high) (t .low) (t .verdict)) q c in
         nothing (u .bytes)
 
--- ---- every call keeps rule 13.
-pub kept : (xs : List ℕ) (c : Call) → Contract xs c → rulesOk xs ≡ true → rulesOk (after xs c) ≡ true
-kept xs (lays-out n ys) e ok = ap (λ (l : Left). rulesOk (l .bytes)) e ∙ lay-out-kept xs ok
-kept xs (opens d discount adjust base n ys) e ok = ap (λ (l : Left). rulesOk (l .bytes)) e ∙ open-kept xs d discount adjust base ok
-kept xs (removes d n ys) e ok = ap (λ (l : Left). rulesOk (l .bytes)) e ∙ remove-kept xs d ok
-kept xs (lists out n out′) e ok = ok
-kept xs (sets d c n ys) e ok = wrote-kept xs d ys (set-wrote xs d c n ys e) ok
-kept xs (judges d a t ys) e ok = wrote-kept xs d ys (judged-wrote xs d a t ys e) ok
+-- ---- every call leaves a pool that passes 13 one that does.
+pub still-sound : (xs : List ℕ) (c : Call) → Contract xs c → rulesOk xs ≡ true → rulesOk (after xs c) ≡ true
+still-sound xs (lays-out n ys) e ok = ap (λ (l : Left). rulesOk (l .bytes)) e ∙ lay-out-kept xs ok
+still-sound xs (opens d discount adjust base n ys) e ok = ap (λ (l : Left). rulesOk (l .bytes)) e ∙ open-kept xs d discount adjust base ok
+still-sound xs (removes d n ys) e ok = ap (λ (l : Left). rulesOk (l .bytes)) e ∙ remove-kept xs d ok
+still-sound xs (lists out n out′) e ok = ok
+still-sound xs (sets d c n ys) e ok = wrote-kept xs d ys (set-wrote xs d c n ys e) ok
+still-sound xs (judges d a t ys) e ok = wrote-kept xs d ys (judged-wrote xs d a t ys e) ok
 
 -- ---- calls in turn.
 -- A pool in which nothing of the drawer has changed.
@@ -218,11 +215,11 @@ pub alone : (d : ℕ) (xs : List ℕ) (cs : List Call) → Holds xs d → Stays 
 alone d xs [] h s t = (h, refl)
 alone d xs (lays-out n ys ∷ cs) h s t = absurd s
 alone d xs (opens e discount adjust base n ys ∷ cs) h s t =
-    let k = still xs ys d h (kept xs (opens e discount adjust base n ys) (t .0) (h .sound)) (open-still xs ys d e discount adjust base n h (t .0)) in
+    let k = still xs ys d h (still-sound xs (opens e discount adjust base n ys) (t .0) (h .sound)) (open-still xs ys d e discount adjust base n h (t .0)) in
     passed d xs ys (afterAll ys cs) (asks d cs) (tells d cs) (k .1) (alone d ys cs (k .0) s (t .1))
 alone d xs (removes e n ys ∷ cs) h s t =
     let q : ys ≡ remove e xs .bytes = ap (λ (l : Left). l .bytes) (t .0) in
-    let k = still xs ys d h (kept xs (removes e n ys) (t .0) (h .sound)) (rw q (remove-leaves xs e d (λ p. s .0 (sym p)))) in
+    let k = still xs ys d h (still-sound xs (removes e n ys) (t .0) (h .sound)) (rw q (remove-leaves xs e d (λ p. s .0 (sym p)))) in
     passed d xs ys (afterAll ys cs) (asks d cs) (tells d cs) (k .1) (alone d ys cs (k .0) (s .1) (t .1))
 alone d xs (lists out n out′ ∷ cs) h s t = alone d xs cs h s (t .1)
 alone d xs (sets e c n ys ∷ cs) h s t = go (eqb e d) refl (λ (k : Holds ys d). alone d ys cs k s (t .1))
@@ -253,7 +250,7 @@ alone d xs (judges e a t ys ∷ cs) h s r = go (eqb e d) refl (λ (k : Holds ys 
         rw q (passed d xs ys (afterAll ys cs) (asks d cs) (tells d cs) (k .1) (rest (k .0)))
 
 -- ---- what is told is settled by the bytes and by what is asked.
-same-judgment : (zs : List ℕ) (a : Asked) (t u : Told) (ys ws : List ℕ)
+same-judgment : (zs : List ℕ) (a : Asked) (t u : Reply) (ys ws : List ℕ)
     → Answered zs (a .reading) (a .last) (a .lent) (t .answer) (a .expected) (a .high) (a .low) (a .verdict) ys (t .expected) (t .high) (t .low) (t .verdict)
     → Answered zs (a .reading) (a .last) (a .lent) (u .answer) (a .expected) (a .high) (a .low) (a .verdict) ws (u .expected) (u .high) (u .low) (u .verdict)
     → (t ≡ u) × (ys ≡ ws)

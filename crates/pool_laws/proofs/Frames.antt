@@ -23,8 +23,9 @@ use Rattle.layout.specs.Left.{Left, left}
 use Rattle.stored_state.proofs.Back.{state-length, head-put}
 use Rattle.c_chain.specs.States.{chainMade}
 use Rattle.c_chain.proofs.Steps.{refused-number}
-use Rattle.record_pool.specs.Pool.{firstFree, numberAt, flagsIn, stateAt, stateOf, usedOf, freeOf, rulesOk, recordOf, frontOf, locate, vacancy, withState, opened, removed}
-use Rattle.record_pool.specs.declared.Seat.{Seat}
+use Rattle.record_pool.specs.Pool.{firstFree, numberAt, stateAt, stateOf, usedOf, freeOf, rulesOk, recordOf, frontOf, locate, vacancy, withState, opened, removed}
+use Rattle.record_pool.specs.Steps.{flagsIn}
+use Rattle.record_pool.specs.declared.Slot.{Slot}
 use Rattle.record_pool.specs.declared.Located.{Located}
 use Rattle.record_pool.specs.declared.Located.the-variants.{At, Refused}
 use Rattle.record_pool.proofs.Passing.{passes, passes-size, within-used}
@@ -66,9 +67,9 @@ lay-out-kept xs ok = ap (λ (b : Bool). rulesOk ((cond b (left 0 laidOut) (left 
 
 -- ---- removing.
 module _ (xs : List ℕ) (d : ℕ) where
-  removes-it : (s : Seat) → locate xs d ≡ At s → remove d xs ≡ left 0 (removed xs (frontOf xs d) (recordOf xs d))
+  removes-it : (s : Slot) → locate xs d ≡ At s → remove d xs ≡ left 0 (removed xs (frontOf xs d) (recordOf xs d))
   unfolding remove
-  removes-it s e = ap (λ (l : Located). removeBy l xs) e ∙ ap (λ (s : Seat). left 0 (removed xs (s .front) (s .index))) (located xs d s e .same)
+  removes-it s e = ap (λ (l : Located). removeBy l xs) e ∙ ap (λ (s : Slot). left 0 (removed xs (s .front) (s .index))) (located xs d s e .same)
 
   pub removed-or-refused : remove d xs .answer ≡ 0 → (0 < recordOf xs d) × (rulesOk xs ≡ true) × (remove d xs ≡ left 0 (removed xs (frontOf xs d) (recordOf xs d)))
   unfolding remove
@@ -162,13 +163,13 @@ module _ (xs : List ℕ) (d : ℕ) (discount : Float) (adjust base : ℕ) where
   -- Either nothing changed, or the drawer was opened.
   pub data Opening : Type 0 where
     refused : opening d discount adjust base xs .bytes ≡ xs → (opening d discount adjust base xs .answer ≡ 0 → ⊥) → Opening
-    opens : (s : Seat) → Vacant xs d s → made .answer ≡ 0 → opening d discount adjust base xs ≡ left 0 (opened xs d rest) → Opening
+    opens : (s : Slot) → Vacant xs d s → made .answer ≡ 0 → opening d discount adjust base xs ≡ left 0 (opened xs d rest) → Opening
 
   pub which : Opening
   unfolding opening
   which = go (vacancy xs d) refl
     where
-      asked : (s : Seat) → vacancy xs d ≡ At s → (b : Bool) → eqb (made .answer) 0 ≡ b → Opening
+      asked : (s : Slot) → vacancy xs d ≡ At s → (b : Bool) → eqb (made .answer) 0 ≡ b → Opening
       asked s e true q =
           opens s (vacant xs d s e) (eqb-true (made .answer) 0 q)
           (ap (λ (l : Located). openBy l made d xs) e ∙ ap (λ (b : Bool). cond b (left 0 (opened xs d rest)) (left (made .answer) xs)) q)
@@ -183,9 +184,9 @@ module _ (xs : List ℕ) (d : ℕ) (discount : Float) (adjust base : ℕ) where
           let is : openBy (vacancy xs d) made d xs ≡ left (number why) xs = ap (λ (l : Located). openBy l made d xs) e in
           refused (ap (λ (l : Left). l .bytes) is) (λ z. above why (sym (ap (λ (l : Left). l .answer) is) ∙ z))
 
-  module _ (s : Seat) (v : Vacant xs d s) (z : made .answer ≡ 0) where
+  module _ (s : Slot) (v : Vacant xs d s) (z : made .answer ≡ 0) where
     spare : 0 < firstFree xs
-    spare = let i : s .index ≡ firstFree xs = ap (λ (s : Seat). s .index) (v .same) in omega (arith, v .low)
+    spare = let i : s .index ≡ firstFree xs = ap (λ (s : Slot). s .index) (v .same) in omega (arith, v .low)
 
     pub opens-passes : rulesOk (opened xs d rest) ≡ true
     opens-passes = opened-passes xs d rest (v .ok) spare (v .number .0) (v .number .1) (v .absent) (rest-long z) (rest-flags z)

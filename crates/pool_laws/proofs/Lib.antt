@@ -6,4 +6,5 @@ pub mod LayingOut
 pub mod Frames
 pub mod Alone
 mod Unwritten
+pub mod Answers
 pub mod Theorems

@@ -8,7 +8,8 @@ use native.Mathlib.Omega.{arith}
 use lib.ListN.{length}
 use Rattle.record_pool.specs.Lists.{same, occ}
 use Rattle.record_pool.specs.Chains.{Rules, holder}
-use Rattle.record_pool.specs.Pool.{place, countOf, firstUsed, firstFree, nextAt, numberAt, flagsAt, flagsIn, stateAt, usedOf, freeOf, rulesOk, recordOf, withHeader, withRecord, opened}
+use Rattle.record_pool.specs.Pool.{place, countOf, firstUsed, firstFree, nextAt, numberAt, flagsAt, stateAt, usedOf, freeOf, rulesOk, recordOf, withHeader, withRecord, opened}
+use Rattle.record_pool.specs.Steps.{flagsIn}
 use Rattle.record_pool.proofs.Occ.{other, same-refl}
 use Rattle.pool_laws.proofs.Kept.{open-kept}
 use Rattle.record_pool.proofs.Bytes.{Agree, agree-trans, behind-next, next-agrees, number-agrees, flags-agree, state-agrees}

@@ -7,7 +7,8 @@ use Prim.Native.Nat.{ℕ, _+_, _-_, _≤_, _<_}
 use lib.ListN.{length}
 use Rattle.record_pool.specs.Lists.{occ}
 use Rattle.record_pool.specs.Chains.{holder}
-use Rattle.record_pool.specs.Pool.{place, countOf, firstUsed, firstFree, nextAt, numberAt, flagsAt, flagsIn, stateAt, usedOf, freeOf, rulesOk, recordOf, withState}
+use Rattle.record_pool.specs.Pool.{place, countOf, firstUsed, firstFree, nextAt, numberAt, flagsAt, stateAt, usedOf, freeOf, rulesOk, recordOf, withState}
+use Rattle.record_pool.specs.Steps.{flagsIn}
 use Rattle.record_pool.proofs.Occ.{Either, equal, other, either}
 use Rattle.pool_laws.proofs.Kept.{kept-still}
 use Rattle.record_pool.proofs.Bytes.{Agree, behind-next, next-agrees, number-agrees, flags-agree, state-agrees}

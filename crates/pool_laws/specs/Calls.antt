@@ -9,7 +9,8 @@ use Rattle.pool_drawers.specs.Drawers.{layOut, opening, remove, list}
 use Rattle.pool_settings.specs.Settings.{Setting, set}
 use Rattle.pool_judging.specs.Judging.{Judged}
 
--- What a judgment takes: the bytes of the reading and of the last descriptor, the lent buffers, and the slices that it may write.
+-- What a judgment takes: the bytes of the reading and of the last descriptor, the lent buffers, and the slices that it may write, as they stand: what it does not write
+-- of them stays.
 pub record Asked : Type 0 where
   pub reading : List ℕ
   pub last : List ℕ
@@ -20,7 +21,7 @@ pub record Asked : Type 0 where
   pub verdict : List ℕ
 
 -- What it tells: its answer, and those slices afterwards.
-pub record Told : Type 0 where
+pub record Reply : Type 0 where
   pub answer : ℕ
   pub expected : List Float
   pub high : List Float
@@ -34,7 +35,7 @@ pub data Call : Type 0 where
   removes : (drawer answer : ℕ) → List ℕ → Call
   lists : List ℕ → ℕ → List ℕ → Call
   sets : (drawer : ℕ) → Setting → ℕ → List ℕ → Call
-  judges : (drawer : ℕ) → Asked → Told → List ℕ → Call
+  judges : (drawer : ℕ) → Asked → Reply → List ℕ → Call
 
 -- The call kept its contract over the pool xs.
 abbrev pub Contract : List ℕ → Call → Type 0
@@ -54,6 +55,15 @@ after xs (removes d n ys) = ys
 after xs (lists out n out′) = xs
 after xs (sets d c n ys) = ys
 after xs (judges d a t ys) = ys
+
+-- What it answered.
+abbrev pub answerOf : Call → ℕ
+answerOf (lays-out n ys) = n
+answerOf (opens d discount adjust base n ys) = n
+answerOf (removes d n ys) = n
+answerOf (lists out n out′) = n
+answerOf (sets d c n ys) = n
+answerOf (judges d a t ys) = t .answer
 
 -- Each over the bytes that the one before it left; a refused one is among them.
 abbrev pub InTurn : List ℕ → List Call → Type 0

@@ -5,13 +5,11 @@ use mathlib.Core.Logic.{_≢_}
 use mathlib.Core.Bool.{true, cond}
 use mathlib.Core.List.{List, [], _∷_}
 use lib.Dec.{eqb}
-use Rattle.types.specs.Refusals.{answered}
-use Rattle.layout.specs.Chain.{decodeState}
-use Rattle.layout.specs.Left.{Left, left}
+use Rattle.layout.specs.Left.{left}
 use Rattle.c_judging.specs.Judging.{Answered}
 use Rattle.record_pool.specs.Pool.{rulesOk, recordOf, stateOf}
-use Rattle.pool_settings.specs.Settings.{Setting, changed, storedUnlessSame}
-use Rattle.pool_laws.specs.Calls.{Asked, Told, Call, lays-out, opens, removes, lists, sets, judges, InTurn, afterAll}
+use Rattle.pool_settings.specs.Settings.{Setting, setOn}
+use Rattle.pool_laws.specs.Calls.{Asked, Reply, Call, lays-out, opens, removes, lists, sets, judges, InTurn, afterAll}
 
 -- ---- of a list of calls, those that judge in drawer d or set it: what each asks, and what it is told
 pub data Ask : Type 0 where
@@ -20,7 +18,7 @@ pub data Ask : Type 0 where
 
 pub data Tell : Type 0 where
   answer : ℕ → Tell
-  judged : Told → Tell
+  judged : Reply → Tell
 
 abbrev pub asks : ℕ → List Call → List Ask
 asks d [] = []
@@ -51,12 +49,6 @@ Stays d (sets e c n ys ∷ cs) = Stays d cs
 Stays d (judges e a t ys ∷ cs) = Stays d cs
 
 -- ---- the same over a state's bytes alone
--- A setting on the bytes of a state.
-abbrev pub setOn : Setting → List ℕ → Left
-setOn c zs =
-    let u = changed c (decodeState zs) in
-    cond (eqb (answered (u .answer)) 0) (left 0 (storedUnlessSame zs (u .state))) (left (answered (u .answer)) zs)
-
 -- The asks in turn over the bytes zs are told the tells, and the bytes zs′ are left.
 abbrev pub Alone : List ℕ → List Ask → List Tell → List ℕ → Type 0
 Alone zs [] [] zs′ = zs′ ≡ zs

@@ -1,9 +1,10 @@
--- Rule 13 and what each call does to the two chains: what this crate proves. Definitions only.
+-- Rule 13, and what each call does to the two chains: what this crate proves. The quoted words are document 02's. Definitions only.
 use Prim.Native.Nat.{ℕ, zero, suc, _+_, _≤_, _<_}
 use mathlib.Core.Path.{_≡_}
+use mathlib.Core.Logic.{_≢_}
 use mathlib.Core.Bool.{true, cond}
 use mathlib.Core.List.{List, [], _∷_, _++_}
-use lib.Dec.{eqb}
+use lib.Dec.{eqb, ltb}
 use lib.ListN.{length, getD, replicate}
 use lib.Ieee.{Float}
 use Rattle.layout.specs.Chain.{encodeStateOver}
@@ -13,7 +14,8 @@ use Rattle.record_pool.specs.Lists.{occ}
 use Rattle.record_pool.specs.Chains as Chains
 use Rattle.record_pool.specs.Pool.{poolLength, place, countOf, firstUsed, firstFree, nextAt, numberAt, flagsAt, stateOf, usedOf, freeOf, rulesOk, recordOf, numbersOf}
 use Rattle.pool_drawers.specs.Drawers.{laidOut, opening, remove}
-use Rattle.pool_laws.specs.Calls.{Call, Contract, after}
+use Rattle.pool_settings.specs.Settings.{Setting}
+use Rattle.pool_laws.specs.Calls.{Asked, Reply, Call, sets, judges, Contract, after, answerOf}
 
 -- Document 02's words of a pool whose used chain is us and whose free chain is fs.
 abbrev pub Words : List ℕ → List ℕ → List ℕ → Type 0
@@ -30,17 +32,22 @@ pub record PoolRules : Type 0 where
   pub meant : (xs us fs : List ℕ) → length xs ≡ poolLength → Words xs us fs → (rulesOk xs ≡ true) × (usedOf xs ≡ us) × (freeOf xs ≡ fs)
   -- An empty pool passes; its free chain runs from 1 to 30.
   pub empty : (rulesOk laidOut ≡ true) × (usedOf laidOut ≡ []) × (freeOf laidOut ≡ upFrom 30 1)
-  -- Every call keeps a pool that passes one that does.
-  pub kept : (xs : List ℕ) (c : Call) → Contract xs c → rulesOk xs ≡ true → rulesOk (after xs c) ≡ true
+  -- "After every call that 13 doesn't refuse" the rules hold, and a refused call changes no byte.
+  pub kept : (xs : List ℕ) (c : Call) → Contract xs c → answerOf c ≢ 13 → rulesOk (after xs c) ≡ true
+  pub refused : (xs : List ℕ) (c : Call) → Contract xs c → answerOf c ≢ 0 → after xs c ≡ xs
   -- An opening takes the first free record and makes it the first used, with a new state.
   pub opened : (xs : List ℕ) (d : ℕ) (discount : Float) (adjust base : ℕ) → let o = opening d discount adjust base xs in o .answer ≡ 0
       → (usedOf (o .bytes) ≡ firstFree xs ∷ usedOf xs) × (freeOf xs ≡ firstFree xs ∷ freeOf (o .bytes)) × (recordOf (o .bytes) d ≡ firstFree xs)
       × (stateOf (o .bytes) d ≡ encodeStateOver (replicate stateLength 0) (new discount (eqb adjust 1) base .state))
-  -- A removed drawer's record becomes the first free, its other bytes zero; the other drawers' order stays.
+  -- A removed drawer is gone; its record becomes the first free, its other bytes zero, and the used chain is what it was without it.
   pub removed : (xs : List ℕ) (d : ℕ) → let o = remove d xs in o .answer ≡ 0
-      → (freeOf (o .bytes) ≡ recordOf xs d ∷ freeOf xs)
+      → (recordOf (o .bytes) d ≡ 0) × (freeOf (o .bytes) ≡ recordOf xs d ∷ freeOf xs)
       × ((ys : List ℕ) × (zs : List ℕ) × (usedOf xs ≡ ys ++ recordOf xs d ∷ zs) × (usedOf (o .bytes) ≡ ys ++ zs))
       × ((n : ℕ) → place (recordOf xs d) + 4 ≤ n → n < place (recordOf xs d) + 2048 → getD (o .bytes) n 0 ≡ 0)
-  -- A listing has thirty places; of the numbers above 0 it has each that is a drawer's once, and no other.
+  -- A setting and a judgment leave both chains.
+  pub set-stays : (xs : List ℕ) (d : ℕ) (c : Setting) (n : ℕ) (ys : List ℕ) → Contract xs (sets d c n ys) → (usedOf ys ≡ usedOf xs) × (freeOf ys ≡ freeOf xs)
+  pub judged-stays : (xs : List ℕ) (d : ℕ) (a : Asked) (t : Reply) (ys : List ℕ) → Contract xs (judges d a t ys) → (usedOf ys ≡ usedOf xs) × (freeOf ys ≡ freeOf xs)
+  -- A listing has thirty places: at place k, counted from 0, the number of the used record there, and zeros from the count on. Each drawer stands in it once.
   pub listed : (xs : List ℕ) → rulesOk xs ≡ true
-      → (length (numbersOf xs) ≡ 30) × ((d : ℕ) → 1 ≤ d → occ d (numbersOf xs) ≡ cond (eqb (recordOf xs d) 0) 0 1)
+      → (length (numbersOf xs) ≡ 30) × ((k : ℕ) → getD (numbersOf xs) k 0 ≡ cond (ltb k (countOf xs)) (numberAt xs (getD (usedOf xs) k 0)) 0)
+      × ((d : ℕ) → 1 ≤ d → occ d (numbersOf xs) ≡ cond (eqb (recordOf xs d) 0) 0 1)

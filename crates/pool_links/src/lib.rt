@@ -4,7 +4,8 @@ ghost use mathlib.Core.Path.{_≡_};
 ghost use mathlib.Core.Bool.{cond};
 ghost use Prim.Native.Nat.{_-_};
 ghost use lib.Dec.{eqb};
-ghost use Rattle.pool_links.specs.Links as Links;
+ghost use Rattle.pool_links.specs.Numbers as Numbers;
+ghost use Rattle.pool_links.specs.Steps as Steps;
 
 // The records of a pool, and so the most drawers.
 const RECORDS: usize = 30;
@@ -27,13 +28,13 @@ pub struct Link {
 }
 
 pub fn is_number(n: u32) -> bool
-    ensures { λ r. ⌜ r ≡ Links.isNumber n ⌝ }
+    ensures { λ r. ⌜ r ≡ Numbers.isNumber n ⌝ }
 {
     (1 <= n) & (n <= LARGEST_NUMBER)
 }
 
 pub fn counts_agree(count: usize, used: usize, free: usize) -> bool
-    ensures { λ r. ⌜ r ≡ Links.countsAgree count used free ⌝ }
+    ensures { λ r. ⌜ r ≡ Steps.countsAgree count used free ⌝ }
 {
     if used == count {
         if used <= RECORDS {
@@ -46,7 +47,7 @@ pub fn counts_agree(count: usize, used: usize, free: usize) -> bool
 }
 
 fn raised(count: u32) -> u32
-    ensures { λ r. ⌜ r ≡ Links.raised count ⌝ }
+    ensures { λ r. ⌜ r ≡ Steps.raised count ⌝ }
 {
     if count < MOST_DRAWERS {
         return count + 1;
@@ -55,7 +56,7 @@ fn raised(count: u32) -> u32
 }
 
 pub fn opened(index: u32, next: u32, count: u32) -> Header
-    ensures { λ r. ⌜ r ≡ Links.opened index next count ⌝ }
+    ensures { λ r. ⌜ r ≡ Steps.opened index next count ⌝ }
 {
     Header {
         count: raised(count),
@@ -83,7 +84,7 @@ fn first_used(front: u32, next: u32, used: u32) -> u32
 }
 
 pub fn removed(index: u32, front: u32, next: u32, count: u32, used: u32) -> Header
-    ensures { λ r. ⌜ r ≡ Links.removed index front next count used ⌝ }
+    ensures { λ r. ⌜ r ≡ Steps.removed index front next count used ⌝ }
 {
     Header {
         count: lowered(count),
@@ -92,15 +93,8 @@ pub fn removed(index: u32, front: u32, next: u32, count: u32, used: u32) -> Head
     }
 }
 
-// What the record in front of a removed one leads to: past it.
-pub fn mended(index: u32, behind: u32) -> u32
-    ensures { λ r. ⌜ r ≡ Links.mended index behind ⌝ }
-{
-    behind
-}
-
 pub fn opened_link(used: u32, drawer: u32) -> Link
-    ensures { λ r. ⌜ r ≡ Links.openedLink used drawer ⌝ }
+    ensures { λ r. ⌜ r ≡ Steps.openedLink used drawer ⌝ }
 {
     Link {
         next: used,
@@ -109,7 +103,7 @@ pub fn opened_link(used: u32, drawer: u32) -> Link
 }
 
 pub fn removed_link(free: u32) -> Link
-    ensures { λ r. ⌜ r ≡ Links.removedLink free ⌝ }
+    ensures { λ r. ⌜ r ≡ Steps.removedLink free ⌝ }
 {
     Link {
         next: free,

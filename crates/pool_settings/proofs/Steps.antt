@@ -21,22 +21,22 @@ use Rattle.layout.specs.Chain.{decodeState, encodeStateOver}
 use Rattle.layout.specs.Left.{Left, left}
 use Rattle.c_chain.specs.States.{chainRefusal, chainSet, horizonSetIn}
 use Rattle.record_pool.specs.Pool.{locate, place, stateAt, withState}
-use Rattle.record_pool.specs.declared.Seat.{Seat}
+use Rattle.record_pool.specs.declared.Slot.{Slot}
 use Rattle.record_pool.specs.declared.Located.{Located}
 use Rattle.record_pool.specs.declared.Located.the-variants as Places
-use Rattle.record_pool.proofs.Locating.{Seated, located}
+use Rattle.record_pool.proofs.Locating.{Occupied, located}
 use Rattle.record_pool.proofs.Putting.{part-put}
 use Rattle.pool_settings.specs.Sameness.{sameFloat, sameState}
-use Rattle.pool_settings.specs.Settings.{Setting, horizon, storedUnlessSame, changed, storedAt, setBy, set}
+use Rattle.pool_settings.specs.Settings.{Setting, horizon, storedUnlessSame, changed, storedOn, setOn, inRecord, setBy, set}
 use Rattle.pool_settings.specs.Steps.{foundBy, found, horizonAnswer}
 use Rattle.pool_settings.specs.declared.Found.{Found}
 use Rattle.pool_settings.specs.declared.Found.the-variants.{State, Same, Refused}
 use Rattle.pool_settings.proofs.Sameness.{horizon-compared}
-use Rattle.pool_settings.proofs.Stored.{state-single, state-long, state-kept, seated-fits, seated-ready}
+use Rattle.pool_settings.proofs.Stored.{state-single, state-long, state-kept, occupied-fits, occupied-ready}
 
 -- ---- `find`.
 module _ (xs : List ℕ) (d k : ℕ) (x : Float) where
-  pub found-there : (s : Seat) (n : ℕ) (y : Float) (b c : Bool) → locate xs d ≡ Places.At s → n ≡ le4 xs (s .state + k) → y ≡ ofBits binary32 n → b ≡ sameFloat y x → b ≡ c
+  pub found-there : (s : Slot) (n : ℕ) (y : Float) (b c : Bool) → locate xs d ≡ Places.At s → n ≡ le4 xs (s .state + k) → y ≡ ofBits binary32 n → b ≡ sameFloat y x → b ≡ c
       → cond c Same (State (s .state)) ≡ found xs d k x
   unfolding found f32At
   found-there s n y b c e en ey eb ec =
@@ -49,10 +49,10 @@ module _ (xs : List ℕ) (d k : ℕ) (x : Float) where
 
   -- ---- what its answer tells: the drawer's record, and whether its number at place k is x.
   pub record Met (same : Bool) (from : ℕ) : Type 0 where
-    pub seat : Seat
-    pub there : locate xs d ≡ Places.At seat
-    pub told : sameFloat (f32At xs (seat .state + k)) x ≡ same
-    pub start : from ≡ seat .state
+    pub slot : Slot
+    pub there : locate xs d ≡ Places.At slot
+    pub told : sameFloat (f32At xs (slot .state + k)) x ≡ same
+    pub start : from ≡ slot .state
 
   abbrev Tells : Found → Type 0
   Tells (State from) = Met false from
@@ -63,8 +63,8 @@ module _ (xs : List ℕ) (d k : ℕ) (x : Float) where
   by-located (Places.At s) e = go (sameFloat (f32At xs (s .state + k)) x) refl
     where
       go : (b : Bool) → sameFloat (f32At xs (s .state + k)) x ≡ b → Tells (cond b Same (State (s .state)))
-      go true q = (s .state, record { seat = s; there = e; told = q; start = refl })
-      go false q = record { seat = s; there = e; told = q; start = refl }
+      go true q = (s .state, record { slot = s; there = e; told = q; start = refl })
+      go false q = record { slot = s; there = e; told = q; start = refl }
   by-located (Places.Refused why) e = e
 
   tells : (f : Found) → f ≡ found xs d k x → (g : Found) → f ≡ g → Tells g
@@ -74,29 +74,29 @@ module _ (xs : List ℕ) (d k : ℕ) (x : Float) where
   -- ---- the record that was met.
   module _ (same : Bool) (from : ℕ) (m : Met same from) where
     abbrev index : ℕ
-    index = m .seat .index
+    index = m .slot .index
 
-    seated-is : Seated xs d (m .seat)
-    seated-is = located xs d (m .seat) (m .there)
+    occupied-is : Occupied xs d (m .slot)
+    occupied-is = located xs d (m .slot) (m .there)
 
     room : (from + stateLength ≤ 61472) × (length xs ≡ 61472)
-    room = let s = seated-is in (omega (arith, m .start, s .room), s .size)
+    room = let s = occupied-is in (omega (arith, m .start, s .room), s .size)
 
     begins : from ≡ place index + 8
-    begins = m .start ∙ seated-is .place
+    begins = m .start ∙ occupied-is .place
 
     fits : place index + 8 + stateLength ≤ length xs
-    fits = seated-fits xs d (m .seat) seated-is
+    fits = occupied-fits xs d (m .slot) occupied-is
 
     ready : chainRefusal (stateAt xs index) ≡ 0
-    ready = seated-ready xs d (m .seat) seated-is
+    ready = occupied-ready xs d (m .slot) occupied-is
 
     number-is : k + 4 ≤ stateLength → sameFloat (f32At (stateAt xs index) k) x ≡ same
     number-is h =
-        ap (λ (z : Float). sameFloat z x) (state-single xs index k h ∙ ap (λ (n : ℕ). f32At xs (n + k)) (sym (seated-is .place))) ∙ m .told
+        ap (λ (z : Float). sameFloat z x) (state-single xs index k h ∙ ap (λ (n : ℕ). f32At xs (n + k)) (sym (occupied-is .place))) ∙ m .told
 
-    set-is : (c : Setting) → set c d xs ≡ storedAt (changed c (decodeState (stateAt xs index))) xs index
-    unfolding set
+    set-is : (c : Setting) → set c d xs ≡ inRecord xs index (storedOn (changed c (decodeState (stateAt xs index))) (stateAt xs index))
+    unfolding set setOn
     set-is c = ap (λ (l : Located). setBy l c xs) (m .there)
 
     -- The part that is lent to the setter is the state, and the pool afterwards has its bytes in place of the state.
@@ -125,25 +125,25 @@ module _ (xs : List ℕ) (d k : ℕ) (x : Float) where
   module _ (small : k + 4 ≤ stateLength) (c : Setting) (f : PredictorCorrector → PredictorCorrector) (plain : (s : PredictorCorrector) → changed c s ≡ updated Done (f s))
       (compared : (ys : List ℕ) → sameState (decodeState ys) (f (decodeState ys)) ≡ sameFloat (f32At ys k) x) where
     stored : (same : Bool) (from : ℕ) (m : Met same from) → set c d xs
-        ≡ left 0 (withState xs (m .seat .index) (cond same (stateAt xs (m .seat .index)) (encodeStateOver (stateAt xs (m .seat .index)) (f (decodeState (stateAt xs (m .seat .index)))))))
-    unfolding storedAt storedUnlessSame
+        ≡ left 0 (withState xs (m .slot .index) (cond same (stateAt xs (m .slot .index)) (encodeStateOver (stateAt xs (m .slot .index)) (f (decodeState (stateAt xs (m .slot .index)))))))
+    unfolding storedUnlessSame
     stored same from m =
-        let i = m .seat .index in
+        let i = m .slot .index in
         let ys = stateAt xs i in
-        set-is same from m c ∙ ap (λ (u : Updated). storedAt u xs i) (plain (decodeState ys))
+        set-is same from m c ∙ ap (λ (u : Updated). inRecord xs i (storedOn u ys)) (plain (decodeState ys))
         ∙ ap (λ (b : Bool). left 0 (withState xs i (cond b ys (encodeStateOver ys (f (decodeState ys)))))) (compared ys ∙ number-is same from m small)
 
     pub set-same : (g : Found) → g ≡ found xs d k x → g ≡ Same → left 0 xs ≡ set c d xs
     set-same g e q =
         let m = tells g e Same q in
-        sym (stored true (m .0) (m .1) ∙ ap (left 0) (state-kept xs (m .1 .seat .index) (fits true (m .0) (m .1))))
+        sym (stored true (m .0) (m .1) ∙ ap (left 0) (state-kept xs (m .1 .slot .index) (fits true (m .0) (m .1))))
 
     pub set-other : (g : Found) → g ≡ found xs d k x → (from : ℕ) → g ≡ State from → (r : ℕ) (ys : List ℕ) → length ys ≡ length (take (from + stateLength - from) (drop from xs))
         → left r ys ≡ chainSet f (take (from + stateLength - from) (drop from xs)) → left r (take from xs ++ (ys ++ drop (from + stateLength - from) (drop from xs))) ≡ set c d xs
     unfolding chainSet
     set-other g e from q r ys long h =
         let m = tells g e (State from) q in
-        let i = m .seat .index in
+        let i = m .slot .index in
         let done : left r ys ≡ left 0 (encodeStateOver (stateAt xs i) (f (decodeState (stateAt xs i)))) = h ∙ ap (chainSet f) (part-is false from m) ∙ rw (ready false from m) in
         ap (left r) (whole-is false from m ys long) ∙ ap (λ (l : Left). left (l .answer) (withState xs i (l .bytes))) done ∙ sym (stored false from m)
 
@@ -174,10 +174,10 @@ module _ (xs : List ℕ) (d : ℕ) (x : Float) where
   at = scoreDifferencingAt
 
   kept : isHorizon x ≡ false → (same : Bool) (from : ℕ) → Met xs d at x same from → left 7 xs ≡ set (horizon x) d xs
-  unfolding storedAt
   kept h same from m =
-      let i = m .seat .index in
-      sym (set-is xs d at x same from m (horizon x) ∙ ap (λ (u : Updated). storedAt u xs i) (invalid x h (decodeState (stateAt xs i))))
+      let i = m .slot .index in
+      sym (set-is xs d at x same from m (horizon x) ∙ ap (λ (u : Updated). inRecord xs i (storedOn u (stateAt xs i))) (invalid x h (decodeState (stateAt xs i)))
+      ∙ ap (left 7) (state-kept xs i (fits xs d at x same from m)))
 
   module _ (g : Found) (e : g ≡ found xs d at x) where
     pub horizon-same : g ≡ Same → (n : ℕ) → n ≡ horizonAnswer x → left n xs ≡ set (horizon x) d xs
@@ -206,7 +206,7 @@ module _ (xs : List ℕ) (d : ℕ) (x : Float) where
           go true v =
               set-other xs d at x (omega arith) (horizon x) (withHorizon x) (valid x v) (horizon-compared x) g e from q r ys long (h ∙ set-in x part accepts v)
           go false v =
-              let i = met .seat .index in
+              let i = met .slot .index in
               ap (left r) (whole-is xs d at x false from met ys long)
               ∙ ap (λ (l : Left). left (l .answer) (withState xs i (l .bytes))) (h ∙ kept-in x part accepts v ∙ ap (left 7) (part-is xs d at x false from met))
               ∙ ap (left 7) (state-kept xs i (fits xs d at x false from met)) ∙ kept v false from met

@@ -14,9 +14,9 @@ use Rattle.layout.specs.Numbers.{le4, f32At, pasted}
 use Rattle.layout.specs.Chain.{stateCodesOk}
 use Rattle.c_chain.specs.States.{chainRefusal}
 use Rattle.record_pool.specs.Pool.{place, recordOf, flagsAt, stateAt, withState}
-use Rattle.record_pool.specs.declared.Seat.{Seat}
+use Rattle.record_pool.specs.declared.Slot.{Slot}
 use Rattle.record_pool.proofs.Passing.{passes}
-use Rattle.record_pool.proofs.Locating.{Seated, its-used}
+use Rattle.record_pool.proofs.Locating.{Occupied, its-used}
 
 -- ---- record i.
 module _ (xs : List ℕ) (i : ℕ) where
@@ -68,12 +68,12 @@ module _ (xs : List ℕ) (i : ℕ) where
       state-ready = rw (eq-eqb (length (stateAt xs i)) stateLength state-long, codes)
 
 -- ---- the record of a drawer that is there.
-module _ (xs : List ℕ) (d : ℕ) (s : Seat) (k : Seated xs d s) where
-  pub seated-fits : place (s .index) + 8 + stateLength ≤ length xs
-  seated-fits = omega (arith, k .place, k .room, k .size)
+module _ (xs : List ℕ) (d : ℕ) (s : Slot) (k : Occupied xs d s) where
+  pub occupied-fits : place (s .index) + 8 + stateLength ≤ length xs
+  occupied-fits = omega (arith, k .place, k .room, k .size)
 
-  pub seated-ready : chainRefusal (stateAt xs (s .index)) ≡ 0
-  seated-ready =
-      let i : s .index ≡ recordOf xs d = ap (λ (s : Seat). s .index) (k .same) in
+  pub occupied-ready : chainRefusal (stateAt xs (s .index)) ≡ 0
+  occupied-ready =
+      let i : s .index ≡ recordOf xs d = ap (λ (s : Slot). s .index) (k .same) in
       let flags = passes xs (k .ok) .flagged (recordOf xs d) (its-used xs d (k .ok) (k .there)) in
-      state-ready xs (s .index) seated-fits (subst (λ (j : ℕ). flagsAt xs j ≡ true) (sym i) flags)
+      state-ready xs (s .index) occupied-fits (subst (λ (j : ℕ). flagsAt xs j ≡ true) (sym i) flags)

@@ -33,14 +33,20 @@ changed (lower-threshold x) s = updated Done (lowerThresholdSet s x)
 changed (initial-threshold x) s = updated Done (initialThresholdSet s x)
 changed (horizon x) s = setHorizon s x
 
--- The pool xs after a setting made the state u of the one in record i: a refused one leaves every byte.
-unfoldable pub storedAt : Updated → List ℕ → ℕ → Left
-storedAt u xs i =
-    cond (eqb (answered (u .answer)) 0) (left 0 (withState xs i (storedUnlessSame (stateAt xs i) (u .state)))) (left (answered (u .answer)) xs)
+-- A setting on the bytes ys of a state, which made u of it: a refused one leaves them.
+abbrev pub storedOn : Updated → List ℕ → Left
+storedOn u ys = cond (eqb (answered (u .answer)) 0) (left 0 (storedUnlessSame ys (u .state))) (left (answered (u .answer)) ys)
+
+unfoldable pub setOn : Setting → List ℕ → Left
+setOn c ys = storedOn (changed c (decodeState ys)) ys
+
+-- What a call on the bytes of the state in record i leaves of the pool xs: no other byte changes.
+abbrev pub inRecord : List ℕ → ℕ → Left → Left
+inRecord xs i l = left (l .answer) (withState xs i (l .bytes))
 
 -- 13, then 11, then the setting's own refusal.
 abbrev pub setBy : Located → Setting → List ℕ → Left
-setBy (At s) c xs = storedAt (changed c (decodeState (stateAt xs (s .index)))) xs (s .index)
+setBy (At s) c xs = inRecord xs (s .index) (setOn c (stateAt xs (s .index)))
 setBy (Refused why) c xs = left (number why) xs
 
 unfoldable pub set : Setting → ℕ → List ℕ → Left

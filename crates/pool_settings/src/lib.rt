@@ -1,4 +1,4 @@
-// The settings of a drawer in a pool, for a host that calls over C: document 01's number, 0 where it is set; a refused call has written nothing, and neither has one
+// The settings of a drawer in a pool, for a host that calls over C: the documents' number, 0 where it is set; a refused call has written nothing, and neither has one
 // that leaves the state the same as it was.
 use record_pool::Located;
 use types::Refusal;
@@ -15,7 +15,7 @@ ghost use Rattle.pool_settings.specs.Steps as Steps;
 // Where in a state the four numbers stand that are set.
 const HORIZON_AT: usize = 8;
 
-const LOWER_THRESHOLD_AT: usize = 125;
+const ABSOLUTE_THRESHOLD_AT: usize = 125;
 
 const INITIAL_THRESHOLD_AT: usize = 141;
 
@@ -67,8 +67,8 @@ fn find(pool: &[u8], drawer: u32, at: usize, x: f32) -> Found
     ensures { λ r. ⌜ r ≡ Steps.found (now (pool .entry)) drawer at x ⌝ }
 {
     match record_pool::locate(pool, drawer) {
-        Located::At(seat) => {
-            let from = seat.state;
+        Located::At(slot) => {
+            let from = slot.state;
             if same(ieee::f32_from_bits(read4(pool, from + at)), x) {
                 return Found::Same;
             }
@@ -109,7 +109,7 @@ pub extern "C" fn krcf_pool_set_z_factor(pool: &mut [u8], drawer: u32, factor: f
 pub extern "C" fn krcf_pool_set_lower_threshold(pool: &mut [u8], drawer: u32, lower: f32) -> u8
     ensures { λ r. ⌜ left r (now (pool .exit)) ≡ Settings.set (Settings.lower-threshold lower) drawer (now (pool .entry)) ⌝ }
 {
-    match find(pool, drawer, LOWER_THRESHOLD_AT, lower) {
+    match find(pool, drawer, ABSOLUTE_THRESHOLD_AT, lower) {
         Found::State(from) => {
             let upto = from + layout::STATE_LENGTH;
             c_chain::krcf_chain_set_lower_threshold(&mut pool[from..upto], lower)

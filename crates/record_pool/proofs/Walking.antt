@@ -9,11 +9,11 @@ use lib.Dec.{eqb, leb, ltb}
 use lib.ListN.{length, getD, take, set, replicate, length-append, getD-replicate}
 use lib.Seq.{getD-set-same, getD-set-other, take-suc-set}
 use borrow.Author.Tests.{eqb-true, eqb-false, eq-eqb, ltb-true, lt-ltb, leb-true, le-leb}
-use Rattle.pool_links.specs.Links.{countsAgree}
+use Rattle.pool_links.specs.Steps.{countsAgree}
 use Rattle.record_pool.specs.Lists.{same, occ, distinct}
 use Rattle.record_pool.specs.Chains.{Chained, isNumber}
 use Rattle.record_pool.specs.Pool.{countOf, firstUsed, firstFree, nextAt, numberAt, flagsAt, usedOf, freeOf, rulesOk}
-use Rattle.record_pool.specs.Steps.{Leads, isFresh, isUnmarked, markPlace, isSound, UsedWalk, FreeWalk, Both}
+use Rattle.record_pool.specs.Steps.{Leads, isUnmarkedAt, isUnmarked, markPlace, isSound, UsedWalk, FreeWalk, Both}
 use Rattle.record_pool.proofs.Occ.{Either, equal, other, either, same-refl, and-left, and-right, and-both, occ-append, distinct-once, once-distinct, sum-full, full-length, at-most}
 use Rattle.record_pool.proofs.Meaning.{number-true, true-number, used-short, free-short}
 use Rattle.record_pool.proofs.Passing.{once-only}
@@ -56,8 +56,8 @@ chain-same f i (u ∷ us) (v ∷ vs) c d =
     ap₂ (λ (a : ℕ) (b : List ℕ). a ∷ b) (sym e) (chain-same f (f u) us vs (c .2) (rw e at (d .2)))
 
 -- ---- tests.
-pub fresh-true : (seen : List ℕ) (at n : ℕ) → isFresh seen at n ≡ true → (n < 30) × (at ≤ 30) × (getD seen at 0 ≡ 0)
-unfolding isFresh isUnmarked
+pub fresh-true : (seen : List ℕ) (at n : ℕ) → isUnmarkedAt seen at n ≡ true → (n < 30) × (at ≤ 30) × (getD seen at 0 ≡ 0)
+unfolding isUnmarkedAt isUnmarked
 fresh-true seen at n h =
     let a = and-left (ltb n 30 && leb at 30) (eqb (getD seen at 0) 0) h in (
       ltb-true n 30 (and-left (ltb n 30) (leb at 30) a),
@@ -65,8 +65,8 @@ fresh-true seen at n h =
       eqb-true (getD seen at 0) 0 (and-right (ltb n 30 && leb at 30) (eqb (getD seen at 0) 0) h),
     )
 
-pub true-fresh : (seen : List ℕ) (at n : ℕ) → n < 30 → at ≤ 30 → getD seen at 0 ≡ 0 → isFresh seen at n ≡ true
-unfolding isFresh isUnmarked
+pub true-fresh : (seen : List ℕ) (at n : ℕ) → n < 30 → at ≤ 30 → getD seen at 0 ≡ 0 → isUnmarkedAt seen at n ≡ true
+unfolding isUnmarkedAt isUnmarked
 true-fresh seen at n a b c = and-both (ltb n 30 && leb at 30) (eqb (getD seen at 0) 0) (and-both (ltb n 30) (leb at 30) (lt-ltb n 30 a) (le-leb at 30 b)) (eq-eqb _ 0 c)
 
 pub sound-true : (xs : List ℕ) (at : ℕ) → isSound xs at ≡ true → (1 ≤ numberAt xs at) × (numberAt xs at ≤ 65535) × (flagsAt xs at ≡ true)
@@ -117,7 +117,7 @@ module _ (xs : List ℕ) where
     flagged = λ j k. absurd (omega arith);
   }
 
-  pub used-step : (at n : ℕ) (seen numbers us : List ℕ) → length seen ≡ 31 → length numbers ≡ 30 → 0 < at → isFresh seen at n ≡ true → isSound xs at ≡ true
+  pub used-step : (at n : ℕ) (seen numbers us : List ℕ) → length seen ≡ 31 → length numbers ≡ 30 → 0 < at → isUnmarkedAt seen at n ≡ true → isSound xs at ≡ true
       → UsedWalk xs at n seen numbers us → UsedWalk xs (nextAt xs at) (n + 1) (set seen at 1) (set numbers n (numberAt xs at)) (us ++ at ∷ [])
   used-step at n seen numbers us ls ln h f s w =
       let image : take (n + 1) (set numbers n (numberAt xs at)) ≡ map (numberAt xs) (us ++ at ∷ []) =
@@ -176,7 +176,7 @@ module _ (xs : List ℕ) where
       free-short (countOf xs) (numberAt xs) (flagsAt xs) (usedOf xs) (freeOf xs)
       (record { counted = r .counted; once = r .once; within = r .within; ranged = r .ranged; apart = r .apart; flagged = r .flagged })
 
-  pub used-broken : (at n : ℕ) (seen numbers us : List ℕ) → 0 < at → UsedWalk xs at n seen numbers us → isFresh seen at n ≡ false → rulesOk xs ≡ false
+  pub used-broken : (at n : ℕ) (seen numbers us : List ℕ) → 0 < at → UsedWalk xs at n seen numbers us → isUnmarkedAt seen at n ≡ false → rulesOk xs ≡ false
   used-broken at n seen numbers us h w f = refuted (rulesOk xs) (λ ok.
       let t = used-there at n seen numbers us h w ok in
       let rest : List ℕ = t .0 in
@@ -190,7 +190,7 @@ module _ (xs : List ℕ) where
       let q = short-used ok in
       let k = w .long in
       let c = once-only r at in
-      not-both (isFresh seen at n) (true-fresh seen at n (omega arith) (b .1) (omega arith)) f)
+      not-both (isUnmarkedAt seen at n) (true-fresh seen at n (omega arith) (b .1) (omega arith)) f)
 
   pub used-unsound : (at n : ℕ) (seen numbers us : List ℕ) → 0 < at → UsedWalk xs at n seen numbers us → isSound xs at ≡ false → rulesOk xs ≡ false
   used-unsound at n seen numbers us h w f = refuted (rulesOk xs) (λ ok.
@@ -211,7 +211,7 @@ module _ (xs : List ℕ) where
     within = λ j k. w .within j (omega arith);
   }
 
-  pub free-step : (at n : ℕ) (seen us fs : List ℕ) → length seen ≡ 31 → 0 < at → isFresh seen at n ≡ true
+  pub free-step : (at n : ℕ) (seen us fs : List ℕ) → length seen ≡ 31 → 0 < at → isUnmarkedAt seen at n ≡ true
       → FreeWalk xs at n seen us fs → FreeWalk xs (nextAt xs at) (n + 1) (set seen at 1) us (fs ++ at ∷ [])
   free-step at n seen us fs ls h f w = record {
     whole = leads-more (nextAt xs) (firstFree xs) fs at h (w .whole);
@@ -241,7 +241,7 @@ module _ (xs : List ℕ) where
       chain-same (nextAt xs) (firstUsed xs) (usedOf xs) us ((passes xs ok) .walk-used) (leads-end (nextAt xs) (firstUsed xs) us (w .whole))
 
   pub free-broken : (at n m : ℕ) (seen seen₀ numbers us fs : List ℕ) → 0 < at → UsedWalk xs 0 m seen₀ numbers us → FreeWalk xs at n seen us fs
-      → isFresh seen at n ≡ false → rulesOk xs ≡ false
+      → isUnmarkedAt seen at n ≡ false → rulesOk xs ≡ false
   free-broken at n m seen seen₀ numbers us fs h u w f = refuted (rulesOk xs) (λ ok.
       let r = passes xs ok in
       let t = leads-next (nextAt xs) (firstFree xs) fs at (freeOf xs) (w .whole) (r .walk-free) h in
@@ -256,7 +256,7 @@ module _ (xs : List ℕ) where
       let q = short-free ok in
       let k = w .long in
       let c = once-only r at in
-      not-both (isFresh seen at n) (true-fresh seen at n (omega arith) (b .1) (omega arith)) f)
+      not-both (isUnmarkedAt seen at n) (true-fresh seen at n (omega arith) (b .1) (omega arith)) f)
 
   -- ---- the end.
   module _ (used free : ℕ) (numbers : List ℕ) (b : Both xs used free numbers) where
@@ -310,14 +310,14 @@ module _ (xs : List ℕ) where
 
 -- ---- the same in the functions' own terms.
 pub used-again : (xs : List ℕ) (at n next number : ℕ) (seen numbers : List ℕ) (fresh sound : Bool) → length seen ≡ 31 → length numbers ≡ 30 → 0 < at
-    → fresh ≡ isFresh seen at n → fresh ≡ true → sound ≡ isSound xs at → sound ≡ true → next ≡ nextAt xs at → number ≡ numberAt xs at
+    → fresh ≡ isUnmarkedAt seen at n → fresh ≡ true → sound ≡ isSound xs at → sound ≡ true → next ≡ nextAt xs at → number ≡ numberAt xs at
     → (us : List ℕ) × UsedWalk xs at n seen numbers us
     → (us : List ℕ) × UsedWalk xs next (n + 1) (set seen at 1) (set numbers n number) us
 used-again xs at n next number seen numbers fresh sound ls ln h f t s u en em w =
     (w .0 ++ at ∷ [], rw (en, em) (used-step xs at n seen numbers (w .0) ls ln h (sym f ∙ t) (sym s ∙ u) (w .1)))
 
 pub free-again : (xs : List ℕ) (at n next used : ℕ) (seen seen₀ numbers : List ℕ) (fresh : Bool) → length seen ≡ 31 → 0 < at
-    → fresh ≡ isFresh seen at n → fresh ≡ true → next ≡ nextAt xs at
+    → fresh ≡ isUnmarkedAt seen at n → fresh ≡ true → next ≡ nextAt xs at
     → (us : List ℕ) × (fs : List ℕ) × UsedWalk xs 0 used seen₀ numbers us × FreeWalk xs at n seen us fs
     → (us : List ℕ) × (fs : List ℕ) × UsedWalk xs 0 used seen₀ numbers us × FreeWalk xs next (n + 1) (set seen at 1) us fs
 free-again xs at n next used seen seen₀ numbers fresh ls h f t en w =
@@ -329,7 +329,7 @@ free-first xs at start used seen numbers z e w =
     let u : UsedWalk xs 0 used seen numbers (w .0) = rw z at (w .1) in
     (w .0, [], u, rw e (free-begin xs used seen numbers (w .0) u))
 
-pub fresh-bounds : (seen : List ℕ) (at n : ℕ) (fresh : Bool) → fresh ≡ isFresh seen at n → fresh ≡ true → (n < 30) × (at ≤ 30)
+pub fresh-bounds : (seen : List ℕ) (at n : ℕ) (fresh : Bool) → fresh ≡ isUnmarkedAt seen at n → fresh ≡ true → (n < 30) × (at ≤ 30)
 fresh-bounds seen at n fresh f t = let r = fresh-true seen at n (sym f ∙ t) in (r .0, r .1)
 
 -- What `broken` tells.
@@ -387,8 +387,8 @@ both-small xs fine used free numbers w t =
     )
 
 -- The mark that the code looks at.
-pub fresh-is : (seen : List ℕ) (at n slot : ℕ) (b : Bool) → slot ≡ markPlace at → b ≡ isUnmarked (getD seen slot 0) at n → b ≡ isFresh seen at n
-unfolding isFresh isUnmarked markPlace
+pub fresh-is : (seen : List ℕ) (at n slot : ℕ) (b : Bool) → slot ≡ markPlace at → b ≡ isUnmarked (getD seen slot 0) at n → b ≡ isUnmarkedAt seen at n
+unfolding isUnmarkedAt isUnmarked markPlace
 fresh-is seen at n slot b es e = e ∙ ap (λ (s : ℕ). isUnmarked (getD seen s 0) at n) es ∙ go (leb at 30) refl
   where
     go : (t : Bool) → leb at 30 ≡ t → isUnmarked (getD seen (markPlace at) 0) at n ≡ isUnmarked (getD seen at 0) at n

@@ -11,7 +11,8 @@ use lib.Seq.{getD-append-add, getD-take, getD-drop, ext-getD}
 use Rattle.layout.specs.Places.{stateLength}
 use Rattle.layout.specs.Numbers.{le4, bytes4, pasted}
 use Rattle.layout.proofs.Pasting.{pasted-length}
-use Rattle.record_pool.specs.Pool.{place, countOf, firstUsed, firstFree, nextAt, numberAt, flagsAt, flagsIn, withHeader, withNext, withRecord, withState}
+use Rattle.record_pool.specs.Pool.{place, countOf, firstUsed, firstFree, nextAt, numberAt, flagsAt, withHeader, withNext, withRecord, withState}
+use Rattle.record_pool.specs.Steps.{flagsIn}
 use Rattle.record_pool.proofs.Bytes.{Agree, byte-before, byte-behind, le4-agree, le4-within, byte-at, first-number, second-number, third-number, length-bytes4, place-high, others-agree, header-agrees, records-agree}
 
 -- The three numbers of the header agree where its bytes do.

@@ -5,7 +5,7 @@ use mathlib.Core.Bool.{Bool, true, cond, _&&_}
 use mathlib.Core.List.{List, [], _∷_, map}
 use lib.Dec.{eqb, leb}
 use lib.ListN.{length}
-unfoldable pub use Rattle.pool_links.specs.Links.{isNumber}
+unfoldable pub use Rattle.pool_links.specs.Numbers.{isNumber}
 use Rattle.record_pool.specs.Lists.{occ, every, distinct, downFrom}
 
 -- The records from i on, at most k of them.
@@ -23,8 +23,8 @@ Chained next i (x ∷ xs) = (i ≡ x) × (0 < x) × Chained next (next x) xs
 unfoldable pub isRecord : ℕ → Bool
 isRecord i = leb 1 i && leb i 30
 
--- In words: the used chain is us and the free one fs, the count is the used chain's length, each record stands in just one chain and once,
--- and the drawer numbers of used records are in range and held once.
+-- In words: the used chain is us and the free one fs, the count is the used chain's length, each record stands in just one chain and once, the drawer numbers of used
+-- records are in range and held once, and their yes/no bytes are 0 or 1 (`flags`).
 pub record Rules (count used free : ℕ) (next number : ℕ → ℕ) (flags : ℕ → Bool) (us fs : List ℕ) : Type 0 where
   pub walk-used : Chained next used us
   pub walk-free : Chained next free fs

@@ -6,10 +6,10 @@ use mathlib.Core.List.{List, _++_, map}
 use lib.Dec.{eqb, leb}
 use lib.ListN.{length, getD, take, drop, replicate}
 use Rattle.types.specs.declared.Refusal.the-variants as Refusals
-use Rattle.layout.specs.Places.{stateLength}
+use Rattle.layout.specs.Places.{stateLength, autoThresholdAt, autoAdjustAt}
 use Rattle.layout.specs.Numbers.{le4, bytes4, pasted}
 use Rattle.record_pool.specs.Chains.{chain, isNumber, rulesHold, holder, inFront}
-use Rattle.record_pool.specs.declared.Seat.{Seat}
+use Rattle.record_pool.specs.declared.Slot.{Slot}
 use Rattle.record_pool.specs.declared.Listed.{Listed}
 use Rattle.record_pool.specs.declared.Located.{Located}
 use Rattle.record_pool.specs.declared.Located.the-variants.{At, Refused}
@@ -42,22 +42,19 @@ numberAt xs i = le4 xs (place i + 4)
 unfoldable pub stateAt : List ℕ → ℕ → List ℕ
 stateAt xs i = take stateLength (drop (place i + 8) xs)
 
--- The state's two yes/no bytes, its bytes 124 and 149, are 0 or 1.
+-- The state's two yes/no bytes are 0 or 1.
 unfoldable pub flagsAt : List ℕ → ℕ → Bool
-flagsAt xs i = leb (getD xs (place i + 132) 0) 1 && leb (getD xs (place i + 157) 0) 1
-
--- The same of the bytes behind a record's number.
-unfoldable pub flagsIn : List ℕ → Bool
-flagsIn ys = leb (getD ys 124 0) 1 && leb (getD ys 149 0) 1
+flagsAt xs i = leb (getD xs (place i + (8 + autoThresholdAt)) 0) 1 && leb (getD xs (place i + (8 + autoAdjustAt)) 0) 1
 
 -- ---- the two chains, and rule 13
+-- At most 31 records are walked, one more than there are, so that of a chain that does not end one is met twice.
 unfoldable pub usedOf : List ℕ → List ℕ
 usedOf xs = chain 31 (nextAt xs) (firstUsed xs)
 
 unfoldable pub freeOf : List ℕ → List ℕ
 freeOf xs = chain 31 (nextAt xs) (firstFree xs)
 
--- Whether refusal 13 is not of a pool. `Rules` has it in words.
+-- Whether a pool passes the test of 13. `Chains.Rules` has it in words.
 unfoldable pub rulesOk : List ℕ → Bool
 rulesOk xs = eqb (length xs) poolLength && rulesHold (countOf xs) (numberAt xs) (flagsAt xs) (usedOf xs) (freeOf xs)
 
@@ -74,19 +71,19 @@ unfoldable pub stateOf : List ℕ → ℕ → List ℕ
 stateOf xs d = stateAt xs (recordOf xs d)
 
 -- Record i, where its state begins, the used record p in front of it, and the links as they stand.
-abbrev pub seat : List ℕ → ℕ → ℕ → Seat
-seat xs i p = record { index = i; state = place i + 8; front = p; next = nextAt xs i; count = countOf xs; used = firstUsed xs; free = firstFree xs }
+abbrev pub slot : List ℕ → ℕ → ℕ → Slot
+slot xs i p = record { index = i; state = place i + 8; front = p; next = nextAt xs i; count = countOf xs; used = firstUsed xs; free = firstFree xs }
 
 -- A drawer that is there: 13, then 11.
 unfoldable pub locate : List ℕ → ℕ → Located
 locate xs d =
-    cond (rulesOk xs) (cond (eqb (recordOf xs d) 0) (Refused Refusals.Drawer) (At (seat xs (recordOf xs d) (frontOf xs d)))) (Refused Refusals.Pool)
+    cond (rulesOk xs) (cond (eqb (recordOf xs d) 0) (Refused Refusals.Drawer) (At (slot xs (recordOf xs d) (frontOf xs d)))) (Refused Refusals.Pool)
 
 -- The record for a drawer that is to be opened: 13, then 11 for a number that is not 1 to 65,535 or is there already, then 12.
 unfoldable pub vacancy : List ℕ → ℕ → Located
 vacancy xs d =
     cond (rulesOk xs)
-    (cond (isNumber d && eqb (recordOf xs d) 0) (cond (eqb (firstFree xs) 0) (Refused Refusals.Full) (At (seat xs (firstFree xs) 0))) (Refused Refusals.Drawer))
+    (cond (isNumber d && eqb (recordOf xs d) 0) (cond (eqb (firstFree xs) 0) (Refused Refusals.Full) (At (slot xs (firstFree xs) 0))) (Refused Refusals.Drawer))
     (Refused Refusals.Pool)
 
 -- The drawers' numbers in the used chain's order, then zeros: thirty in all.

@@ -5,6 +5,7 @@ use mathlib.Core.Bool.{Bool, true, false, cond, not, _&&_}
 use mathlib.Core.List.{List, [], _∷_, map}
 use lib.Dec.{eqb, leb, ltb}
 use lib.ListN.{length, getD, take}
+use Rattle.layout.specs.Places.{autoThresholdAt, autoAdjustAt}
 use Rattle.record_pool.specs.Lists.{occ}
 use Rattle.record_pool.specs.Chains.{isNumber}
 use Rattle.record_pool.specs.Pool.{firstUsed, firstFree, nextAt, numberAt, flagsAt, rulesOk}
@@ -18,8 +19,8 @@ Leads next i (x ∷ xs) at = (i ≡ x) × (0 < x) × Leads next (next x) xs at
 unfoldable pub isUnmarked : ℕ → ℕ → ℕ → Bool
 isUnmarked mark at n = ltb n 30 && leb at 30 && eqb mark 0
 
-unfoldable pub isFresh : List ℕ → ℕ → ℕ → Bool
-isFresh seen at n = isUnmarked (getD seen at 0) at n
+unfoldable pub isUnmarkedAt : List ℕ → ℕ → ℕ → Bool
+isUnmarkedAt seen at n = isUnmarked (getD seen at 0) at n
 
 unfoldable pub markPlace : ℕ → ℕ
 markPlace at = cond (leb at 30) at 0
@@ -34,6 +35,10 @@ isBefore numbers k n = not (eqb (occ n (take k numbers)) 0)
 -- The same, where a place of 64 that no number has taken yet says that it is not.
 unfoldable pub isTaken : ℕ → List ℕ → ℕ → ℕ → Bool
 isTaken mark numbers k n = cond (eqb mark 0) false (isBefore numbers k n)
+
+-- The yes/no bytes of a state, of which these are the bytes and what stands behind them.
+unfoldable pub flagsIn : List ℕ → Bool
+flagsIn ys = leb (getD ys autoThresholdAt 0) 1 && leb (getD ys autoAdjustAt 0) 1
 
 -- The used chain as far as `at`: n records, their marks and their numbers.
 pub record UsedWalk (xs : List ℕ) (at n : ℕ) (seen numbers us : List ℕ) : Type 0 where

@@ -14,7 +14,7 @@ const POOL_LENGTH: usize = 61_472;
 
 // A record, where its state begins in the pool, the used record in front of it (0 where it is the first), the one behind it in its chain, and the header as it
 // stands.
-pub struct Seat {
+pub struct Slot {
     pub index: usize,
     pub state: usize,
     pub front: usize,
@@ -25,7 +25,7 @@ pub struct Seat {
 }
 
 pub enum Located {
-    At(Seat),
+    At(Slot),
     Refused(Refusal),
 }
 
@@ -44,7 +44,7 @@ struct Walked {
 }
 
 // Where a drawer is: its record, 0 where none holds it, and the used record in front of that, 0 where it is the first.
-struct Spot {
+struct Position {
     record: usize,
     front: usize,
 }
@@ -127,8 +127,8 @@ fn mark_place(at: usize) -> usize
     0
 }
 
-// A record from 1 to 30 that has no mark yet.
-fn is_fresh(mark: u8, at: usize, n: usize) -> bool
+// Whether a walk that has met n records may go on to `at`, which is not 0: n below 30, `at` not above 30, and its mark not set.
+fn is_unmarked(mark: u8, at: usize, n: usize) -> bool
     ensures { λ r. ⌜ r ≡ isUnmarked mark at n ⌝ }
 {
     if n < 30 {
@@ -172,7 +172,7 @@ fn walks(pool: &[u8]) -> Walked
     let mut at = index_at(pool, 4);
     let mut used = 0usize;
     while at != 0 {
-        if !is_fresh(seen[mark_place(at)], at, used) {
+        if !is_unmarked(seen[mark_place(at)], at, used) {
             return broken();
         }
         if !is_sound(pool, at) {
@@ -186,7 +186,7 @@ fn walks(pool: &[u8]) -> Walked
     at = index_at(pool, 8);
     let mut free = 0usize;
     while at != 0 {
-        if !is_fresh(seen[mark_place(at)], at, free) {
+        if !is_unmarked(seen[mark_place(at)], at, free) {
             return broken();
         }
         seen[at] = 1;
@@ -249,7 +249,7 @@ fn is_distinct(numbers: [u32; 30], n: usize) -> bool
     true
 }
 
-// Whether 13 is not of a pool.
+// Whether a pool passes the test of 13.
 fn rules_ok(pool: &[u8]) -> bool
     ensures { λ r. ⌜ r ≡ Pool.rulesOk (now (pool .entry)) ⌝ }
 {
@@ -266,7 +266,7 @@ fn rules_ok(pool: &[u8]) -> bool
     false
 }
 
-fn find(pool: &[u8], drawer: u32) -> Spot
+fn find(pool: &[u8], drawer: u32) -> Position
     requires { ⌜ Pool.rulesOk (now pool) ≡ true ⌝ ∗ ⌜ length (now pool) ≡ 61472 ⌝ }
     ensures { λ r. ⌜ (r .record ≡ Pool.recordOf (now (pool .entry)) drawer) × (r .front ≡ Pool.frontOf (now (pool .entry)) drawer) ⌝ }
 {
@@ -274,20 +274,20 @@ fn find(pool: &[u8], drawer: u32) -> Spot
     let mut front = 0usize;
     while at != 0 {
         if number_at(pool, at) == drawer {
-            return Spot { record: at, front };
+            return Position { record: at, front };
         }
         front = at;
         at = next_at(pool, at);
     }
-    Spot { record: 0, front }
+    Position { record: 0, front }
 }
 
-fn seat_of(pool: &[u8], index: usize, front: usize) -> Seat
+fn slot_of(pool: &[u8], index: usize, front: usize) -> Slot
     requires { ⌜ length (now pool) ≡ 61472 ⌝ ∗ ⌜ 1 ≤ index ⌝ ∗ ⌜ index ≤ 30 ⌝ }
-    ensures { λ r. ⌜ r ≡ Pool.seat (now (pool .entry)) index front ⌝ }
+    ensures { λ r. ⌜ r ≡ Pool.slot (now (pool .entry)) index front ⌝ }
 {
     let at = place(index);
-    Seat {
+    Slot {
         index,
         state: at + 8,
         front,
@@ -303,11 +303,11 @@ pub fn locate(pool: &[u8], drawer: u32) -> Located
     ensures { λ r. ⌜ r ≡ Pool.locate (now (pool .entry)) drawer ⌝ }
 {
     if rules_ok(pool) {
-        let spot = find(pool, drawer);
-        if spot.record == 0 {
+        let position = find(pool, drawer);
+        if position.record == 0 {
             return Located::Refused(Refusal::Drawer);
         }
-        return Located::At(seat_of(pool, spot.record, spot.front));
+        return Located::At(slot_of(pool, position.record, position.front));
     }
     Located::Refused(Refusal::Pool)
 }
@@ -318,13 +318,13 @@ pub fn vacancy(pool: &[u8], drawer: u32) -> Located
 {
     if rules_ok(pool) {
         if pool_links::is_number(drawer) {
-            let spot = find(pool, drawer);
-            if spot.record == 0 {
+            let position = find(pool, drawer);
+            if position.record == 0 {
                 let index = index_at(pool, 8);
                 if index == 0 {
                     return Located::Refused(Refusal::Full);
                 }
-                return Located::At(seat_of(pool, index, 0));
+                return Located::At(slot_of(pool, index, 0));
             }
         }
         return Located::Refused(Refusal::Drawer);

@@ -8,8 +8,8 @@ use Rattle.pool_drawers.proofs.krcf_pool_open.Tie as tie
 vacancy-requires : tie.Need-vacancy-requires
 vacancy-requires c κs = search needs
 
-enum-known-seat : tie.Need-enum-known-seat
-enum-known-seat c = search needs
+enum-known-slot : tie.Need-enum-known-slot
+enum-known-slot c = search needs
 
 new-requires : tie.Need-new-requires
 new-requires c κs = search needs
@@ -18,22 +18,22 @@ number-requires : tie.Need-number-requires
 number-requires c κs = search needs
 
 take-in-requires : tie.Need-take-in-requires
-take-in-requires c κs = spare _ _ _ _ (c .before .before .before .before .before .before .before .before .vacancy .ensures) (c .before .before .before .before .before .before .seat .given .1)
+take-in-requires c κs = spare _ _ _ _ (c .before .before .before .before .before .before .before .before .vacancy .ensures) (c .before .before .before .before .before .before .slot .given .1)
 
 put-state-requires : tie.Need-put-state-requires
-put-state-requires c κs = open-room _ _ _ _ _ (c .before .before .before .before .before .before .before .before .before .before .before .before .vacancy .ensures) (c .before .before .before .before .before .before .before .before .before .before .seat .given .1) (c .before .before .before .take-in .ensures)
+put-state-requires c κs = open-room _ _ _ _ _ (c .before .before .before .before .before .before .before .before .before .before .before .before .vacancy .ensures) (c .before .before .before .before .before .before .before .before .before .before .slot .given .1) (c .before .before .before .take-in .ensures)
 
 same-length : tie.Need-same-length
 same-length c = search needs
 
 returns : tie.Need-returns
-returns c = open-done (now (c .before .before .before .before .before .before .before .before .before .before .before .before .before .before .before .before .before .before .args .pool)) _ _ _ _ _ _ _ _ _ (c .before .before .before .before .before .before .before .before .before .before .before .before .before .before .before .vacancy .ensures) (c .before .before .before .before .before .before .before .before .before .before .before .before .before .seat .given .1) (c .before .before .before .before .before .before .before .before .before .before .before .new .ensures) (c .before .before .before .before .before .before .before .before .before .before .number .ensures) _ (c .before .before .before .before .before .before .before .before .before .if1 .taken) (le-leb _ _ (c .before .before .before .before .before .before .before .before .if2 .taken)) (c .before .before .before .before .before .before .take-in .ensures) (c .before .before .put-state .ensures)
+returns c = open-done (now (c .before .before .before .before .before .before .before .before .before .before .before .before .before .before .before .before .before .before .args .pool)) _ _ _ _ _ _ _ _ _ (c .before .before .before .before .before .before .before .before .before .before .before .before .before .before .before .vacancy .ensures) (c .before .before .before .before .before .before .before .before .before .before .before .before .before .slot .given .1) (c .before .before .before .before .before .before .before .before .before .before .before .new .ensures) (c .before .before .before .before .before .before .before .before .before .before .number .ensures) _ (c .before .before .before .before .before .before .before .before .before .if1 .taken) (le-leb _ _ (c .before .before .before .before .before .before .before .before .if2 .taken)) (c .before .before .before .before .before .before .take-in .ensures) (c .before .before .put-state .ensures)
 
 same-length-2 : tie.Need-same-length-2
 same-length-2 c = search needs
 
 returns-2 : tie.Need-returns-2
-returns-2 c = open-range (now (c .before .before .before .before .before .before .before .before .before .before .args .pool)) (now (c .before .before .before .before .before .before .before .before .before .before .args .pool)) _ _ _ _ _ _ _ _ (c .before .before .before .before .before .before .before .vacancy .ensures) (c .before .before .before .before .before .seat .given .1) (c .before .before .before .new .ensures) (c .before .before .number .ensures) (c .before .if1 .taken) (lt-leb _ _ (c .if2 .left))
+returns-2 c = open-range (now (c .before .before .before .before .before .before .before .before .before .before .args .pool)) (now (c .before .before .before .before .before .before .before .before .before .before .args .pool)) _ _ _ _ _ _ _ _ (c .before .before .before .before .before .before .before .vacancy .ensures) (c .before .before .before .before .before .slot .given .1) (c .before .before .before .new .ensures) (c .before .before .number .ensures) (c .before .if1 .taken) (lt-leb _ _ (c .if2 .left))
 
 enum-known-why : tie.Need-enum-known-why
 enum-known-why c = search needs
@@ -45,7 +45,7 @@ same-length-3 : tie.Need-same-length-3
 same-length-3 c = search needs
 
 returns-3 : tie.Need-returns-3
-returns-3 c = open-unmade (now (c .before .before .before .before .before .before .before .before .before .args .pool)) (now (c .before .before .before .before .before .before .before .before .before .args .pool)) _ _ _ _ _ _ _ _ (c .before .before .before .before .before .before .vacancy .ensures) (c .before .before .before .before .seat .given .1) (c .before .before .new .ensures) (c .before .number .ensures) (c .if1 .left)
+returns-3 c = open-unmade (now (c .before .before .before .before .before .before .before .before .before .args .pool)) (now (c .before .before .before .before .before .before .before .before .before .args .pool)) _ _ _ _ _ _ _ _ (c .before .before .before .before .before .before .vacancy .ensures) (c .before .before .before .before .slot .given .1) (c .before .before .new .ensures) (c .before .number .ensures) (c .if1 .left)
 
 same-length-4 : tie.Need-same-length-4
 same-length-4 c = search needs
@@ -58,7 +58,7 @@ krcf-pool-open-spec =
     tie.close
     (tie.spec
     vacancy-requires
-    enum-known-seat
+    enum-known-slot
     new-requires
     number-requires
     take-in-requires

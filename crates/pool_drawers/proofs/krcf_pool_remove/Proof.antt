@@ -7,11 +7,11 @@ use Rattle.pool_drawers.proofs.krcf_pool_remove.Tie as tie
 locate-requires : tie.Need-locate-requires
 locate-requires c κs = search needs
 
-enum-known-seat : tie.Need-enum-known-seat
-enum-known-seat c = search needs
+enum-known-slot : tie.Need-enum-known-slot
+enum-known-slot c = search needs
 
 take-out-requires : tie.Need-take-out-requires
-take-out-requires c κs = held _ _ _ _ (c .before .before .before .before .locate .ensures) (c .before .before .seat .given .1)
+take-out-requires c κs = held _ _ _ _ (c .before .before .before .before .locate .ensures) (c .before .before .slot .given .1)
 
 enum-known-why : tie.Need-enum-known-why
 enum-known-why c = search needs
@@ -23,7 +23,7 @@ same-length : tie.Need-same-length
 same-length c = search needs
 
 returns : tie.Need-returns
-returns c = remove-done (now (c .before .before .before .before .before .before .before .before .before .before .args .pool)) _ _ _ _ (c .before .before .before .before .before .before .before .locate .ensures) (c .before .before .before .before .before .seat .given .1) (c .before .before .take-out .ensures)
+returns c = remove-done (now (c .before .before .before .before .before .before .before .before .before .before .args .pool)) _ _ _ _ (c .before .before .before .before .before .before .before .locate .ensures) (c .before .before .before .before .before .slot .given .1) (c .before .before .take-out .ensures)
 
 same-length-2 : tie.Need-same-length-2
 same-length-2 c = search needs
@@ -36,7 +36,7 @@ krcf-pool-remove-spec =
     tie.close
     (tie.spec
     locate-requires
-    enum-known-seat
+    enum-known-slot
     take-out-requires
     enum-known-why
     number-requires

@@ -17,9 +17,6 @@ removed-requires c κs = search needs
 put-header-requires : tie.Need-put-header-requires
 put-header-requires c κs = search needs
 
-mended-requires : tie.Need-mended-requires
-mended-requires c κs = search needs
-
 put-next-requires : tie.Need-put-next-requires
 put-next-requires c κs = search needs
 
@@ -27,7 +24,7 @@ same-length : tie.Need-same-length
 same-length c = search needs
 
 returns : tie.Need-returns
-returns c = unlink-later (now (c .before .before .before .before .before .before .before .before .before .before .before .before .before .before .before .args .pool)) _ _ _ _ _ _ _ (c .before .before .before .before .before .before .before .before .before .before .before .before .before .before .before .pre) refl refl (c .before .before .before .before .before .before .before .before .before .before .removed .ensures) (c .before .before .before .before .before .if1 .taken) (c .before .before .before .before .before .before .before .before .before .put-header .ensures) (c .before .before .before .mended .ensures) (c .before .before .put-next .ensures)
+returns c = unlink-later (now (c .before .before .before .before .before .before .before .before .before .before .before .before .before .before .args .pool)) _ _ _ _ _ _ (c .before .before .before .before .before .before .before .before .before .before .before .before .before .before .pre) refl refl (c .before .before .before .before .before .before .before .before .before .removed .ensures) (c .before .before .before .before .if1 .taken) (c .before .before .before .before .before .before .before .before .put-header .ensures) (c .before .before .put-next .ensures)
 
 same-length-2 : tie.Need-same-length-2
 same-length-2 c = search needs
@@ -43,7 +40,6 @@ unlink-spec =
     cast-front
     removed-requires
     put-header-requires
-    mended-requires
     put-next-requires
     same-length
     returns

@@ -9,11 +9,11 @@ use Rattle.pool_judging.proofs.krcf_pool_detect_and_modify.Tie as tie
 locate-requires : tie.Need-locate-requires
 locate-requires c κs = search needs
 
-enum-known-seat : tie.Need-enum-known-seat
-enum-known-seat c = search needs
+enum-known-slot : tie.Need-enum-known-slot
+enum-known-slot c = search needs
 
 add-upto : tie.Need-add-upto
-add-upto c = record { fits = omega (arith, judged-room _ _ _ (c .before .before .before .locate .ensures) _ (c .before .seat .given .1) .0) }
+add-upto c = record { fits = omega (arith, judged-room _ _ _ (c .before .before .before .locate .ensures) _ (c .before .slot .given .1) .0) }
 
 sub-krcf-detect-and-modify : tie.Need-sub-krcf-detect-and-modify
 sub-krcf-detect-and-modify c = search needs
@@ -23,7 +23,7 @@ part-krcf-detect-and-modify-start c = search needs
 
 part-krcf-detect-and-modify-end : tie.Need-part-krcf-detect-and-modify-end
 part-krcf-detect-and-modify-end c =
-    let r = judged-room _ _ _ (c .before .before .before .locate .ensures) _ (c .before .seat .given .1) in
+    let r = judged-room _ _ _ (c .before .before .before .locate .ensures) _ (c .before .slot .given .1) in
     omega (arith, r .0, r .1)
 
 krcf-detect-and-modify-requires : tie.Need-krcf-detect-and-modify-requires
@@ -55,7 +55,7 @@ returns c =
     let a = c .before .before .before .before .before .before .before .before .before .before .before .before .before .before .before .before .before .before .before .before .before .before .before .before .before .before .before .before .before .before .before .before .before .before .before .before .before .before .before .before .args in
     let b = lent (now (a .point)) (now (a .scale)) (now (a .shift)) (now (a .difference-deviations)) (now (a .last-expected)) (now (a .last-anomalous)) (now (a .high)) (now (a .low)) (now (a .median)) (now (a .ideal-high)) (now (a .ideal-low)) (now (a .neighbours)) in
     judged-there (now (a .pool)) (now (a .reading)) (now (a .last)) b _ (now (a .expected)) (now (a .out-high)) (now (a .out-low)) (now (a .verdict)) (a .drawer)
-    _ (c .before .before .before .before .before .before .before .before .before .before .before .before .before .before .before .before .before .before .before .locate .ensures) _ (c .before .before .before .before .before .before .before .before .before .before .before .before .before .before .before .before .before .seat .given .1) _ _ _ _ _ (c .before .before .before .before .before .before .before .before .before .before .krcf-detect-and-modify .kept .0) (c .before .before .before .before .before .before .before .before .before .before .krcf-detect-and-modify .ensures)
+    _ (c .before .before .before .before .before .before .before .before .before .before .before .before .before .before .before .before .before .before .before .locate .ensures) _ (c .before .before .before .before .before .before .before .before .before .before .before .before .before .before .before .before .before .slot .given .1) _ _ _ _ _ (c .before .before .before .before .before .before .before .before .before .before .krcf-detect-and-modify .kept .0) (c .before .before .before .before .before .before .before .before .before .before .krcf-detect-and-modify .ensures)
 
 same-length-6 : tie.Need-same-length-6
 same-length-6 c = search needs
@@ -72,7 +72,7 @@ krcf-pool-detect-and-modify-spec =
     tie.close
     (tie.spec
     locate-requires
-    enum-known-seat
+    enum-known-slot
     add-upto
     sub-krcf-detect-and-modify
     part-krcf-detect-and-modify-start

@@ -1,5 +1,5 @@
 use mathlib.Core.Path.{refl}
-use Rattle.pool_links.specs.Links.{isNumber}
+use Rattle.pool_links.specs.Numbers.{isNumber}
 use Rattle.pool_links.proofs.is_number.Statement.{statement}
 use Rattle.pool_links.proofs.is_number.Tie as tie
 

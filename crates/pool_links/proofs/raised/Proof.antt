@@ -1,5 +1,5 @@
 use borrow.Author.Tests.{lt-ltb, le-ltb}
-use Rattle.pool_links.specs.Links.{raised}
+use Rattle.pool_links.specs.Steps.{raised}
 use borrow.Author.Needs.{needs}
 use Rattle.pool_links.proofs.raised.Statement.{statement}
 use Rattle.pool_links.proofs.raised.Tie as tie

@@ -1,6 +1,6 @@
 use mathlib.Core.Path.{sym, _∙_}
 use Rattle.record_pool.proofs.Passing.{passes-size}
-use Rattle.record_pool.proofs.Locating.{vacancy-broken, vacancy-unnumbered, vacancy-taken, vacancy-full, vacancy-there, seat-spare}
+use Rattle.record_pool.proofs.Locating.{vacancy-broken, vacancy-unnumbered, vacancy-taken, vacancy-full, vacancy-there, slot-spare}
 use borrow.Author.Needs.{needs}
 use Rattle.record_pool.proofs.vacancy.Statement.{statement}
 use Rattle.record_pool.proofs.vacancy.Tie as tie
@@ -20,11 +20,11 @@ index-at-requires c κs = let s = passes-size _ (sym (c .before .before .before 
 returns : tie.Need-returns
 returns c = vacancy-full _ _ _ (c .before .before .before .before .before .before .before .before .rules-ok .ensures) _ _ _ _ (c .before .before .before .before .before .before .before .if1 .taken) (c .before .before .before .before .before .before .is-number .ensures) (c .before .before .before .before .before .if2 .taken) (c .before .before .before .before .find .ensures) (c .before .before .if3 .taken) (c .before .index-at .ensures) (c .if4 .taken)
 
-seat-of-requires : tie.Need-seat-of-requires
-seat-of-requires c κs = seat-spare _ _ _ (c .before .before .before .before .before .before .before .before .rules-ok .ensures) (c .before .before .before .before .before .before .before .if1 .taken) (c .before .index-at .ensures) (c .if4 .left)
+slot-of-requires : tie.Need-slot-of-requires
+slot-of-requires c κs = slot-spare _ _ _ (c .before .before .before .before .before .before .before .before .rules-ok .ensures) (c .before .before .before .before .before .before .before .if1 .taken) (c .before .index-at .ensures) (c .if4 .left)
 
 returns-2 : tie.Need-returns-2
-returns-2 c = vacancy-there _ _ _ (c .before .before .before .before .before .before .before .before .before .rules-ok .ensures) _ _ _ _ (c .before .before .before .before .before .before .before .before .if1 .taken) (c .before .before .before .before .before .before .before .is-number .ensures) (c .before .before .before .before .before .before .if2 .taken) (c .before .before .before .before .before .find .ensures) (c .before .before .before .if3 .taken) (c .before .before .index-at .ensures) _ (c .before .if4 .left) (c .seat-of .ensures)
+returns-2 c = vacancy-there _ _ _ (c .before .before .before .before .before .before .before .before .before .rules-ok .ensures) _ _ _ _ (c .before .before .before .before .before .before .before .before .if1 .taken) (c .before .before .before .before .before .before .before .is-number .ensures) (c .before .before .before .before .before .before .if2 .taken) (c .before .before .before .before .before .find .ensures) (c .before .before .before .if3 .taken) (c .before .before .index-at .ensures) _ (c .before .if4 .left) (c .slot-of .ensures)
 
 returns-3 : tie.Need-returns-3
 returns-3 c = vacancy-taken _ _ _ (c .before .before .before .before .before .before .rules-ok .ensures) _ _ _ (c .before .before .before .before .before .if1 .taken) (c .before .before .before .before .is-number .ensures) (c .before .before .before .if2 .taken) (c .before .before .find .ensures) (c .if3 .left)
@@ -44,7 +44,7 @@ vacancy-spec =
     find-requires
     index-at-requires
     returns
-    seat-of-requires
+    slot-of-requires
     returns-2
     returns-3
     returns-4

@@ -1,8 +1,8 @@
 use Rattle.record_pool.specs.Steps.{isUnmarked}
 use borrow.Author.Tests.{lt-ltb, le-ltb, le-leb, lt-leb}
 use Prim.Native.Nat.{_-_}
-use Rattle.record_pool.proofs.is_fresh.Statement.{statement}
-use Rattle.record_pool.proofs.is_fresh.Tie as tie
+use Rattle.record_pool.proofs.is_unmarked.Statement.{statement}
+use Rattle.record_pool.proofs.is_unmarked.Tie as tie
 
 returns : tie.Need-returns
 unfolding isUnmarked
@@ -16,5 +16,5 @@ returns-3 : tie.Need-returns-3
 unfolding isUnmarked
 returns-3 c = simp (le-ltb _ _ (c .if1 .left))
 
-pub is-fresh-spec : {M : Type 1} → statement M
-is-fresh-spec = tie.close (tie.spec returns returns-2 returns-3)
+pub is-unmarked-spec : {M : Type 1} → statement M
+is-unmarked-spec = tie.close (tie.spec returns returns-2 returns-3)

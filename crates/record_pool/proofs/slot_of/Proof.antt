@@ -1,7 +1,7 @@
-use Rattle.record_pool.proofs.Locating.{seat-is}
+use Rattle.record_pool.proofs.Locating.{slot-is}
 use borrow.Author.Needs.{needs}
-use Rattle.record_pool.proofs.seat_of.Statement.{statement}
-use Rattle.record_pool.proofs.seat_of.Tie as tie
+use Rattle.record_pool.proofs.slot_of.Statement.{statement}
+use Rattle.record_pool.proofs.slot_of.Tie as tie
 
 place-requires : tie.Need-place-requires
 place-requires c κs = search needs
@@ -22,10 +22,10 @@ read4-requires-4 : tie.Need-read4-requires-4
 read4-requires-4 c κs = search needs
 
 returns : tie.Need-returns
-returns c = seat-is _ _ _ _ _ _ _ _ (c .before .before .before .before .place .ensures .0) (c .before .before .before .read4 .ensures) (c .before .before .read42 .ensures) (c .before .read43 .ensures) (c .read44 .ensures)
+returns c = slot-is _ _ _ _ _ _ _ _ (c .before .before .before .before .place .ensures .0) (c .before .before .before .read4 .ensures) (c .before .before .read42 .ensures) (c .before .read43 .ensures) (c .read44 .ensures)
 
-pub seat-of-spec : {M : Type 1} → statement M
-seat-of-spec =
+pub slot-of-spec : {M : Type 1} → statement M
+slot-of-spec =
     tie.close
     (tie.spec
     place-requires

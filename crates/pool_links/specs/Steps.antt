@@ -1,14 +1,11 @@
--- What is decided of a record pool by numbers alone: which drawer numbers there are, whether the chains' lengths agree, and the links that an opening or a removal
--- leaves. `index` is the record that is opened or removed, `front` the used record in front of it (0 where it is the first), `next` the record behind it in its chain.
+-- What the calls on a pool ask of this crate: whether the chains' lengths agree, and the links that an opening or a removal leaves, which the definitions of the calls
+-- have again, on bytes. `index` is the record that is opened or removed, `front` the used record in front of it (0 where it is the first), `next` the record behind it
+-- in its chain.
 use Prim.Native.Nat.{ℕ, _+_, _-_}
 use mathlib.Core.Bool.{Bool, cond, _&&_}
 use lib.Dec.{eqb, leb, ltb}
 use Rattle.pool_links.specs.declared.Header.{Header}
 use Rattle.pool_links.specs.declared.Link.{Link}
-
--- 1 to 65,535.
-unfoldable pub isNumber : ℕ → Bool
-isNumber n = leb 1 n && leb n 65535
 
 -- The header's count is the used chain's length, and the two chains have thirty records.
 unfoldable pub countsAgree : (count used free : ℕ) → Bool
@@ -25,10 +22,6 @@ opened index next count = record { count = raised count; used = index; free = ne
 -- The header behind a removal: the record is the first free.
 abbrev pub removed : (index front next count used : ℕ) → Header
 removed index front next count used = record { count = count - 1; used = cond (eqb front 0) next used; free = index }
-
--- What the record in front of a removed one leads to.
-abbrev pub mended : (index next : ℕ) → ℕ
-mended index next = next
 
 -- What stands in front of the state of an opened record, and of a removed one's zeros.
 abbrev pub openedLink : (used drawer : ℕ) → Link
