@@ -111,6 +111,16 @@
  * how many positions the conditional field is to be asked for (none: it is not asked) and five places
  * for them; krcf_expected_point writes the expected point, its position being the row's start.
  *
+ * Single numbers that a call writes: krcf_threshold and krcf_primary_grade an f32 (4 bytes);
+ * krcf_*threshold_and_grade* two f32, threshold and grade (8); krcf_total and krcf_high_low_sum an
+ * f64 (8); krcf_max_gap_contribution, krcf_max_contribution and krcf_newest_row a u64 (8);
+ * krcf_*_is_* a flag (1).
+ *
+ * krcf_deviation_mean and krcf_deviation_deviation write a flag and an f64 (9): 1 and the number; or 0
+ * for a statistic that is empty, its weight at or below 0, and then the eight bytes behind it are left
+ * as they were. A dashboard shows both of a drawer's primary statistic, 36 bytes from byte 16 of a
+ * thresholder or a state on; a score by height is counted in it as 2 at most.
+ *
  * SEVERAL DRAWERS
  *
  * A pool has the states of up to thirty drawers, each by its number. krcf_pool_open makes a drawer's
@@ -121,16 +131,6 @@
  * clears the record, which becomes the first free one. krcf_pool_list writes thirty numbers: the
  * drawers' in the order of the used chain, the newest first, then zeros. One drawer's verdicts do not
  * depend on the others'.
- *
- * Single numbers that a call writes: krcf_threshold and krcf_primary_grade an f32 (4 bytes);
- * krcf_*threshold_and_grade* two f32, threshold and grade (8); krcf_total and krcf_high_low_sum an
- * f64 (8); krcf_max_gap_contribution, krcf_max_contribution and krcf_newest_row a u64 (8);
- * krcf_*_is_* a flag (1).
- *
- * krcf_deviation_mean and krcf_deviation_deviation write a flag and an f64 (9): 1 and the number; or 0
- * for a statistic that is empty, its weight at or below 0, and then the eight bytes behind it are left
- * as they were. A dashboard shows both of a drawer's primary statistic, 36 bytes from byte 16 of a
- * thresholder or a state on; a score by height is counted in it as 2 at most.
  */
 
 #ifndef WITHDRAWAL_WATCH_H

@@ -20,7 +20,7 @@ use crate::watch::Watch;
 /// another's. As of a [`Watch`], the caller asks the forest and keeps each drawer's last descriptor;
 /// a [`Site`](crate::Site) does both.
 ///
-/// A refused call changes no byte. 11 comes before every refusal of the call itself.
+/// A refused call changes no byte. 11, then 12, come before 1 to 7.
 ///
 /// ```
 /// use withdrawal_watch::{LentAttribution, Pool, Reading, Verdict};
@@ -311,8 +311,8 @@ impl Pool {
         }
     }
 
-    /// The watch over a drawer as it stands, to look at or to go on with elsewhere: a copy, of which
-    /// the pool hears nothing more. Refusals: 11, then 2 as of [`Watch::of_state_bytes`].
+    /// The watch over a drawer as it stands, to look at or to go on with elsewhere: a copy, whose
+    /// changes do not reach the pool. Refusals: 11, then 2 as of [`Watch::of_state_bytes`].
     ///
     /// ```
     /// use withdrawal_watch::{Pool, Watch};

@@ -148,8 +148,8 @@ impl Site {
         Ok(judged.trial.verdict)
     }
 
-    /// A drawer as it stands, to look at, to print, or to go on with elsewhere: a copy, of which the
-    /// site hears nothing more. Refusals: 11, then 2 as of [`Pool::watch`].
+    /// A drawer as it stands, to look at, to print, or to go on with elsewhere: a copy, whose
+    /// changes do not reach the site. Refusals: 11, then 2 as of [`Pool::watch`].
     pub fn drawer(&self, drawer: u32) -> Result<Drawer, Refused> {
         let watch = self.pool.watch(drawer)?;
         Ok(Drawer::of(watch, self.kept(drawer)))

@@ -46,6 +46,7 @@ use Rattle.pool_laws.proofs.Alone.{alone}
 use Rattle.pool_laws.proofs.Theorems.{pool-rules}
 use Rattle.demand3_in_pool.specs.Statement.{Judgments, SetFirst, zAfter, zAsked, toldIn, shownIn, Demand3InPool}
 use Rattle.demand3_in_pool.proofs.OneWay.{one-way}
+use Rattle.demand3_in_pool.proofs.Witness.{calm-met}
 
 -- ---- bytes that hold a state with the z factor z, and that no setter refuses
 record Ready (zs : List ℕ) (z : Float) : Type 0 where
@@ -282,4 +283,7 @@ module _ (xs : List ℕ) (d : ℕ) (discount : Float) (adjust base : ℕ) (ys : 
       rw (sym e, sym (m .told), sym (m .shown)) proved
 
 pub demand-3-in-pool : Demand3InPool
-demand-3-in-pool = record { demand-3 = λ xs d discount adjust base ys cs f c t stays s b. in-pool xs d discount adjust base ys c cs f t stays s b }
+demand-3-in-pool = record {
+  demand-3 = λ xs d discount adjust base ys cs f c t stays s b. in-pool xs d discount adjust base ys c cs f t stays s b;
+  met = calm-met;
+}

@@ -1,2 +1,3 @@
 mod OneWay
+mod Witness
 pub mod InPool

@@ -7,13 +7,15 @@ use lib.Dec.{T, eqb}
 use lib.ListN.{length, getD}
 use lib.Ieee.{Float, binary32, binary64, fits}
 use Rattle.basicthresholder.specs.Const.{zFactorDefault}
-use Rattle.ledger.specs.Statement.{Told, Shown, InBounds, Demand3}
+use Rattle.ledger.specs.Statement.{Told, Shown, accepted, InBounds, Demand3}
 use Rattle.layout.specs.Places.{readingLength, strategyAt, scoreAt}
 use Rattle.layout.specs.Numbers.{f32At}
 use Rattle.demand3_over_c.specs.Calls.{thresholdIn, gradeIn, openingIn}
+use Rattle.pool_drawers.specs.Drawers.{laidOut}
 use Rattle.pool_settings.specs.Settings.{z-factor, lower-threshold, initial-threshold, horizon}
 use Rattle.pool_laws.specs.Calls.{Asked, Call, opens, Contract, InTurn}
 use Rattle.pool_laws.specs.Isolation.{Ask, setting, judgment, Tell, answer, judged, asks, tells, Stays}
+use Rattle.demand3_in_pool.specs.Calm.{nought, pool, eleven}
 
 -- ---- what the drawer is asked
 -- A DISTANCE reading: of its 23 bytes the strategy's is not 0. (1 is DISTANCE's code, and the call refuses every larger one.)
@@ -69,3 +71,6 @@ pub record Demand3InPool : Type 0 where
       → T (fits binary64 discount) → Contract xs (opens d discount adjust base 0 ys) → InTurn ys cs → Stays d cs → SetFirst (asks d cs)
       → InBounds (zAsked (asks d cs)) (toldIn (asks d cs) (tells d cs))
       → Demand3 discount (zAsked (asks d cs)) (toldIn (asks d cs) (tells d cs)) (shownIn (tells d cs))
+  -- Such lists exist: in an empty pool drawer 1 is opened, and eleven calm readings are accepted in it; the last has ten counted before it.
+  pub met : T (fits binary64 nought) × Contract laidOut (opens 1 nought 0 1 0 pool) × InTurn pool eleven × Stays 1 eleven × SetFirst (asks 1 eleven)
+      × InBounds (zAsked (asks 1 eleven)) (toldIn (asks 1 eleven) (tells 1 eleven)) × (accepted (toldIn (asks 1 eleven) (tells 1 eleven)) ≡ 11)
