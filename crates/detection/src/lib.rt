@@ -87,13 +87,14 @@ fn noise_pass(
 {
     let base = r.base_dimension;
     if !scoring::is_recent(l.has_anomaly, gap, r.shingle_size) {
-        return uncertainty_box::centered_transform_pass(
+        let passed = uncertainty_box::centered_transform_pass(
             base,
             scale,
             shift,
             difference_deviations,
             point,
         );
+        return passed.factor;
     }
     let method = r.transform_method;
     let anomaly = l.anomaly;
@@ -112,7 +113,14 @@ fn noise_pass(
         r.time_augmented,
         &mut work[..d],
     );
-    uncertainty_box::centered_transform_pass(base, scale, shift, difference_deviations, &work[..d])
+    let passed = uncertainty_box::centered_transform_pass(
+        base,
+        scale,
+        shift,
+        difference_deviations,
+        &work[..d],
+    );
+    passed.factor
 }
 
 // The uncertainty box in the first `base` places.
@@ -257,13 +265,14 @@ fn within_expected(
     ensures { λ b. ⌜ b ≡ Box.withinUnertaintyBox (take base edges) 0 (now (scale .entry)) (take base (drop start (now (point .entry)))) (take base row) ⌝ }
 {
     let end = start + base;
-    uncertainty_box::within_unertainty_box(
+    let held = uncertainty_box::within_unertainty_box(
         &edges[..base],
         0,
         scale,
         &point[start..end],
         &row[..base],
-    )
+    );
+    held.within
 }
 
 // Whether the candidate branch is data drift.

@@ -5,10 +5,13 @@ use mathlib.Core.List.{List, [], _∷_, map}
 use Prim.Native.Nat.{ℕ}
 use lib.Ieee as Ieee
 use lib.Ieee.{Float, binary32, ofBits, toBits}
+use Rattle.scan.specs.Read.{readUntil}
 use Rattle.util.specs.Util.{absf32, maxf32, minf32}
 use Rattle.uncertainty_box.specs.Scan.{some, count, listed}
 use Rattle.uncertainty_box.specs.Box.{outside, outsideAt, withinUnertaintyBox, pathStep, pathMean, pathLoop, pathDeviation, edgeOf, edgeAt, uncertaintyBox, supported, wholePoints, explainedByConditionalField}
 use Rattle.uncertainty_box.specs.Pass.{overLine, overAt, noiseStep, noiseLoop, noisePass, passable, centeredTransformPass}
+use Rattle.uncertainty_box.specs.Box as Box
+use Rattle.uncertainty_box.specs.Pass as Pass
 
 abbrev floats : List ℕ → List Float
 floats bs = map (ofBits binary32) bs
@@ -55,3 +58,19 @@ pass deviation b = toBits binary32 (centeredTransformPass 1 (floats (0x3F80_0000
 passes : pass 0 0x3A83_126F ∷ pass 0 0x3A83_1270 ∷ pass 0x7FC0_0000 0xBA83_1270 ∷ [] ≡ 0 ∷ 0x3F80_0000 ∷ 0x3F80_0000 ∷ []
 unfolding centeredTransformPass passable noisePass noiseLoop noiseStep some overAt overLine absf32 maxf32 minf32 ofBits toBits Ieee.neg Ieee.add Ieee.mul Ieee.div Ieee.lt
 passes = refl
+
+-- Read of the points (0, 9), (9, 0), (9, 9) and (0, 0), base 1, line at 0.001: up to the first 9, else both; none by a base of 0.
+abbrev read : ℕ → ℕ → ℕ → ℕ
+read base a b = Pass.coordinatesRead base (floats (0x3F80_0000 ∷ [])) (floats (0 ∷ [])) (floats (0 ∷ [])) (floats (a ∷ b ∷ []))
+
+pass-reads : read 1 0 0x4110_0000 ∷ read 1 0x4110_0000 0 ∷ read 1 0x4110_0000 0x4110_0000 ∷ read 1 0 0 ∷ read 0 0 0x4110_0000 ∷ [] ≡ 2 ∷ 1 ∷ 1 ∷ 2 ∷ 0 ∷ []
+unfolding Pass.coordinatesRead passable readUntil overAt overLine absf32 ofBits Ieee.neg Ieee.add Ieee.mul Ieee.lt
+pass-reads = refl
+
+-- Read of the same points, in boxes of 0.5 around (0, 0): likewise; none from the second coordinate on, where the box is too long.
+abbrev held : ℕ → ℕ → ℕ → ℕ
+held start a b = Box.coordinatesRead (floats (0x3F00_0000 ∷ 0x3F00_0000 ∷ [])) start (floats (0x3F80_0000 ∷ 0x3F80_0000 ∷ [])) (floats (a ∷ b ∷ [])) (floats (0 ∷ 0 ∷ []))
+
+box-reads : held 0 0 0x4110_0000 ∷ held 0 0x4110_0000 0 ∷ held 0 0x4110_0000 0x4110_0000 ∷ held 0 0 0 ∷ held 1 0 0x4110_0000 ∷ [] ≡ 2 ∷ 1 ∷ 1 ∷ 2 ∷ 0 ∷ []
+unfolding Box.coordinatesRead Box.boxFits readUntil outsideAt outside ofBits Ieee.add Ieee.sub Ieee.mul Ieee.lt
+box-reads = refl

@@ -7,14 +7,17 @@ use Prim.Native.Nat.{ℕ, zero, suc, _-_, _*_, _/_, _%_, _<_, _≤_}
 use lib.ListN.{length}
 use lib.Ieee as Ieee
 use lib.Ieee.{Float, binary32, ofBits}
-use lib.Dec.{leb, ltb}
+use lib.Dec.{leb, ltb, eqb}
 use borrow.Author.Tests.{le-leb, leb-true, lt-ltb, ltb-true, eq-eqb}
+use Rattle.scan.specs.Read.{readUntil}
 use Rattle.util.specs.Util.{maxf32, minf32}
 use Rattle.uncertainty_box.specs.Const.{zero32, one, noiseFactor}
 use Rattle.uncertainty_box.specs.Scan.{nth, some, count, listed}
-use Rattle.uncertainty_box.specs.Box.{outsideAt, withinUnertaintyBox, pathDeviation, edgeOf, edgeAt, uncertaintyBox, neighbourWithin, supported, wholePoints, explainedByConditionalField}
+use Rattle.uncertainty_box.specs.Box.{outsideAt, withinUnertaintyBox, boxFits, pathDeviation, edgeOf, edgeAt, uncertaintyBox, neighbourWithin, supported, wholePoints, explainedByConditionalField}
+use Rattle.uncertainty_box.specs.Box as Box
+use Rattle.uncertainty_box.specs.Pass as Pass
 use Rattle.uncertainty_box.specs.Pass.{overLine, overAt, noiseStep, noiseLoop, noisePass, passable, centeredTransformPass}
-use Rattle.uncertainty_box.proofs.Scans.{early, some-at, some-early, listed-length}
+use Rattle.uncertainty_box.proofs.Scans.{early, some-at, some-early, read-here, read-all, listed-length}
 
 module _ (box : List Float) (start : ℕ) (scale point other : List Float) where
   -- One coordinate outside settles the full scan, whatever the others are: the first one may end it.
@@ -32,9 +35,27 @@ module _ (box : List Float) (start : ℕ) (scale point other : List Float) where
   unfolding withinUnertaintyBox
   within-early = rw some-early
 
-  pub within-none : length box ≤ length scale → length box ≤ length point - start → length box ≤ length other - start → some (length box) (outsideAt box start scale point other) ≡ false → withinUnertaintyBox box start scale point other ≡ true
-  unfolding withinUnertaintyBox
-  within-none h k l e = rw (le-leb _ _ h, le-leb _ _ k, le-leb _ _ l, e)
+  pub within-none : boxFits (length box) start (length scale) (length point) (length other) ≡ true → some (length box) (outsideAt box start scale point other) ≡ false → withinUnertaintyBox box start scale point other ≡ true
+  unfolding withinUnertaintyBox boxFits
+  within-none p e = rw (p, e)
+
+  pub within-unfit : boxFits (length box) start (length scale) (length point) (length other) ≡ false → withinUnertaintyBox box start scale point other ≡ false
+  unfolding withinUnertaintyBox boxFits
+  within-unfit e = rw e
+
+  pub box-read-unfit : boxFits (length box) start (length scale) (length point) (length other) ≡ false → 0 ≡ Box.coordinatesRead box start scale point other
+  unfolding Box.coordinatesRead
+  box-read-unfit e = rw e
+
+  module _ (p : boxFits (length box) start (length scale) (length point) (length other) ≡ true) where
+    -- How many are read where the first coordinate outside is y, and where there is none.
+    pub box-read-outside : (y r : ℕ) → y < length box → some y (outsideAt box start scale point other) ≡ false → outsideAt box start scale point other y ≡ true → r ≡ readUntil (length box) (eqb y) → r ≡ Box.coordinatesRead box start scale point other
+    unfolding Box.coordinatesRead
+    box-read-outside y r h none e q = q ∙ rw p (read-here (outsideAt box start scale point other) (length box) y h none e)
+
+    pub box-read-all : some (length box) (outsideAt box start scale point other) ≡ false → length box ≡ Box.coordinatesRead box start scale point other
+    unfolding Box.coordinatesRead
+    box-read-all none = rw p (sym (read-all (outsideAt box start scale point other) (length box) none))
 
 and-left : (a b : Bool) → (a && b) ≡ true → a ≡ true
 and-left true b e = refl
@@ -43,6 +64,13 @@ and-left false b e = e
 and-right : (a b : Bool) → (a && b) ≡ true → b ≡ true
 and-right true b e = e
 and-right false b e = cc
+
+-- What `boxFits` says.
+pub box-fits-holds : (edges start scales points others : ℕ) → boxFits edges start scales points others ≡ true → (edges ≤ scales) × (edges ≤ points - start) × (edges ≤ others - start)
+unfolding boxFits
+box-fits-holds edges start scales points others e =
+    let a = and-left _ _ e in
+    (leb-true edges scales (and-left _ _ a), leb-true edges (points - start) (and-right (leb edges scales) _ a), leb-true edges (others - start) (and-right (leb edges scales && leb edges (points - start)) _ e))
 
 same : {A : Type 0} (a : A) (b : Bool) → cond b a a ≡ a
 same a true = refl
@@ -98,6 +126,20 @@ module _ (base : ℕ) (scale shift deviations point : List Float) where
 
   pub centered-unfit : passable base (length scale) (length shift) (length deviations) (length point) ≡ false → centeredTransformPass base scale shift deviations point ≡ zero32
   centered-unfit e = centered-is ∙ rw e
+
+  pub pass-read-unfit : passable base (length scale) (length shift) (length deviations) (length point) ≡ false → 0 ≡ Pass.coordinatesRead base scale shift deviations point
+  unfolding Pass.coordinatesRead
+  pass-read-unfit e = rw e
+
+  module _ (p : passable base (length scale) (length shift) (length deviations) (length point) ≡ true) where
+    -- How many are read where the first coordinate over its line is i, and where there is none.
+    pub pass-read-over : (i r : ℕ) → i < length point → some i (overAt base scale shift point) ≡ false → overAt base scale shift point i ≡ true → r ≡ readUntil (length point) (eqb i) → r ≡ Pass.coordinatesRead base scale shift deviations point
+    unfolding Pass.coordinatesRead
+    pass-read-over i r h none e q = q ∙ rw p (read-here (overAt base scale shift point) (length point) i h none e)
+
+    pub pass-read-all : some (length point) (overAt base scale shift point) ≡ false → length point ≡ Pass.coordinatesRead base scale shift deviations point
+    unfolding Pass.coordinatesRead
+    pass-read-all none = rw p (sym (read-all (overAt base scale shift point) (length point) none))
 
 -- What `passable` says.
 pub passable-holds : (base scales shifts deviations points : ℕ) → passable base scales shifts deviations points ≡ true → (0 < base) × (base ≤ scales) × (base ≤ shifts)

@@ -1,4 +1,4 @@
--- A loop's step for each of `some`, `count` and `listed`, for any function of the place. Assumes nothing.
+-- A loop's step for each of `some`, `count` and `listed`, for any function of the place, and how many places a scan for `some` reads. Assumes nothing.
 use mathlib.Core.Path.{_≡_, refl, sym, ap, ap₂, _∙_}
 use mathlib.Core.Bool.{Bool, true, false, cond, _||_, or-true}
 use mathlib.Core.List.{List, [], _∷_, _++_}
@@ -7,10 +7,21 @@ use Prim.Native.Nat.{ℕ, zero, suc, _+_, _<_, _≤_}
 use native.Mathlib.Nat.{not-suc-le-zero, le-of-suc-le-suc, eq-or-lt-of-le}
 use native.Mathlib.Numerals.{add-one}
 use native.Mathlib.Omega.{arith}
+use lib.Dec.{eqb}
 use lib.ListN.{length, getD, set, take, length-append, List·getD-append}
 use lib.Seq.{take-suc-set, take-all, getD-at}
 use lib.Ieee.{Float}
+use Rattle.scan.specs.Read.{readUntil}
+use Rattle.scan.proofs.Laws.{laws, read-first, read-at}
 use Rattle.uncertainty_box.specs.Scan.{some, count, listed}
+
+or-left : (a b : Bool) → (a || b) ≡ false → a ≡ false
+or-left true b e = e
+or-left false b e = refl
+
+or-right : (a b : Bool) → (a || b) ≡ false → b ≡ false
+or-right true b e = cc
+or-right false b e = e
 
 module _ (f : ℕ → Bool) where
   -- A place where f holds settles it, whatever the other places are.
@@ -26,6 +37,22 @@ module _ (f : ℕ → Bool) where
   pub some-not : (y : ℕ) → some y f ≡ false → f y ≡ false → some (y + 1) f ≡ false
   unfolding some
   some-not y e h = rw (add-one, e, h)
+
+  some-none : (n : ℕ) → some n f ≡ false → (i : ℕ) → i < n → f i ≡ false
+  unfolding some
+  some-none zero e i h = absurd (not-suc-le-zero h)
+  some-none (suc n) e i h = ⊎-elim
+      (λ q. ap f q ∙ or-right (some n f) (f n) e)
+      (λ l. some-none n (or-left (some n f) (f n) e) i l)
+      (eq-or-lt-of-le (le-of-suc-le-suc h))
+
+  -- A scan that has met no hit before place y and meets one there reads as many as one whose only hit is y.
+  pub read-here : (n y : ℕ) → y < n → some y f ≡ false → f y ≡ true → readUntil n (eqb y) ≡ readUntil n f
+  read-here n y h none e = read-at n y h ∙ sym (read-first n f y h (some-none y none) e)
+
+  -- One that meets none reads all.
+  pub read-all : (n : ℕ) → some n f ≡ false → readUntil n f ≡ n
+  read-all n e = laws n f .all (some-none n e)
 
   pub count-next : (k w r : ℕ) (b : Bool) → w ≡ count k f → b ≡ f k → r ≡ cond b (w + 1) w → r ≡ count (k + 1) f
   unfolding count
@@ -63,6 +90,21 @@ pub some-early : (n : ℕ) (f : ℕ → Bool) → some n f ≡ early n f
 unfolding some early
 some-early zero f = refl
 some-early (suc n) f = some-front n f ∙ ap (cond (f 0) true) (some-early n (λ i. f (suc i)))
+
+early-settled : (n : ℕ) (f g : ℕ → Bool) → ((i : ℕ) → i < readUntil n f → g i ≡ f i) → early n g ≡ early n f
+unfolding early readUntil
+early-settled zero f g h = refl
+early-settled (suc n) f g h = by-first (f 0) refl (readUntil n (λ i. f (suc i))) h (early-settled n (λ i. f (suc i)) (λ i. g (suc i)))
+  where
+    by-first : (b : Bool) → f 0 ≡ b → (r : ℕ) → ((i : ℕ) → i < cond b 1 (suc r) → g i ≡ f i)
+        → (((j : ℕ) → j < r → g (suc j) ≡ f (suc j)) → early n (λ i. g (suc i)) ≡ early n (λ i. f (suc i)))
+        → cond (g 0) true (early n (λ i. g (suc i))) ≡ cond b true (early n (λ i. f (suc i)))
+    by-first true q r h rest = rw (h 0 (omega arith) ∙ q)
+    by-first false q r h rest = rw (h 0 (omega arith) ∙ q) (rest (λ j l. h (suc j) (omega arith)))
+
+-- The places that a scan reads settle it: a test that says the same of them gets the same answer.
+pub some-settled : (n : ℕ) (f g : ℕ → Bool) → ((i : ℕ) → i < readUntil n f → g i ≡ f i) → some n g ≡ some n f
+some-settled n f g h = some-early n g ∙ early-settled n f g h ∙ sym (some-early n f)
 
 module _ (f : ℕ → Float) where
   pub listed-length : (n : ℕ) → length (listed n f) ≡ n

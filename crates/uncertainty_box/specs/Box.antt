@@ -7,6 +7,7 @@ use lib.ListN.{length, take, drop}
 use lib.Dec.{leb, ltb, eqb}
 use lib.Ieee as Ieee
 use lib.Ieee.{Float, binary32}
+use Rattle.scan.specs.Read.{readUntil}
 use Rattle.util.specs.Util.{maxf32, absf32}
 use Rattle.uncertainty_box.specs.Const.{zero32, precision, noiseFactor, samplingSupport}
 use Rattle.uncertainty_box.specs.Scan.{nth, some, count, listed}
@@ -29,6 +30,17 @@ withinUnertaintyBox box start scale point other =
     && leb (length box) (length point - start)
     && leb (length box) (length other - start)
     && not (some (length box) (outsideAt box start scale point other))
+
+-- No index runs out: neither scale nor a point from start on is shorter than the box.
+unfoldable pub boxFits : ℕ → ℕ → ℕ → ℕ → ℕ → Bool
+boxFits edges start scales points others = leb edges scales && leb edges (points - start) && leb edges (others - start)
+
+-- How many coordinates are read: up to the first one outside, else all of the box. None where an index would run out.
+unfoldable pub coordinatesRead : List Float → ℕ → List Float → List Float → List Float → ℕ
+coordinatesRead box start scale point other =
+    cond (boxFits (length box) start (length scale) (length point) (length other))
+    (readUntil (length box) (outsideAt box start scale point other))
+    0
 
 -- What one row adds to the variation: how far the next row is from it, or, of differences, its own size.
 unfoldable pub pathStep : Bool → Float → Float → Float

@@ -6,6 +6,7 @@ use lib.ListN.{length}
 use lib.Dec.{leb, ltb}
 use lib.Ieee as Ieee
 use lib.Ieee.{Float, binary32}
+use Rattle.scan.specs.Read.{readUntil}
 use Rattle.util.specs.Util.{maxf32, minf32, absf32}
 use Rattle.uncertainty_box.specs.Const.{zero32, one, three, precision, noiseFactor}
 use Rattle.uncertainty_box.specs.Scan.{nth, some}
@@ -49,3 +50,10 @@ centeredTransformPass base scale shift deviations point =
     cond (passable base (length scale) (length shift) (length deviations) (length point))
     (noisePass base scale deviations point (cond (some (length point) (overAt base scale shift point)) one zero32))
     zero32
+
+-- How many coordinates its first loop reads: up to the first one over its line, else all. None where an index would run out.
+unfoldable pub coordinatesRead : ℕ → List Float → List Float → List Float → List Float → ℕ
+coordinatesRead base scale shift deviations point =
+    cond (passable base (length scale) (length shift) (length deviations) (length point))
+    (readUntil (length point) (overAt base scale shift point))
+    0

@@ -4,6 +4,7 @@ ghost use mathlib.Core.Bool.{cond};
 ghost use Prim.Native.Nat.{_+_, _-_, _≤_, _<_, _%_};
 ghost use Rattle.uncertainty_box.specs.Box as Box;
 ghost use Rattle.uncertainty_box.specs.Pass as Pass;
+ghost use Rattle.uncertainty_box.specs.Settled.{BoxSettled, PassSettled};
 
 // How many of len places are left from start on.
 fn left(len: usize, start: usize) -> usize
@@ -24,36 +25,69 @@ fn outside(edge: f32, scale: f32, p: f32, q: f32) -> bool
     a > b + edge
 }
 
-// Whether the other point's box has the point within it. The first coordinate outside settles it. No where a slice is too short for the box.
+fn box_fits(edges: usize, start: usize, scales: usize, points: usize, others: usize) -> bool
+    ensures { λ r. ⌜ r ≡ Box.boxFits edges start scales points others ⌝ }
+{
+    if scales < edges {
+        return false;
+    }
+    if left(points, start) < edges {
+        return false;
+    }
+    edges <= left(others, start)
+}
+
+// Whether a point is within a box, and how many of its coordinates were read to say so.
+pub struct Within {
+    pub within: bool,
+    pub read: usize,
+}
+
+// Whether the other point's box has the point within it. The first coordinate outside settles it, and no further one is read.
+// No, and none read, where a slice is too short for the box.
 pub fn within_unertainty_box(
     uncertainty_box: &[f32],
     start_position: usize,
     scale: &[f32],
     point: &[f32],
     other_point: &[f32],
-) -> bool
-    ensures { λ r. ⌜ r ≡ Box.withinUnertaintyBox
+) -> Within
+    ensures { λ r. ⌜
+        (r .within ≡ Box.withinUnertaintyBox
         (now («uncertainty_box» .entry)) «start_position» (now (scale .entry))
-        (now (point .entry)) (now («other_point» .entry)) ⌝ }
+        (now (point .entry)) (now («other_point» .entry)))
+        × (r .read ≡ Box.coordinatesRead
+        (now («uncertainty_box» .entry)) «start_position» (now (scale .entry))
+        (now (point .entry)) (now («other_point» .entry))) ⌝ }
 {
-    if scale.len() < uncertainty_box.len() {
-        return false;
-    }
-    if left(point.len(), start_position) < uncertainty_box.len() {
-        return false;
-    }
-    if left(other_point.len(), start_position) < uncertainty_box.len() {
-        return false;
+    let all = uncertainty_box.len();
+    if !box_fits(
+        all,
+        start_position,
+        scale.len(),
+        point.len(),
+        other_point.len(),
+    ) {
+        return Within {
+            within: false,
+            read: 0,
+        };
     }
     let mut y = 0usize;
-    while y < uncertainty_box.len() {
+    while y < all {
         let at = start_position + y;
         if outside(uncertainty_box[y], scale[y], point[at], other_point[at]) {
-            return false;
+            return Within {
+                within: false,
+                read: scan::read_until(y, all),
+            };
         }
         y += 1;
     }
-    true
+    Within {
+        within: true,
+        read: all,
+    }
 }
 
 // What one row adds to the variation.
@@ -201,8 +235,8 @@ pub fn explained_by_conditional_field(
     while k < total {
         let end = at + dimension;
         let other = &neighbours[at..end];
-        let within = within_unertainty_box(uncertainty_box, start_position, scale, point, other);
-        weight = bump(weight, within);
+        let held = within_unertainty_box(uncertainty_box, start_position, scale, point, other);
+        weight = bump(weight, held.within);
         at = end;
         k += 1;
     }
@@ -242,35 +276,65 @@ fn next_in_row(y: usize, base: usize) -> usize
     if y + 1 < base { y + 1 } else { 0 }
 }
 
-// 1 where a coordinate is over its precision line, else 0. The first one over it settles it, and the deviations change nothing.
+// The factor of the noise pass, and how many coordinates were read to find it.
+pub struct Passed {
+    pub factor: f32,
+    pub read: usize,
+}
+
+// 1 where a coordinate is over its precision line, else 0. The first one over it settles it, and no further one is read; the deviations change nothing.
+// 0, and none read, where a slice is too short for the base.
 pub fn centered_transform_pass(
     base_dimension: usize,
     scale: &[f32],
     shift: &[f32],
     difference_deviations: &[f32],
     point: &[f32],
-) -> f32
-    ensures { λ r. ⌜ r ≡ Pass.centeredTransformPass
+) -> Passed
+    ensures { λ r. ⌜
+        (r .factor ≡ Pass.centeredTransformPass
         «base_dimension» (now (scale .entry)) (now (shift .entry))
-        (now («difference_deviations» .entry)) (now (point .entry)) ⌝ }
+        (now («difference_deviations» .entry)) (now (point .entry)))
+        × (r .read ≡ Pass.coordinatesRead
+        «base_dimension» (now (scale .entry)) (now (shift .entry))
+        (now («difference_deviations» .entry)) (now (point .entry))) ⌝ }
 {
+    let all = point.len();
     if !passable(
         base_dimension,
         scale.len(),
         shift.len(),
         difference_deviations.len(),
-        point.len(),
+        all,
     ) {
-        return 0.0;
+        return Passed {
+            factor: 0.0,
+            read: 0,
+        };
     }
     let mut i = 0usize;
     let mut y = 0usize;
-    while i < point.len() {
+    while i < all {
         if over_line(point[i], scale[y], shift[y]) {
-            return 1.0;
+            return Passed {
+                factor: 1.0,
+                read: scan::read_until(i, all),
+            };
         }
         i += 1;
         y = next_in_row(y, base_dimension);
     }
-    0.0
+    Passed {
+        factor: 0.0,
+        read: all,
+    }
 }
+
+// These do nothing: they hold the theorems to their statements.
+fn pass_settled()
+    ensures { λ r. ⌜ PassSettled ⌝ }
+{}
+
+fn box_settled()
+    ensures { λ r. ⌜ BoxSettled ⌝ }
+{}

@@ -24,7 +24,7 @@ centered-transform-pass-requires c κs = search needs
 returns : tie.Need-returns
 returns c =
     let a = c .before .before .before .before .before .before .before .before .before .args in
-    c .centered-transform-pass .ensures
+    c .centered-transform-pass .ensures .0
     ∙ ap (centeredTransformPass (a .r .«base_dimension») (now (a .scale)) (now (a .shift)) (now (a .difference-deviations)))
     (not-recent (now (a .point)) (a .gap) (a .r .«shingle_size») (a .r .«base_dimension») (a .l .«has_anomaly») (now (a .last-expected)) (now (a .last-anomalous)) (a .l .anomaly .«relative_index») (isDifferenced (a .r .«transform_method»)) (a .r .«time_augmented») (sym (c .before .before .is-recent .ensures) ∙ not-true (c .before .before .is-recent .result) (c .before .if1 .taken)))
 
@@ -68,7 +68,7 @@ returns-2 c =
     let short : length (take (length (now (a .point))) (c .before .before .before .before .before .before .before .zeros .result)) ≡ length (now (a .point)) = length-take-le (length (now (a .point))) (c .before .before .before .before .before .before .before .zeros .result) (omega arith) in
     let long = c .before .before .before .write-corrected-point .kept .1 .1 .1 .1 .1 .1 .1 .1 .1 .1 .0 ∙ short in
     let i = toZ-ofZ w32 (a .l .anomaly .«relative_index») (search needs) in
-    c .centered-transform-pass2 .ensures
+    c .centered-transform-pass2 .ensures .0
     ∙ ap (centeredTransformPass (a .r .«base_dimension») (now (a .scale)) (now (a .shift)) (now (a .difference-deviations)))
     (front-is (c .before .before .before .before .before .before .before .zeros .result) (c .before .before .before .write-corrected-point .last .1 .1 .1 .1 .1 .1 .1 .1 .1 .1 .0) _ (length (now (a .point))) long
     (corrected-is (length (now (a .point))) (a .gap) (a .r .«shingle_size») (a .r .«base_dimension») (a .l .«has_anomaly») (length (now (a .last-expected))) (length (now (a .last-anomalous))) (take (length (now (a .point))) (c .before .before .before .before .before .before .before .zeros .result)) _ _ short (c .before .before .before .before .before .before .before .before .before .before .before .before .before .before .before .before .before .pre .1) (c .before .before .before .write-corrected-point .ensures)

@@ -48,7 +48,7 @@ returns : tie.Need-returns
 returns c =
     let a = c .before .before .before .before .before .before .args in
     let wide : a .start + a .base - a .start ≡ a .base = omega arith in
-    c .within-unertainty-box .ensures
+    c .within-unertainty-box .ensures .0
     ∙ ap (λ (n : ℕ). withinUnertaintyBox (take (a .base) (a .t1)) 0 (now (a .scale)) (take n (drop (a .start) (now (a .point)))) (take (a .base) (a .t6))) wide
 
 pub within-expected-spec : {M : Type 1} → statement M

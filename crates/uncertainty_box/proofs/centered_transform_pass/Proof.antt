@@ -12,15 +12,15 @@ use Rattle.uncertainty_box.specs.Scan.{some}
 use Rattle.uncertainty_box.specs.Pass.{overAt}
 use Rattle.uncertainty_box.proofs.Scans.{some-not}
 use Rattle.uncertainty_box.proofs.Rows.{place-next}
-use Rattle.uncertainty_box.proofs.Laws.{passable-holds, centered-unfit, centered-over, centered-none, over-at}
+use Rattle.uncertainty_box.proofs.Laws.{passable-holds, centered-unfit, centered-over, centered-none, over-at, pass-read-unfit, pass-read-over, pass-read-all}
 use Rattle.uncertainty_box.proofs.centered_transform_pass.Statement.{statement}
 use Rattle.uncertainty_box.proofs.centered_transform_pass.Tie as tie
 
 abbrev Inv-loop : tie.InvT-loop
-Inv-loop base-dimension scale shift difference-deviations point i₀ y₀ i y = (i ≤ length point) × (y < base-dimension) × (y ≡ i % base-dimension) × (base-dimension ≤ length scale) × (base-dimension ≤ length shift) × (some i (overAt base-dimension scale shift point) ≡ false)
+Inv-loop base-dimension scale shift difference-deviations point all i₀ y₀ i y = (i ≤ length point) × (y < base-dimension) × (y ≡ i % base-dimension) × (base-dimension ≤ length scale) × (base-dimension ≤ length shift) × (some i (overAt base-dimension scale shift point) ≡ false)
 
 abbrev μ-loop : tie.MeasureT-loop
-μ-loop base-dimension scale shift difference-deviations point i₀ y₀ i y = length point - i
+μ-loop base-dimension scale shift difference-deviations point all i₀ y₀ i y = length point - i
 
 passable-requires : tie.Need-passable-requires Inv-loop μ-loop
 passable-requires c κs = search needs
@@ -28,7 +28,10 @@ passable-requires c κs = search needs
 returns : tie.Need-returns Inv-loop μ-loop
 returns c =
     let a = c .before .before .before .before .before .before .args in
-    sym (centered-unfit (a .base-dimension) (now (a .scale)) (now (a .shift)) (now (a .difference-deviations)) (now (a .point)) (not-true _ (rw (c .before .passable .ensures) at (c .if1 .taken))))
+    let unfit = not-true _ (rw (c .before .passable .ensures) at (c .if1 .taken)) in (
+      sym (centered-unfit (a .base-dimension) (now (a .scale)) (now (a .shift)) (now (a .difference-deviations)) (now (a .point)) unfit),
+      pass-read-unfit (a .base-dimension) (now (a .scale)) (now (a .shift)) (now (a .difference-deviations)) (now (a .point)) unfit,
+    )
 
 loop-holds : tie.Need-loop-holds Inv-loop μ-loop
 unfolding some
@@ -58,12 +61,19 @@ shared-slice-read-over-line-3 c = search needs
 over-line-requires : tie.Need-over-line-requires Inv-loop μ-loop
 over-line-requires c κs = search needs
 
+read-until-requires : tie.Need-read-until-requires Inv-loop μ-loop
+read-until-requires c κs = search needs
+
 returns-2 : tie.Need-returns-2 Inv-loop μ-loop
 returns-2 c =
-    let a = c .before .before .before .before .before .before .before .before .before .before .before .before .before .args in
-    let l = c .before .before .before .before .before .before .loop in
-    let over = over-at (a .base-dimension) (now (a .scale)) (now (a .shift)) (now (a .point)) (l .i) (l .y) _ true (l .inv .2) (c .before .over-line .ensures) (c .if2 .taken) in
-    sym (centered-over (a .base-dimension) (now (a .scale)) (now (a .shift)) (now (a .difference-deviations)) (now (a .point)) (l .i) (not-false _ (rw (c .before .before .before .before .before .before .before .before .passable .ensures) at (c .before .before .before .before .before .before .before .if1 .left))) (c .before .before .before .before .before .loop-test .taken) over)
+    let a = c .before .before .before .before .before .before .before .before .before .before .before .before .before .before .args in
+    let l = c .before .before .before .before .before .before .before .loop in
+    let here = c .before .before .before .before .before .before .loop-test .taken in
+    let fit = not-false _ (rw (c .before .before .before .before .before .before .before .before .before .passable .ensures) at (c .before .before .before .before .before .before .before .before .if1 .left)) in
+    let over = over-at (a .base-dimension) (now (a .scale)) (now (a .shift)) (now (a .point)) (l .i) (l .y) _ true (l .inv .2) (c .before .before .over-line .ensures) (c .before .if2 .taken) in (
+      sym (centered-over (a .base-dimension) (now (a .scale)) (now (a .shift)) (now (a .difference-deviations)) (now (a .point)) (l .i) fit here over),
+      pass-read-over (a .base-dimension) (now (a .scale)) (now (a .shift)) (now (a .difference-deviations)) (now (a .point)) fit (l .i) _ here (l .inv .5) over (c .read-until .ensures),
+    )
 
 add-i : tie.Need-add-i Inv-loop μ-loop
 add-i c = search needs
@@ -91,8 +101,11 @@ returns-3 : tie.Need-returns-3 Inv-loop μ-loop
 returns-3 c =
     let a = c .before .before .before .before .before .before .before .before .args in
     let l = c .before .loop in
-    let none = ap (λ (n : ℕ). some n (overAt (a .base-dimension) (now (a .scale)) (now (a .shift)) (now (a .point)))) (le-antisymm (c .loop-test .left) (l .inv .0)) ∙ l .inv .5 in
-    sym (centered-none (a .base-dimension) (now (a .scale)) (now (a .shift)) (now (a .difference-deviations)) (now (a .point)) none)
+    let fit = not-false _ (rw (c .before .before .before .passable .ensures) at (c .before .before .if1 .left)) in
+    let none = ap (λ (n : ℕ). some n (overAt (a .base-dimension) (now (a .scale)) (now (a .shift)) (now (a .point)))) (le-antisymm (c .loop-test .left) (l .inv .0)) ∙ l .inv .5 in (
+      sym (centered-none (a .base-dimension) (now (a .scale)) (now (a .shift)) (now (a .difference-deviations)) (now (a .point)) none),
+      pass-read-all (a .base-dimension) (now (a .scale)) (now (a .shift)) (now (a .difference-deviations)) (now (a .point)) fit none,
+    )
 
 pub centered-transform-pass-spec : {M : Type 1} → statement M
 centered-transform-pass-spec =
@@ -110,6 +123,7 @@ centered-transform-pass-spec =
     mul-over-line-3
     shared-slice-read-over-line-3
     over-line-requires
+    read-until-requires
     returns-2
     add-i
     next-in-row-requires

@@ -83,7 +83,7 @@ loop-again c =
     let a = c .before .before .before .before .before .before .before .before .before .before .before .before .args in
     let l = c .before .before .before .before .loop in
     let f = neighbourWithin (now (a .uncertainty-box)) (now (a .point)) (a .start-position) (now (a .scale)) (now (a .neighbours)) (a .dimension) in
-    let test = neighbour-is (now (a .uncertainty-box)) (now (a .point)) (a .start-position) (now (a .scale)) (now (a .neighbours)) (a .dimension) (l .at) (l .k) _ (l .inv .1) (c .before .within-unertainty-box .ensures) in
+    let test = neighbour-is (now (a .uncertainty-box)) (now (a .point)) (a .start-position) (now (a .scale)) (now (a .neighbours)) (a .dimension) (l .at) (l .k) _ (l .inv .1) (c .before .within-unertainty-box .ensures .0) in
     let e = count-next f (l .k) (l .weight) _ _ (l .inv .5) test (c .bump .ensures) in (
       omega arith,
       omega (arith, row-end (l .k) (a .dimension)),

@@ -1,4 +1,4 @@
--- The loop knows that no coordinate so far is outside. Assumes nothing.
+-- The loop knows that the slices are long enough, and that no coordinate so far is outside. Assumes nothing.
 use borrow.Author.Needs.{needs}
 use native.Mathlib.Omega.{arith}
 use Prim.Native.Nat.{ℕ, _≤_, _-_}
@@ -7,50 +7,37 @@ use mathlib.Core.Bool.{false}
 use denote.Ref.{now}
 use lib.ListN.{length}
 use native.Mathlib.Nat.{le-antisymm}
-use borrow.Author.Tests.{le-leb, lt-leb}
+use borrow.Author.Tests.{not-true, not-false}
 use Rattle.uncertainty_box.specs.Scan.{some}
-use Rattle.uncertainty_box.specs.Box.{outsideAt, withinUnertaintyBox}
+use Rattle.uncertainty_box.specs.Box.{outsideAt}
 use Rattle.uncertainty_box.proofs.Scans.{some-not}
-use Rattle.uncertainty_box.proofs.Laws.{within-outside, within-none}
+use Rattle.uncertainty_box.proofs.Laws.{box-fits-holds, within-outside, within-none, within-unfit, box-read-unfit, box-read-outside, box-read-all}
 use Rattle.uncertainty_box.proofs.within_unertainty_box.Statement.{statement}
 use Rattle.uncertainty_box.proofs.within_unertainty_box.Tie as tie
 
 abbrev Inv-loop : tie.InvT-loop
-Inv-loop uncertainty-box start-position scale point other-point y₀ y = (y ≤ length uncertainty-box) × (some y (outsideAt uncertainty-box start-position scale point other-point) ≡ false)
+Inv-loop uncertainty-box start-position scale point other-point all y₀ y = (y ≤ length uncertainty-box) × (length uncertainty-box ≤ length scale) × (length uncertainty-box ≤ length point - start-position) × (length uncertainty-box ≤ length other-point - start-position) × (some y (outsideAt uncertainty-box start-position scale point other-point) ≡ false)
 
 abbrev μ-loop : tie.MeasureT-loop
-μ-loop uncertainty-box start-position scale point other-point y₀ y = length uncertainty-box - y
+μ-loop uncertainty-box start-position scale point other-point all y₀ y = length uncertainty-box - y
+
+box-fits-requires : tie.Need-box-fits-requires Inv-loop μ-loop
+box-fits-requires c κs = search needs
 
 returns : tie.Need-returns Inv-loop μ-loop
-unfolding withinUnertaintyBox
-returns c = simp (lt-leb _ _ (c .if1 .taken))
-
-left-requires : tie.Need-left-requires Inv-loop μ-loop
-left-requires c κs = search needs
-
-returns-2 : tie.Need-returns-2 Inv-loop μ-loop
-unfolding withinUnertaintyBox
-returns-2 c =
-    let a = c .before .before .before .before .before .before .before .args in
-    simp (le-leb _ _ (c .before .before .if1 .left), lt-leb (length (now (a .uncertainty-box))) (length (now (a .point)) - a .start-position) (omega (arith, c .before .left .ensures)))
-
-left-requires-2 : tie.Need-left-requires-2 Inv-loop μ-loop
-left-requires-2 c κs = search needs
-
-returns-3 : tie.Need-returns-3 Inv-loop μ-loop
-unfolding withinUnertaintyBox
-returns-3 c =
-    let a = c .before .before .before .before .before .before .before .before .before .args in
-    let n = length (now (a .uncertainty-box)) in
-    simp (
-      le-leb _ _ (c .before .before .before .before .if1 .left),
-      le-leb n (length (now (a .point)) - a .start-position) (omega (arith, c .before .before .before .left .ensures)),
-      lt-leb n (length (now (a .other-point)) - a .start-position) (omega (arith, c .before .left2 .ensures)),
+returns c =
+    let a = c .before .before .before .before .before .before .args in
+    let unfit = not-true _ (rw (c .before .box-fits .ensures) at (c .if1 .taken)) in (
+      sym (within-unfit (now (a .uncertainty-box)) (a .start-position) (now (a .scale)) (now (a .point)) (now (a .other-point)) unfit),
+      box-read-unfit (now (a .uncertainty-box)) (a .start-position) (now (a .scale)) (now (a .point)) (now (a .other-point)) unfit,
     )
 
 loop-holds : tie.Need-loop-holds Inv-loop μ-loop
 unfolding some
-loop-holds c = (search needs, refl)
+loop-holds c =
+    let a = c .before .before .before .before .before .before .args in
+    let p = box-fits-holds (length (now (a .uncertainty-box))) (a .start-position) (length (now (a .scale))) (length (now (a .point))) (length (now (a .other-point))) (not-false _ (rw (c .before .box-fits .ensures) at (c .if1 .left))) in
+    (omega arith, p .0, p .1, p .2, refl)
 
 add-at : tie.Need-add-at Inv-loop μ-loop
 add-at c = search needs
@@ -82,11 +69,20 @@ shared-slice-read-outside-4 c = search needs
 outside-requires : tie.Need-outside-requires Inv-loop μ-loop
 outside-requires c κs = search needs
 
-returns-4 : tie.Need-returns-4 Inv-loop μ-loop
+read-until-requires : tie.Need-read-until-requires Inv-loop μ-loop
+read-until-requires c κs = search needs
+
+returns-2 : tie.Need-returns-2 Inv-loop μ-loop
 unfolding outsideAt
-returns-4 c =
-    let a = c .before .before .before .before .before .before .before .before .before .before .before .before .before .before .before .before .before .args in
-    sym (within-outside (now (a .uncertainty-box)) (a .start-position) (now (a .scale)) (now (a .point)) (now (a .other-point)) (c .before .before .before .before .before .before .before .loop .y) (c .before .before .before .before .before .before .loop-test .taken) (sym (c .before .outside .ensures) ∙ c .if4 .taken))
+returns-2 c =
+    let a = c .before .before .before .before .before .before .before .before .before .before .before .before .before .before .before .args in
+    let l = c .before .before .before .before .before .before .before .before .loop in
+    let here = c .before .before .before .before .before .before .before .loop-test .taken in
+    let fit = not-false _ (rw (c .before .before .before .before .before .before .before .before .before .before .box-fits .ensures) at (c .before .before .before .before .before .before .before .before .before .if1 .left)) in
+    let out = sym (c .before .before .outside .ensures) ∙ c .before .if2 .taken in (
+      sym (within-outside (now (a .uncertainty-box)) (a .start-position) (now (a .scale)) (now (a .point)) (now (a .other-point)) (l .y) here out),
+      box-read-outside (now (a .uncertainty-box)) (a .start-position) (now (a .scale)) (now (a .point)) (now (a .other-point)) fit (l .y) _ here (l .inv .4) out (c .read-until .ensures),
+    )
 
 add-y : tie.Need-add-y Inv-loop μ-loop
 add-y c = search needs
@@ -97,16 +93,21 @@ loop-less c = search needs
 loop-again : tie.Need-loop-again Inv-loop μ-loop
 unfolding outsideAt
 loop-again c =
-    let a = c .before .before .before .before .before .before .before .before .before .before .before .before .before .before .before .before .before .args in
+    let a = c .before .before .before .before .before .before .before .before .before .before .before .before .before .before .args in
+    let l = c .before .before .before .before .before .before .before .loop in
     let f = outsideAt (now (a .uncertainty-box)) (a .start-position) (now (a .scale)) (now (a .point)) (now (a .other-point)) in
-    (omega arith, some-not f (c .before .before .before .before .before .before .before .loop .y) (c .before .before .before .before .before .before .before .loop .inv .1) (sym (c .before .outside .ensures) ∙ c .if4 .left))
+    (omega arith, l .inv .1, l .inv .2, l .inv .3, some-not f (l .y) (l .inv .4) (sym (c .before .outside .ensures) ∙ c .if2 .left))
 
-returns-5 : tie.Need-returns-5 Inv-loop μ-loop
-returns-5 c =
-    let a = c .before .before .before .before .before .before .before .before .before .before .before .args in
+returns-3 : tie.Need-returns-3 Inv-loop μ-loop
+returns-3 c =
+    let a = c .before .before .before .before .before .before .before .before .args in
+    let l = c .before .loop in
     let f = outsideAt (now (a .uncertainty-box)) (a .start-position) (now (a .scale)) (now (a .point)) (now (a .other-point)) in
-    let none = ap (λ (n : ℕ). some n f) (le-antisymm (c .loop-test .left) (c .before .loop .inv .0)) ∙ c .before .loop .inv .1 in
-    sym (within-none (now (a .uncertainty-box)) (a .start-position) (now (a .scale)) (now (a .point)) (now (a .other-point)) (omega arith) (omega (arith, c .before .before .before .before .before .left .ensures)) (omega (arith, c .before .before .before .left2 .ensures)) none)
+    let none = ap (λ (n : ℕ). some n f) (le-antisymm (c .loop-test .left) (l .inv .0)) ∙ l .inv .4 in
+    let fit = not-false _ (rw (c .before .before .before .box-fits .ensures) at (c .before .before .if1 .left)) in (
+      sym (within-none (now (a .uncertainty-box)) (a .start-position) (now (a .scale)) (now (a .point)) (now (a .other-point)) fit none),
+      box-read-all (now (a .uncertainty-box)) (a .start-position) (now (a .scale)) (now (a .point)) (now (a .other-point)) fit none,
+    )
 
 pub within-unertainty-box-spec : {M : Type 1} → statement M
 within-unertainty-box-spec =
@@ -114,11 +115,8 @@ within-unertainty-box-spec =
     (tie.spec
     Inv-loop
     μ-loop
+    box-fits-requires
     returns
-    left-requires
-    returns-2
-    left-requires-2
-    returns-3
     loop-holds
     add-at
     mul-outside
@@ -130,8 +128,9 @@ within-unertainty-box-spec =
     mul-outside-4
     shared-slice-read-outside-4
     outside-requires
-    returns-4
+    read-until-requires
+    returns-2
     add-y
     loop-less
     loop-again
-    returns-5)
+    returns-3)

@@ -1,0 +1,17 @@
+use borrow.Author.Needs.{needs}
+use mathlib.Core.Path.{sym}
+use Rattle.scan.proofs.Laws.{read-at, read-past}
+use Rattle.scan.proofs.read_until.Statement.{statement}
+use Rattle.scan.proofs.read_until.Tie as tie
+
+add-result : tie.Need-add-result
+add-result c = search needs
+
+returns : tie.Need-returns
+returns c = sym (read-at _ _ (c .if1 .taken))
+
+returns-2 : tie.Need-returns-2
+returns-2 c = sym (read-past _ _ (c .if1 .left))
+
+pub read-until-spec : {M : Type 1} → statement M
+read-until-spec = tie.close (tie.spec add-result returns returns-2)
