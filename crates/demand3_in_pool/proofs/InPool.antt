@@ -31,8 +31,8 @@ use Rattle.c_chain.specs.States.{chainRefusal, chainSet, horizonSetIn, chainMad
 use Rattle.demand3_over_c.specs.Calls as OverC
 use Rattle.demand3_over_c.proofs.OverC.{demand-3-over-c}
 use Rattle.record_pool.specs.Pool.{firstFree, stateOf, rulesOk, recordOf}
-use Rattle.record_pool.specs.Steps.{flagsIn}
 use Rattle.record_pool.specs.declared.Slot.{Slot}
+use Rattle.record_pool.proofs.Writes.{flagsIn}
 use Rattle.pool_drawers.specs.Drawers.{opening}
 use Rattle.pool_settings.specs.Sameness.{sameFloat, sameState}
 use Rattle.pool_settings.specs.Settings.{z-factor, lower-threshold, initial-threshold, horizon, storedUnlessSame, setOn}

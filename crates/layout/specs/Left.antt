@@ -1,4 +1,4 @@
--- What a call over C answers and leaves of the slice that it may write: document 01's refusal number, 0 where it is done, and the slice's bytes (or sizes).
+-- What a call over C answers and leaves of the slice that it may write: the documents' number, 0 where it is done, and the slice's bytes (or sizes).
 use Prim.Native.Nat.{ℕ}
 use mathlib.Core.Bool.{cond}
 use mathlib.Core.List.{List}

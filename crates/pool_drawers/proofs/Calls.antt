@@ -24,7 +24,7 @@ use Rattle.stored_state.proofs.Back.{state-length}
 use Rattle.c_chain.proofs.Steps.{made-refused, made-range, made-done}
 use Rattle.c_chain.specs.States.{chainMade}
 use Rattle.record_pool.specs.Pool.{place, countOf, firstUsed, firstFree, nextAt, rulesOk, locate, vacancy, numbersOf, listing, withHeader, withNext, withRecord, withState, opened, unlinked, removed}
-use Rattle.pool_links.specs.Steps as Links
+use Rattle.pool_links.specs.Links as Links
 use Rattle.pool_links.specs.declared.Header.{Header}
 use Rattle.pool_links.specs.declared.Link.{Link}
 use Rattle.record_pool.specs.declared.Slot.{Slot}
@@ -87,7 +87,7 @@ held xs d r s e q =
         size = t .size;
         low = t .low;
         high = t .high;
-        near = t .front;
+        front-high = t .front;
         next = ap (λ (s : Slot). s .next) f ∙ ap (nextAt xs) (sym (ap (λ (s : Slot). s .index) f));
         count = ap (λ (s : Slot). s .count) f;
         used = ap (λ (s : Slot). s .used) f;
@@ -126,9 +126,9 @@ lay-refused xs n = sym (ap (λ (t : Bool). cond t (left 0 laidOut) (left 13 xs))
 pub taken-in : (xs a b : List ℕ) (d : ℕ) (s : Slot) (index : ℕ) (h : Header) (l : Link) → Spare xs s → index ≡ s .index → h ≡ Links.opened index (s .next) (s .count)
     → a ≡ withHeader xs (h .count) (h .used) (h .free) → l ≡ Links.openedLink (s .used) d
     → b ≡ withRecord a (s .index) (l .next) (l .number) (replicate 2040 0) → b ≡ opened xs d (replicate 2040 0)
-unfolding opened Links.raised
+unfolding opened Links.oneMore
 taken-in xs a b d s index h l k ei eh ea el eb =
-    let more : Links.raised (s .count) ≡ countOf xs + 1 = rw (lt-ltb (s .count) 30 (omega (arith, k .fewer))) (ap (λ (n : ℕ). n + 1) (k .placed .count)) in
+    let more : Links.oneMore (s .count) ≡ countOf xs + 1 = rw (lt-ltb (s .count) 30 (omega (arith, k .fewer))) (ap (λ (n : ℕ). n + 1) (k .placed .count)) in
     eb ∙ (λ t. withRecord (ea t) (s .index) (el t .next) (el t .number) (replicate 2040 0))
     ∙ ap (λ (h : Header). withRecord (withHeader xs (h .count) (h .used) (h .free)) (s .index) (s .used) d (replicate 2040 0)) eh
     ∙ (λ t. withRecord (withHeader xs (more t) ((ei ∙ k .first) t) ((k .placed .next ∙ ap (nextAt xs) (k .first)) t)) (k .first t) (k .placed .used t) d (replicate 2040 0))
@@ -143,7 +143,7 @@ spare xs d r s e q =
         size = t .size;
         low = t .low;
         high = t .high;
-        near = omega arith;
+        front-high = omega arith;
         next = ap (λ (s : Slot). s .next) f ∙ ap (nextAt xs) (sym (ap (λ (s : Slot). s .index) f));
         count = ap (λ (s : Slot). s .count) f;
         used = ap (λ (s : Slot). s .used) f;

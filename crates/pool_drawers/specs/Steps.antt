@@ -11,7 +11,7 @@ pub record Placed (xs : List ℕ) (s : Slot) : Type 0 where
   pub size : length xs ≡ 61472
   pub low : 1 ≤ s .index
   pub high : s .index ≤ 30
-  pub near : s .front ≤ 30
+  pub front-high : s .front ≤ 30
   pub next : s .next ≡ nextAt xs (s .index)
   pub count : s .count ≡ countOf xs
   pub used : s .used ≡ firstUsed xs

@@ -23,11 +23,11 @@ use Rattle.layout.specs.Left.{Left, left}
 use Rattle.stored_state.proofs.Back.{state-length}
 use Rattle.c_judging.specs.Judging.{Answered, outcomeOver, stateOver}
 use Rattle.record_pool.specs.Pool.{place, flagsAt, stateAt, stateOf, rulesOk, recordOf, frontOf, slot, locate, withState}
-use Rattle.record_pool.specs.Steps.{flagsIn}
 use Rattle.record_pool.specs.declared.Located.{Located}
 use Rattle.record_pool.specs.declared.Located.the-variants.{At, Refused}
 use Rattle.record_pool.proofs.Passing.{passes, passes-size, within-used}
 use Rattle.record_pool.proofs.Bytes.{place-high}
+use Rattle.record_pool.proofs.Writes.{flagsIn}
 use Rattle.record_pool.proofs.Locating.{located, its-used}
 use Rattle.pool_drawers.specs.Drawers.{opening, remove}
 use Rattle.pool_settings.proofs.Stored.{state-byte, state-long}

@@ -1,10 +1,11 @@
--- What a call's answer says of the pool: not 13, that the rules hold afterwards; not 0, that no byte changed. Assumes nothing.
+-- What a call's answer says: not 13, that the rules hold of the pool afterwards; not 0, that no byte changed. Assumes nothing.
 use mathlib.Core.Path.{_≡_, refl, ap, subst, _∙_}
 use mathlib.Core.Logic.{_≢_}
 use mathlib.Core.Bool.{Bool, true, false, cond, _&&_}
 use mathlib.Core.List.{List}
 use Prim.Native.Nat.{ℕ}
 use lib.Dec.{eqb}
+use lib.IntN.{ℤ}
 use lib.ListN.{length, replicate}
 use lib.Ieee.{Float}
 use Rattle.types.specs.Refusals.{answered}
@@ -14,8 +15,8 @@ use Rattle.predictorcorrector.specs.declared.Updated.{Updated}
 use Rattle.predictorcorrector.specs.declared.PredictorCorrector.{PredictorCorrector}
 use Rattle.detection.specs.declared.Outcome.{Outcome}
 use Rattle.detection.specs.declared.Outcome.the-variants as Outcomes
-use Rattle.detection.specs.Judged.{outcomeNumber}
-use Rattle.verdict_bytes.specs.Bytes.{stateLeft}
+use Rattle.detection.specs.Judged.{outcomeNumber, written}
+use Rattle.verdict_bytes.specs.Bytes.{stateLeft, verdictLeft}
 use Rattle.predictorcorrector.specs.State.{new}
 use Rattle.layout.specs.Places.{stateLength}
 use Rattle.layout.specs.Chain.{decodeState}
@@ -30,7 +31,7 @@ use Rattle.pool_drawers.specs.Drawers.{laidOut, layOut, openBy, opening, remove
 use Rattle.pool_settings.specs.Settings.{Setting, changed, storedUnlessSame, setOn, setBy, set}
 use Rattle.pool_settings.proofs.Stored.{state-kept}
 use Rattle.pool_judging.specs.Judging.{Unjudged, JudgedBy}
-use Rattle.pool_laws.specs.Calls.{Asked, Reply, Call, lays-out, opens, removes, lists, sets, judges, Contract, after, answerOf}
+use Rattle.pool_laws.specs.Calls.{Asked, Reply, Call, lays-out, opens, removes, lists, sets, judges, Contract, after, answerOf, SlicesStay}
 use Rattle.pool_laws.specs.Isolation.{Holds}
 use Rattle.pool_laws.proofs.LayingOut.{empty-passes}
 use Rattle.pool_laws.proofs.Frames.{which}
@@ -114,6 +115,16 @@ unfolding stateLeft
 refused-left (Outcomes.Accepted v) zs s n = absurd (n refl)
 refused-left (Outcomes.Refused why) zs s n = refl
 
+refused-written : (o : Outcome) (old new : List Float) → outcomeNumber o ≢ 0 → written o old new ≡ old
+unfolding written
+refused-written (Outcomes.Accepted v) old new n = absurd (n refl)
+refused-written (Outcomes.Refused why) old new n = refl
+
+refused-verdict : (o : Outcome) (old : List ℕ) (index : ℤ) → outcomeNumber o ≢ 0 → verdictLeft o old index ≡ old
+unfolding verdictLeft
+refused-verdict (Outcomes.Accepted v) old index n = absurd (n refl)
+refused-verdict (Outcomes.Refused why) old index n = refl
+
 refused-set : (xs : List ℕ) (d : ℕ) (c : Setting) (n : ℕ) (ys : List ℕ) → left n ys ≡ set c d xs → n ≢ 0 → ys ≡ xs
 unfolding set
 refused-set xs d c n ys e m = go (locate xs d) refl
@@ -128,37 +139,53 @@ refused-set xs d c n ys e m = go (locate xs d) refl
         ap (λ (l : Left). l .bytes) r ∙ ap (withState xs i) z ∙ state-kept xs i (its-room xs d h)
     go (Refused why) q = ap (λ (l : Left). l .bytes) (e ∙ ap (λ (l : Located). setBy l c xs) q)
 
-refused-judgment : (xs : List ℕ) (d : ℕ) (a : Asked) (t : Reply) (ys : List ℕ) → Contract xs (judges d a t ys) → t .answer ≢ 0 → ys ≡ xs
+refused-judgment : (xs : List ℕ) (d : ℕ) (a : Asked) (t : Reply) (ys : List ℕ) → Contract xs (judges d a t ys) → t .answer ≢ 0
+    → (ys ≡ xs) × SlicesStay (judges d a t ys)
 refused-judgment xs d a t ys c m = go (locate xs d) refl
   where
-    go : (l : Located) → locate xs d ≡ l → ys ≡ xs
+    go : (l : Located) → locate xs d ≡ l → (ys ≡ xs) × SlicesStay (judges d a t ys)
     go (At s) q =
         let k = located xs d s q in
         let h : Holds xs d = record { sound = k .ok; there = k .there } in
         let i : ℕ = recordOf xs d in
         let j = judged-in xs d h a t ys c in
         let o : Outcome = outcomeOver (stateAt xs i) (a .reading) (a .last) (a .lent) (length (a .expected)) (length (a .high)) (length (a .low)) (length (a .verdict)) in
-        let z = j .judged .bytes ∙ refused-left o (stateAt xs i) (stateOver (stateAt xs i) (a .reading) (a .last) (a .lent) o) (λ p. m (j .judged .answer ∙ p)) in
-        j .bytes ∙ ap (withState xs i) z ∙ state-kept xs i (its-room xs d h)
-    go (Refused why) q = unjudged xs d a t ys why c q .bytes
+        let r : outcomeNumber o ≢ 0 = λ p. m (j .judged .answer ∙ p) in
+        let z = j .judged .bytes ∙ refused-left o (stateAt xs i) (stateOver (stateAt xs i) (a .reading) (a .last) (a .lent) o) r in
+        let slices : SlicesStay (judges d a t ys) = (
+          j .judged .point ∙ refused-written o (a .expected) _ r,
+          j .judged .highs ∙ refused-written o (a .high) _ r,
+          j .judged .lows ∙ refused-written o (a .low) _ r,
+          j .judged .verdict ∙ refused-verdict o (a .verdict) _ r,
+        ) in
+        (j .bytes ∙ ap (withState xs i) z ∙ state-kept xs i (its-room xs d h), slices)
+    go (Refused why) q = let u = unjudged xs d a t ys why c q in (u .bytes, (u .point, u .highs, u .lows, u .verdict))
 
-pub unchanged : (xs : List ℕ) (c : Call) → Contract xs c → answerOf c ≢ 0 → after xs c ≡ xs
+refused-list : (xs out : List ℕ) (n : ℕ) (out′ : List ℕ) → left n out′ ≡ list xs out → n ≢ 0 → out′ ≡ out
+unfolding list
+refused-list xs out n out′ e m = go (eqb (length out) 30 && rulesOk xs) refl
+  where
+    go : (b : Bool) → (eqb (length out) 30 && rulesOk xs) ≡ b → out′ ≡ out
+    go true q = absurd (m (ap (λ (l : Left). l .answer) (e ∙ ap (λ (b : Bool). cond b (left 0 (numbersOf xs)) (left 13 out)) q)))
+    go false q = ap (λ (l : Left). l .bytes) (e ∙ ap (λ (b : Bool). cond b (left 0 (numbersOf xs)) (left 13 out)) q)
+
+pub unchanged : (xs : List ℕ) (c : Call) → Contract xs c → answerOf c ≢ 0 → (after xs c ≡ xs) × SlicesStay c
 unfolding layOut remove
-unchanged xs (lays-out n ys) e m = go (eqb (length xs) 61472) refl
+unchanged xs (lays-out n ys) e m = (go (eqb (length xs) 61472) refl, tt)
   where
     go : (b : Bool) → eqb (length xs) 61472 ≡ b → ys ≡ xs
     go true q = absurd (m (ap (λ (l : Left). l .answer) (e ∙ ap (λ (b : Bool). cond b (left 0 laidOut) (left 13 xs)) q)))
     go false q = ap (λ (l : Left). l .bytes) (e ∙ ap (λ (b : Bool). cond b (left 0 laidOut) (left 13 xs)) q)
-unchanged xs (opens d discount adjust base n ys) e m = go (which xs d discount adjust base)
+unchanged xs (opens d discount adjust base n ys) e m = (go (which xs d discount adjust base), tt)
   where
     go : Frames.Opening xs d discount adjust base → ys ≡ xs
     go (Frames.refused q k) = ap (λ (l : Left). l .bytes) e ∙ q
     go (Frames.opens s v z q) = absurd (m (ap (λ (l : Left). l .answer) (e ∙ q)))
-unchanged xs (removes d n ys) e m = go (locate xs d) refl
+unchanged xs (removes d n ys) e m = (go (locate xs d) refl, tt)
   where
     go : (l : Located) → locate xs d ≡ l → ys ≡ xs
     go (At s) q = absurd (m (ap (λ (l : Left). l .answer) (e ∙ ap (λ (l : Located). removeBy l xs) q)))
     go (Refused why) q = ap (λ (l : Left). l .bytes) (e ∙ ap (λ (l : Located). removeBy l xs) q)
-unchanged xs (lists out n out′) e m = refl
-unchanged xs (sets d c n ys) e m = refused-set xs d c n ys e m
+unchanged xs (lists out n out′) e m = (refl, refused-list xs out n out′ e m)
+unchanged xs (sets d c n ys) e m = (refused-set xs d c n ys e m, tt)
 unchanged xs (judges d a t ys) e m = refused-judgment xs d a t ys e m

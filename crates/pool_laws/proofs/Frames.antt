@@ -24,10 +24,10 @@ use Rattle.stored_state.proofs.Back.{state-length, head-put}
 use Rattle.c_chain.specs.States.{chainMade}
 use Rattle.c_chain.proofs.Steps.{refused-number}
 use Rattle.record_pool.specs.Pool.{firstFree, numberAt, stateAt, stateOf, usedOf, freeOf, rulesOk, recordOf, frontOf, locate, vacancy, withState, opened, removed}
-use Rattle.record_pool.specs.Steps.{flagsIn}
 use Rattle.record_pool.specs.declared.Slot.{Slot}
 use Rattle.record_pool.specs.declared.Located.{Located}
 use Rattle.record_pool.specs.declared.Located.the-variants.{At, Refused}
+use Rattle.record_pool.proofs.Writes.{flagsIn}
 use Rattle.record_pool.proofs.Passing.{passes, passes-size, within-used}
 use Rattle.record_pool.proofs.Finding.{held}
 use Rattle.record_pool.proofs.Locating.{located, Vacant, vacant, its-used}

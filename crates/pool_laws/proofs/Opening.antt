@@ -9,12 +9,11 @@ use lib.ListN.{length}
 use Rattle.record_pool.specs.Lists.{same, occ}
 use Rattle.record_pool.specs.Chains.{Rules, holder}
 use Rattle.record_pool.specs.Pool.{place, countOf, firstUsed, firstFree, nextAt, numberAt, flagsAt, stateAt, usedOf, freeOf, rulesOk, recordOf, withHeader, withRecord, opened}
-use Rattle.record_pool.specs.Steps.{flagsIn}
 use Rattle.record_pool.proofs.Occ.{other, same-refl}
 use Rattle.pool_laws.proofs.Kept.{open-kept}
 use Rattle.record_pool.proofs.Bytes.{Agree, agree-trans, behind-next, next-agrees, number-agrees, flags-agree, state-agrees}
 use Rattle.record_pool.proofs.Finding.{not-held, holder-agrees, passed-first, found-first}
-use Rattle.record_pool.proofs.Writes.{count-agrees, used-agrees, free-agrees, header-length, header-count, header-used, header-free, header-leaves, record-length, record-next, record-number, record-flags, record-others, record-header}
+use Rattle.record_pool.proofs.Writes.{flagsIn, count-agrees, used-agrees, free-agrees, header-length, header-count, header-used, header-free, header-leaves, record-length, record-next, record-number, record-flags, record-others, record-header}
 use Rattle.record_pool.proofs.Passing.{once-only, RulesAt, passes-size, passes, used-of, free-of, passing, within-used, count-small, start-small, not-empty}
 
 -- ---- opening.

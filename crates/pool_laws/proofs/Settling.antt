@@ -8,12 +8,11 @@ use lib.ListN.{length}
 use Rattle.record_pool.specs.Lists.{occ}
 use Rattle.record_pool.specs.Chains.{holder}
 use Rattle.record_pool.specs.Pool.{place, countOf, firstUsed, firstFree, nextAt, numberAt, flagsAt, stateAt, usedOf, freeOf, rulesOk, recordOf, withState}
-use Rattle.record_pool.specs.Steps.{flagsIn}
 use Rattle.record_pool.proofs.Occ.{Either, equal, other, either}
 use Rattle.pool_laws.proofs.Kept.{kept-still}
 use Rattle.record_pool.proofs.Bytes.{Agree, behind-next, next-agrees, number-agrees, flags-agree, state-agrees}
 use Rattle.record_pool.proofs.Finding.{holder-agrees}
-use Rattle.record_pool.proofs.Writes.{count-agrees, used-agrees, free-agrees, state-length, state-others, state-header, state-next, state-number, state-flags}
+use Rattle.record_pool.proofs.Writes.{flagsIn, count-agrees, used-agrees, free-agrees, state-length, state-others, state-header, state-next, state-number, state-flags}
 use Rattle.record_pool.proofs.Passing.{RulesAt, passes-size, passes, used-of, free-of, passing, within-used}
 
 module _ (xs : List ℕ) (i : ℕ) (ys : List ℕ) (ok : rulesOk xs ≡ true) (used : 0 < occ i (usedOf xs)) (low : 150 ≤ length ys) (high : length ys ≤ 2040) (fine : flagsIn ys ≡ true) where

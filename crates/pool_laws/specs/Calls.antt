@@ -65,6 +65,15 @@ answerOf (lists out n out′) = n
 answerOf (sets d c n ys) = n
 answerOf (judges d a t ys) = t .answer
 
+-- What it may write beside the pool is as it was: a listing's slice, a judgment's four.
+abbrev pub SlicesStay : Call → Type 0
+SlicesStay (lays-out n ys) = Unit
+SlicesStay (opens d discount adjust base n ys) = Unit
+SlicesStay (removes d n ys) = Unit
+SlicesStay (lists out n out′) = out′ ≡ out
+SlicesStay (sets d c n ys) = Unit
+SlicesStay (judges d a t ys) = (t .expected ≡ a .expected) × (t .high ≡ a .high) × (t .low ≡ a .low) × (t .verdict ≡ a .verdict)
+
 -- Each over the bytes that the one before it left; a refused one is among them.
 abbrev pub InTurn : List ℕ → List Call → Type 0
 InTurn xs [] = Unit

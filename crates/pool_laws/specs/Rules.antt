@@ -15,7 +15,7 @@ use Rattle.record_pool.specs.Chains as Chains
 use Rattle.record_pool.specs.Pool.{poolLength, place, countOf, firstUsed, firstFree, nextAt, numberAt, flagsAt, stateOf, usedOf, freeOf, rulesOk, recordOf, numbersOf}
 use Rattle.pool_drawers.specs.Drawers.{laidOut, opening, remove}
 use Rattle.pool_settings.specs.Settings.{Setting}
-use Rattle.pool_laws.specs.Calls.{Asked, Reply, Call, sets, judges, Contract, after, answerOf}
+use Rattle.pool_laws.specs.Calls.{Asked, Reply, Call, sets, judges, Contract, after, answerOf, SlicesStay}
 
 -- Document 02's words of a pool whose used chain is us and whose free chain is fs.
 abbrev pub Words : List ℕ → List ℕ → List ℕ → Type 0
@@ -32,9 +32,9 @@ pub record PoolRules : Type 0 where
   pub meant : (xs us fs : List ℕ) → length xs ≡ poolLength → Words xs us fs → (rulesOk xs ≡ true) × (usedOf xs ≡ us) × (freeOf xs ≡ fs)
   -- An empty pool passes; its free chain runs from 1 to 30.
   pub empty : (rulesOk laidOut ≡ true) × (usedOf laidOut ≡ []) × (freeOf laidOut ≡ upFrom 30 1)
-  -- "After every call that 13 doesn't refuse" the rules hold, and a refused call changes no byte.
+  -- "After every call that 13 doesn't refuse" the rules hold, and a refused call changes no byte: none of the pool, and none of the slices that it may write beside it.
   pub kept : (xs : List ℕ) (c : Call) → Contract xs c → answerOf c ≢ 13 → rulesOk (after xs c) ≡ true
-  pub refused : (xs : List ℕ) (c : Call) → Contract xs c → answerOf c ≢ 0 → after xs c ≡ xs
+  pub refused : (xs : List ℕ) (c : Call) → Contract xs c → answerOf c ≢ 0 → (after xs c ≡ xs) × SlicesStay c
   -- An opening takes the first free record and makes it the first used, with a new state.
   pub opened : (xs : List ℕ) (d : ℕ) (discount : Float) (adjust base : ℕ) → let o = opening d discount adjust base xs in o .answer ≡ 0
       → (usedOf (o .bytes) ≡ firstFree xs ∷ usedOf xs) × (freeOf xs ≡ firstFree xs ∷ freeOf (o .bytes)) × (recordOf (o .bytes) d ≡ firstFree xs)

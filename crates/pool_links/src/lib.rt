@@ -5,7 +5,7 @@ ghost use mathlib.Core.Bool.{cond};
 ghost use Prim.Native.Nat.{_-_};
 ghost use lib.Dec.{eqb};
 ghost use Rattle.pool_links.specs.Numbers as Numbers;
-ghost use Rattle.pool_links.specs.Steps as Steps;
+ghost use Rattle.pool_links.specs.Links as Links;
 
 // The records of a pool, and so the most drawers.
 const RECORDS: usize = 30;
@@ -34,7 +34,7 @@ pub fn is_number(n: u32) -> bool
 }
 
 pub fn counts_agree(count: usize, used: usize, free: usize) -> bool
-    ensures { λ r. ⌜ r ≡ Steps.countsAgree count used free ⌝ }
+    ensures { λ r. ⌜ r ≡ Links.countsAgree count used free ⌝ }
 {
     if used == count {
         if used <= RECORDS {
@@ -46,8 +46,8 @@ pub fn counts_agree(count: usize, used: usize, free: usize) -> bool
     false
 }
 
-fn raised(count: u32) -> u32
-    ensures { λ r. ⌜ r ≡ Steps.raised count ⌝ }
+fn one_more(count: u32) -> u32
+    ensures { λ r. ⌜ r ≡ Links.oneMore count ⌝ }
 {
     if count < MOST_DRAWERS {
         return count + 1;
@@ -56,16 +56,16 @@ fn raised(count: u32) -> u32
 }
 
 pub fn opened(index: u32, next: u32, count: u32) -> Header
-    ensures { λ r. ⌜ r ≡ Steps.opened index next count ⌝ }
+    ensures { λ r. ⌜ r ≡ Links.opened index next count ⌝ }
 {
     Header {
-        count: raised(count),
+        count: one_more(count),
         used: index,
         free: next,
     }
 }
 
-fn lowered(count: u32) -> u32
+fn one_less(count: u32) -> u32
     ensures { λ r. ⌜ r ≡ count - 1 ⌝ }
 {
     if 1 <= count {
@@ -84,17 +84,17 @@ fn first_used(front: u32, next: u32, used: u32) -> u32
 }
 
 pub fn removed(index: u32, front: u32, next: u32, count: u32, used: u32) -> Header
-    ensures { λ r. ⌜ r ≡ Steps.removed index front next count used ⌝ }
+    ensures { λ r. ⌜ r ≡ Links.removed index front next count used ⌝ }
 {
     Header {
-        count: lowered(count),
+        count: one_less(count),
         used: first_used(front, next, used),
         free: index,
     }
 }
 
 pub fn opened_link(used: u32, drawer: u32) -> Link
-    ensures { λ r. ⌜ r ≡ Steps.openedLink used drawer ⌝ }
+    ensures { λ r. ⌜ r ≡ Links.openedLink used drawer ⌝ }
 {
     Link {
         next: used,
@@ -103,7 +103,7 @@ pub fn opened_link(used: u32, drawer: u32) -> Link
 }
 
 pub fn removed_link(free: u32) -> Link
-    ensures { λ r. ⌜ r ≡ Steps.removedLink free ⌝ }
+    ensures { λ r. ⌜ r ≡ Links.removedLink free ⌝ }
 {
     Link {
         next: free,

@@ -30,18 +30,18 @@ use Rattle.pool_settings.specs.Sameness.{sameFloat, sameState}
 use Rattle.pool_settings.specs.Settings.{Setting, horizon, storedUnlessSame, changed, storedOn, setOn, inRecord, setBy, set}
 use Rattle.pool_settings.specs.Steps.{foundBy, found, horizonAnswer}
 use Rattle.pool_settings.specs.declared.Found.{Found}
-use Rattle.pool_settings.specs.declared.Found.the-variants.{State, Same, Refused}
+use Rattle.pool_settings.specs.declared.Found.the-variants.{At, Same, Refused}
 use Rattle.pool_settings.proofs.Sameness.{horizon-compared}
 use Rattle.pool_settings.proofs.Stored.{state-single, state-long, state-kept, occupied-fits, occupied-ready}
 
 -- ---- `find`.
 module _ (xs : List ℕ) (d k : ℕ) (x : Float) where
   pub found-there : (s : Slot) (n : ℕ) (y : Float) (b c : Bool) → locate xs d ≡ Places.At s → n ≡ le4 xs (s .state + k) → y ≡ ofBits binary32 n → b ≡ sameFloat y x → b ≡ c
-      → cond c Same (State (s .state)) ≡ found xs d k x
+      → cond c Same (At (s .state)) ≡ found xs d k x
   unfolding found f32At
   found-there s n y b c e en ey eb ec =
       let tells : c ≡ sameFloat (ofBits binary32 (le4 xs (s .state + k))) x = sym ec ∙ eb ∙ ap (λ (z : Float). sameFloat z x) (ey ∙ ap (ofBits binary32) en) in
-      ap (λ (b : Bool). cond b Same (State (s .state))) tells ∙ sym (ap (λ (l : Located). foundBy l xs k x) e)
+      ap (λ (b : Bool). cond b Same (At (s .state))) tells ∙ sym (ap (λ (l : Located). foundBy l xs k x) e)
 
   pub found-refused : (why : Refusal) → locate xs d ≡ Places.Refused why → Refused why ≡ found xs d k x
   unfolding found
@@ -55,14 +55,14 @@ module _ (xs : List ℕ) (d k : ℕ) (x : Float) where
     pub start : from ≡ slot .state
 
   abbrev Tells : Found → Type 0
-  Tells (State from) = Met false from
+  Tells (At from) = Met false from
   Tells Same = (from : ℕ) × Met true from
   Tells (Refused why) = locate xs d ≡ Places.Refused why
 
   by-located : (l : Located) → locate xs d ≡ l → Tells (foundBy l xs k x)
   by-located (Places.At s) e = go (sameFloat (f32At xs (s .state + k)) x) refl
     where
-      go : (b : Bool) → sameFloat (f32At xs (s .state + k)) x ≡ b → Tells (cond b Same (State (s .state)))
+      go : (b : Bool) → sameFloat (f32At xs (s .state + k)) x ≡ b → Tells (cond b Same (At (s .state)))
       go true q = (s .state, record { slot = s; there = e; told = q; start = refl })
       go false q = record { slot = s; there = e; told = q; start = refl }
   by-located (Places.Refused why) e = e
@@ -114,8 +114,8 @@ module _ (xs : List ℕ) (d k : ℕ) (x : Float) where
         part-put xs ys from (from + stateLength - from) long ∙ ap (λ (a : ℕ). pasted xs a ys) begins
 
   -- Where a setter may write.
-  pub found-room : (g : Found) → g ≡ found xs d k x → (from : ℕ) → g ≡ State from → (from + stateLength ≤ 61472) × (length xs ≡ 61472)
-  found-room g e from q = room false from (tells g e (State from) q)
+  pub found-room : (g : Found) → g ≡ found xs d k x → (from : ℕ) → g ≡ At from → (from + stateLength ≤ 61472) × (length xs ≡ 61472)
+  found-room g e from q = room false from (tells g e (At from) q)
 
   pub set-refused : (c : Setting) (g : Found) → g ≡ found xs d k x → (why : Refusal) (n : ℕ) → g ≡ Refused why → n ≡ number why → left n xs ≡ set c d xs
   unfolding set
@@ -138,11 +138,11 @@ module _ (xs : List ℕ) (d k : ℕ) (x : Float) where
         let m = tells g e Same q in
         sym (stored true (m .0) (m .1) ∙ ap (left 0) (state-kept xs (m .1 .slot .index) (fits true (m .0) (m .1))))
 
-    pub set-other : (g : Found) → g ≡ found xs d k x → (from : ℕ) → g ≡ State from → (r : ℕ) (ys : List ℕ) → length ys ≡ length (take (from + stateLength - from) (drop from xs))
+    pub set-other : (g : Found) → g ≡ found xs d k x → (from : ℕ) → g ≡ At from → (r : ℕ) (ys : List ℕ) → length ys ≡ length (take (from + stateLength - from) (drop from xs))
         → left r ys ≡ chainSet f (take (from + stateLength - from) (drop from xs)) → left r (take from xs ++ (ys ++ drop (from + stateLength - from) (drop from xs))) ≡ set c d xs
     unfolding chainSet
     set-other g e from q r ys long h =
-        let m = tells g e (State from) q in
+        let m = tells g e (At from) q in
         let i = m .slot .index in
         let done : left r ys ≡ left 0 (encodeStateOver (stateAt xs i) (f (decodeState (stateAt xs i)))) = h ∙ ap (chainSet f) (part-is false from m) ∙ rw (ready false from m) in
         ap (left r) (whole-is false from m ys long) ∙ ap (λ (l : Left). left (l .answer) (withState xs i (l .bytes))) done ∙ sym (stored false from m)
@@ -188,10 +188,10 @@ module _ (xs : List ℕ) (d : ℕ) (x : Float) where
         go true h = set-same xs d at x (omega arith) (horizon x) (withHorizon x) (valid x h) (horizon-compared x) g e q
         go false h = let m = tells xs d at x g e Same q in kept h true (m .0) (m .1)
 
-    module _ (from : ℕ) (q : g ≡ State from) (r : ℕ) (ys : List ℕ) (long : length ys ≡ length (take (from + stateLength - from) (drop from xs)))
+    module _ (from : ℕ) (q : g ≡ At from) (r : ℕ) (ys : List ℕ) (long : length ys ≡ length (take (from + stateLength - from) (drop from xs)))
         (h : left r ys ≡ horizonSetIn x (take (from + stateLength - from) (drop from xs))) where
       met : Met xs d at x false from
-      met = tells xs d at x g e (State from) q
+      met = tells xs d at x g e (At from) q
 
       accepts : chainRefusal (take (from + stateLength - from) (drop from xs)) ≡ 0
       accepts = rw (part-is xs d at x false from met) (ready xs d at x false from met)

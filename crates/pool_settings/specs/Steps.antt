@@ -12,11 +12,11 @@ use Rattle.record_pool.specs.declared.Located.{Located}
 use Rattle.record_pool.specs.declared.Located.the-variants as Places
 use Rattle.pool_settings.specs.Sameness.{sameFloat}
 use Rattle.pool_settings.specs.declared.Found.{Found}
-use Rattle.pool_settings.specs.declared.Found.the-variants.{State, Same, Refused}
+use Rattle.pool_settings.specs.declared.Found.the-variants.{At, Same, Refused}
 
 -- The number at place k of a drawer's state against x.
 abbrev pub foundBy : Located → List ℕ → ℕ → Float → Found
-foundBy (Places.At s) xs k x = cond (sameFloat (f32At xs (s .state + k)) x) Same (State (s .state))
+foundBy (Places.At s) xs k x = cond (sameFloat (f32At xs (s .state + k)) x) Same (At (s .state))
 foundBy (Places.Refused why) xs k x = Refused why
 
 unfoldable pub found : List ℕ → ℕ → ℕ → Float → Found

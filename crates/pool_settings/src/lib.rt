@@ -26,7 +26,7 @@ const HORIZON: u8 = 7;
 
 // What a setting finds: where the state begins that it changes, or that the state has this number already.
 enum Found {
-    State(usize),
+    At(usize),
     Same,
     Refused(Refusal),
 }
@@ -72,7 +72,7 @@ fn find(pool: &[u8], drawer: u32, at: usize, x: f32) -> Found
             if same(ieee::f32_from_bits(read4(pool, from + at)), x) {
                 return Found::Same;
             }
-            Found::State(from)
+            Found::At(from)
         }
         Located::Refused(why) => Found::Refused(why),
     }
@@ -96,7 +96,7 @@ pub extern "C" fn krcf_pool_set_z_factor(pool: &mut [u8], drawer: u32, factor: f
     ensures { λ r. ⌜ left r (now (pool .exit)) ≡ Settings.set (Settings.z-factor factor) drawer (now (pool .entry)) ⌝ }
 {
     match find(pool, drawer, Z_FACTOR_AT, factor) {
-        Found::State(from) => {
+        Found::At(from) => {
             let upto = from + layout::STATE_LENGTH;
             c_chain::krcf_chain_set_z_factor(&mut pool[from..upto], factor)
         }
@@ -110,7 +110,7 @@ pub extern "C" fn krcf_pool_set_lower_threshold(pool: &mut [u8], drawer: u32, lo
     ensures { λ r. ⌜ left r (now (pool .exit)) ≡ Settings.set (Settings.lower-threshold lower) drawer (now (pool .entry)) ⌝ }
 {
     match find(pool, drawer, ABSOLUTE_THRESHOLD_AT, lower) {
-        Found::State(from) => {
+        Found::At(from) => {
             let upto = from + layout::STATE_LENGTH;
             c_chain::krcf_chain_set_lower_threshold(&mut pool[from..upto], lower)
         }
@@ -124,7 +124,7 @@ pub extern "C" fn krcf_pool_set_initial_threshold(pool: &mut [u8], drawer: u32, 
     ensures { λ r. ⌜ left r (now (pool .exit)) ≡ Settings.set (Settings.initial-threshold initial) drawer (now (pool .entry)) ⌝ }
 {
     match find(pool, drawer, INITIAL_THRESHOLD_AT, initial) {
-        Found::State(from) => {
+        Found::At(from) => {
             let upto = from + layout::STATE_LENGTH;
             c_chain::krcf_chain_set_initial_threshold(&mut pool[from..upto], initial)
         }
@@ -139,7 +139,7 @@ pub extern "C" fn krcf_pool_set_horizon(pool: &mut [u8], drawer: u32, horizon: f
     ensures { λ r. ⌜ left r (now (pool .exit)) ≡ Settings.set (Settings.horizon horizon) drawer (now (pool .entry)) ⌝ }
 {
     match find(pool, drawer, HORIZON_AT, horizon) {
-        Found::State(from) => {
+        Found::At(from) => {
             let upto = from + layout::STATE_LENGTH;
             c_chain::krcf_chain_set_horizon(&mut pool[from..upto], horizon)
         }

@@ -9,7 +9,7 @@ use lib.Dec.{eqb, leb, ltb}
 use lib.ListN.{length, getD, take, set, replicate, length-append, getD-replicate}
 use lib.Seq.{getD-set-same, getD-set-other, take-suc-set}
 use borrow.Author.Tests.{eqb-true, eqb-false, eq-eqb, ltb-true, lt-ltb, leb-true, le-leb}
-use Rattle.pool_links.specs.Steps.{countsAgree}
+use Rattle.pool_links.specs.Links.{countsAgree}
 use Rattle.record_pool.specs.Lists.{same, occ, distinct}
 use Rattle.record_pool.specs.Chains.{Chained, isNumber}
 use Rattle.record_pool.specs.Pool.{countOf, firstUsed, firstFree, nextAt, numberAt, flagsAt, usedOf, freeOf, rulesOk}

@@ -1,19 +1,22 @@
 -- What the header and a record say after each write. Assumes nothing.
 use mathlib.Core.Path.{_≡_, refl, sym, ap, ap₂, _∙_}
 use mathlib.Core.Logic.{_≢_}
-use mathlib.Core.Bool.{_&&_}
+use mathlib.Core.Bool.{Bool, _&&_}
 use mathlib.Core.List.{List, [], _++_}
 use Prim.Native.Nat.{ℕ, _+_, _-_, _≤_, _<_}
 use native.Mathlib.Omega.{arith}
 use lib.Dec.{leb}
 use lib.ListN.{length, getD, take, drop, length-append, length-take, length-drop}
 use lib.Seq.{getD-append-add, getD-take, getD-drop, ext-getD}
-use Rattle.layout.specs.Places.{stateLength}
+use Rattle.layout.specs.Places.{stateLength, autoThresholdAt, autoAdjustAt}
 use Rattle.layout.specs.Numbers.{le4, bytes4, pasted}
 use Rattle.layout.proofs.Pasting.{pasted-length}
 use Rattle.record_pool.specs.Pool.{place, countOf, firstUsed, firstFree, nextAt, numberAt, flagsAt, withHeader, withNext, withRecord, withState}
-use Rattle.record_pool.specs.Steps.{flagsIn}
 use Rattle.record_pool.proofs.Bytes.{Agree, byte-before, byte-behind, le4-agree, le4-within, byte-at, first-number, second-number, third-number, length-bytes4, place-high, others-agree, header-agrees, records-agree}
+
+-- Of bytes that begin with a state's: its two yes/no bytes are 0 or 1. (`flagsAt` says the same of a record of a pool.)
+unfoldable pub flagsIn : List ℕ → Bool
+flagsIn ys = leb (getD ys autoThresholdAt 0) 1 && leb (getD ys autoAdjustAt 0) 1
 
 -- The three numbers of the header agree where its bytes do.
 module _ (xs ys : List ℕ) (h : Agree 0 32 xs ys) where

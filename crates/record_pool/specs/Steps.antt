@@ -5,7 +5,6 @@ use mathlib.Core.Bool.{Bool, true, false, cond, not, _&&_}
 use mathlib.Core.List.{List, [], _∷_, map}
 use lib.Dec.{eqb, leb, ltb}
 use lib.ListN.{length, getD, take}
-use Rattle.layout.specs.Places.{autoThresholdAt, autoAdjustAt}
 use Rattle.record_pool.specs.Lists.{occ}
 use Rattle.record_pool.specs.Chains.{isNumber}
 use Rattle.record_pool.specs.Pool.{firstUsed, firstFree, nextAt, numberAt, flagsAt, rulesOk}
@@ -35,10 +34,6 @@ isBefore numbers k n = not (eqb (occ n (take k numbers)) 0)
 -- The same, where a place of 64 that no number has taken yet says that it is not.
 unfoldable pub isTaken : ℕ → List ℕ → ℕ → ℕ → Bool
 isTaken mark numbers k n = cond (eqb mark 0) false (isBefore numbers k n)
-
--- The yes/no bytes of a state, of which these are the bytes and what stands behind them.
-unfoldable pub flagsIn : List ℕ → Bool
-flagsIn ys = leb (getD ys autoThresholdAt 0) 1 && leb (getD ys autoAdjustAt 0) 1
 
 -- The used chain as far as `at`: n records, their marks and their numbers.
 pub record UsedWalk (xs : List ℕ) (at n : ℕ) (seen numbers us : List ℕ) : Type 0 where

@@ -12,6 +12,11 @@ ghost use Rattle.record_pool.specs.Steps.{markPlace, isUnmarked, isSound
 // How many bytes a pool has.
 const POOL_LENGTH: usize = 61_472;
 
+// Where in a record its state's two yes/no bytes stand: bytes 124 and 149 of the state, which begins at byte 8.
+const AUTO_THRESHOLD_AT: usize = 132;
+
+const AUTO_ADJUST_AT: usize = 157;
+
 // A record, where its state begins in the pool, the used record in front of it (0 where it is the first), the one behind it in its chain, and the header as it
 // stands.
 pub struct Slot {
@@ -101,8 +106,8 @@ fn flags_at(pool: &[u8], i: usize) -> bool
     ensures { λ r. ⌜ r ≡ Pool.flagsAt (now (pool .entry)) i ⌝ }
 {
     let at = place(i);
-    if pool[at + 132] <= 1 {
-        return pool[at + 157] <= 1;
+    if pool[at + AUTO_THRESHOLD_AT] <= 1 {
+        return pool[at + AUTO_ADJUST_AT] <= 1;
     }
     false
 }

@@ -1,5 +1,5 @@
 use borrow.Author.Tests.{eq-eqb, ne-eqb, le-leb, lt-leb}
-use Rattle.pool_links.specs.Steps.{countsAgree}
+use Rattle.pool_links.specs.Links.{countsAgree}
 use borrow.Author.Needs.{needs}
 use Rattle.pool_links.proofs.counts_agree.Statement.{statement}
 use Rattle.pool_links.proofs.counts_agree.Tie as tie

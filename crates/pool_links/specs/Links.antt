@@ -12,12 +12,12 @@ unfoldable pub countsAgree : (count used free : ℕ) → Bool
 countsAgree count used free = eqb used count && (leb used 30 && (leb free 30 && eqb (used + free) 30))
 
 -- One more; a pool has at most thirty.
-unfoldable pub raised : ℕ → ℕ
-raised count = cond (ltb count 30) (count + 1) 30
+unfoldable pub oneMore : ℕ → ℕ
+oneMore count = cond (ltb count 30) (count + 1) 30
 
 -- The header behind an opening: the record is the first used.
 abbrev pub opened : (index next count : ℕ) → Header
-opened index next count = record { count = raised count; used = index; free = next }
+opened index next count = record { count = oneMore count; used = index; free = next }
 
 -- The header behind a removal: the record is the first free.
 abbrev pub removed : (index front next count used : ℕ) → Header
