@@ -65,6 +65,26 @@ fn sixteen() -> [f32; 16]
     [0.0f32; 16]
 }
 
+// What the noise pass makes of a point; how many coordinates it read is of no use here.
+fn pass_factor(
+    base: usize,
+    scale: &[f32],
+    shift: &[f32],
+    difference_deviations: &[f32],
+    point: &[f32],
+) -> f32
+    ensures { λ f. ⌜ f ≡ Pass.centeredTransformPass base (now (scale .entry)) (now (shift .entry)) (now («difference_deviations» .entry)) (now (point .entry)) ⌝ }
+{
+    let passed = uncertainty_box::centered_transform_pass(
+        base,
+        scale,
+        shift,
+        difference_deviations,
+        point,
+    );
+    passed.factor
+}
+
 // The noise pass of the corrected point; without a copy where nothing is corrected.
 fn noise_pass(
     r: Reading,
@@ -87,14 +107,7 @@ fn noise_pass(
 {
     let base = r.base_dimension;
     if !scoring::is_recent(l.has_anomaly, gap, r.shingle_size) {
-        let passed = uncertainty_box::centered_transform_pass(
-            base,
-            scale,
-            shift,
-            difference_deviations,
-            point,
-        );
-        return passed.factor;
+        return pass_factor(base, scale, shift, difference_deviations, point);
     }
     let method = r.transform_method;
     let anomaly = l.anomaly;
@@ -113,14 +126,7 @@ fn noise_pass(
         r.time_augmented,
         &mut work[..d],
     );
-    let passed = uncertainty_box::centered_transform_pass(
-        base,
-        scale,
-        shift,
-        difference_deviations,
-        &work[..d],
-    );
-    passed.factor
+    pass_factor(base, scale, shift, difference_deviations, &work[..d])
 }
 
 // The uncertainty box in the first `base` places.

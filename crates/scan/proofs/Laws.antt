@@ -57,8 +57,12 @@ read-settled (suc n) f g h = by-first (f 0) refl (readUntil n (behind f)) h (rea
     by-first true q r h rest = rw (h 0 (omega arith) ∙ q)
     by-first false q r h rest = rw (h 0 (omega arith) ∙ q) (ap suc (rest (λ j l. h (suc j) (omega arith))))
 
+read-unsettled : (n : ℕ) (f : ℕ → Bool) (k : ℕ) → k < readUntil n f → (k < n) × ((i : ℕ) → i < k → (eqb k i ≡ f i) × (false ≡ f i))
+read-unsettled n f k h =
+    (omega (arith, read-most n f), λ i l. let none = sym (read-none n f i (omega arith)) in (ne-eqb k i (λ q. omega arith) ∙ none, none))
+
 pub laws : (n : ℕ) (f : ℕ → Bool) → LawsOf n f
-laws n f = record { most = read-most n f; hit = read-hit n f; none = read-none n f; all = read-all n f; settled = read-settled n f }
+laws n f = record { most = read-most n f; hit = read-hit n f; none = read-none n f; all = read-all n f; settled = read-settled n f; unsettled = read-unsettled n f }
 
 -- A scan that has met no hit before place y and meets one there has read y + 1 places.
 pub read-first : (n : ℕ) (f : ℕ → Bool) (y : ℕ) → y < n → ((i : ℕ) → i < y → f i ≡ false) → f y ≡ true → readUntil n f ≡ y + 1

@@ -4,7 +4,7 @@ ghost use lib.Dec.{eqb};
 ghost use Rattle.scan.specs.Read.{readUntil, ReadLaws};
 
 // How many of `all` places a scan has read whose first hit is at place `hit`, counted from 0; all where that is none of them.
-pub fn read_until(hit: usize, all: usize) -> usize
+pub fn places_read(hit: usize, all: usize) -> usize
     ensures { λ r. ⌜ r ≡ readUntil all (eqb hit) ⌝ }
 {
     if hit < all {

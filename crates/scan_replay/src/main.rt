@@ -1,5 +1,5 @@
 // Makes the noise passes and box tests of standard input and writes a line for each: the operation, the result in hexadecimal, and how many coordinates were read.
-// Standard output is to be the lines of full scans; `oracle/run SOURCES sample` writes both.
+// Standard output is to be what looking at every coordinate gives; `oracle/run SOURCES sample` writes both.
 //
 // A case is six numbers of 2 bytes, the lowest first: the operation (0 the noise pass, 1 the box), the base or the start position, and the lengths of four slices, up
 // to 1,100 each: scale, shift, deviations and point; or box, scale, point and other point. Their floats follow one after the other, 4 bytes each, the lowest first.
@@ -60,7 +60,7 @@ fn reals(b: &[u8; ROOM], n: usize) -> [f32; 4400]
     out
 }
 
-// `n` elements from `at` on, or all where there are fewer.
+// `n` elements from `at` on; the whole slice where there are fewer.
 fn part(x: &[f32], at: usize, n: usize) -> &[f32] {
     if at <= x.len() {
         if n <= x.len() - at {
@@ -179,8 +179,8 @@ fn blank() -> [u8; ROOM] {
     [0u8; ROOM]
 }
 
-// Reads the floats of a case and writes its line; whether they were all there.
-fn whole(head: &[u8; HEAD]) -> bool {
+// Reads the floats of a case and writes its line; no where one of the two fails.
+fn replayed(head: &[u8; HEAD]) -> bool {
     let ends = ends_of(head);
     let n = ends.fourth;
     let mut bytes = blank();
@@ -202,7 +202,7 @@ fn main() {
         if n < HEAD {
             return;
         }
-        if !whole(&head) {
+        if !replayed(&head) {
             return;
         }
         k += 1;

@@ -67,10 +67,15 @@ pass-reads : read 1 0 0x4110_0000 ∷ read 1 0x4110_0000 0 ∷ read 1 0x4110_000
 unfolding Pass.coordinatesRead passable readUntil overAt overLine absf32 ofBits Ieee.neg Ieee.add Ieee.mul Ieee.lt
 pass-reads = refl
 
--- Read of the same points, in boxes of 0.5 around (0, 0): likewise; none from the second coordinate on, where the box is too long.
-abbrev held : ℕ → ℕ → ℕ → ℕ
-held start a b = Box.coordinatesRead (floats (0x3F00_0000 ∷ 0x3F00_0000 ∷ [])) start (floats (0x3F80_0000 ∷ 0x3F80_0000 ∷ [])) (floats (a ∷ b ∷ [])) (floats (0 ∷ 0 ∷ []))
+-- Read of the same points, held against boxes of 0.5 around (0, 0): likewise. From the second coordinate on none where the box has two edges, and one where it has one.
+abbrev held : List ℕ → ℕ → ℕ → ℕ → ℕ
+held edges start a b = Box.coordinatesRead (floats edges) start (floats (0x3F80_0000 ∷ 0x3F80_0000 ∷ [])) (floats (a ∷ b ∷ [])) (floats (0 ∷ 0 ∷ []))
 
-box-reads : held 0 0 0x4110_0000 ∷ held 0 0x4110_0000 0 ∷ held 0 0x4110_0000 0x4110_0000 ∷ held 0 0 0 ∷ held 1 0 0x4110_0000 ∷ [] ≡ 2 ∷ 1 ∷ 1 ∷ 2 ∷ 0 ∷ []
+abbrev both : ℕ → ℕ → ℕ → ℕ
+both = held (0x3F00_0000 ∷ 0x3F00_0000 ∷ [])
+
+box-reads :
+    both 0 0 0x4110_0000 ∷ both 0 0x4110_0000 0 ∷ both 0 0x4110_0000 0x4110_0000 ∷ both 0 0 0 ∷ both 1 0 0x4110_0000 ∷ held (0x3F00_0000 ∷ []) 1 0 0x4110_0000 ∷ held [] 0 0 0 ∷ []
+    ≡ 2 ∷ 1 ∷ 1 ∷ 2 ∷ 0 ∷ 1 ∷ 0 ∷ []
 unfolding Box.coordinatesRead Box.boxFits readUntil outsideAt outside ofBits Ieee.add Ieee.sub Ieee.mul Ieee.lt
 box-reads = refl

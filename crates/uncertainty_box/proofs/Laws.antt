@@ -4,6 +4,7 @@ use mathlib.Core.Bool.{Bool, true, false, cond, not, _&&_, and-false}
 use mathlib.Core.List.{List}
 use mathlib.Core.Logic.{_⊎_, inl, inr}
 use Prim.Native.Nat.{ℕ, zero, suc, _-_, _*_, _/_, _%_, _<_, _≤_}
+use native.Mathlib.Omega.{arith}
 use lib.ListN.{length}
 use lib.Ieee as Ieee
 use lib.Ieee.{Float, binary32, ofBits}
@@ -148,6 +149,13 @@ passable-holds base scales shifts deviations points e =
     let a = and-left _ _ (and-left _ _ e) in
     let b = and-left _ _ a in
     (ltb-true 0 base (and-left _ _ b), leb-true base scales (and-right (ltb 0 base) _ b), leb-true base shifts (and-right (ltb 0 base && leb base scales) _ a))
+
+-- So a point that can be passed has a coordinate.
+pub passable-points : (base scales shifts deviations points : ℕ) → passable base scales shifts deviations points ≡ true → 0 < points
+unfolding passable
+passable-points base scales shifts deviations points e =
+    let positive = passable-holds base scales shifts deviations points e .0 in
+    omega (arith, positive, leb-true base points (and-right (ltb 0 base && leb base scales && leb base shifts && leb base deviations) _ e))
 
 -- The test at coordinate i, read at its place y in the row.
 pub over-at : (base : ℕ) (scale shift point : List Float) (i y : ℕ) (b t : Bool) → y ≡ i % base → b ≡ overLine (nth point i) (nth scale y) (nth shift y) → b ≡ t → overAt base scale shift point i ≡ t

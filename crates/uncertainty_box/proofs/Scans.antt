@@ -3,7 +3,7 @@ use mathlib.Core.Path.{_≡_, refl, sym, ap, ap₂, _∙_}
 use mathlib.Core.Bool.{Bool, true, false, cond, _||_, or-true}
 use mathlib.Core.List.{List, [], _∷_, _++_}
 use mathlib.Core.Logic.{⊎-elim}
-use Prim.Native.Nat.{ℕ, zero, suc, _+_, _<_, _≤_}
+use Prim.Native.Nat.{ℕ, zero, suc, _+_, _-_, _<_, _≤_}
 use native.Mathlib.Nat.{not-suc-le-zero, le-of-suc-le-suc, eq-or-lt-of-le}
 use native.Mathlib.Numerals.{add-one}
 use native.Mathlib.Omega.{arith}
@@ -101,6 +101,29 @@ early-settled (suc n) f g h = by-first (f 0) refl (readUntil n (λ i. f (suc i))
         → cond (g 0) true (early n (λ i. g (suc i))) ≡ cond b true (early n (λ i. f (suc i)))
     by-first true q r h rest = rw (h 0 (omega arith) ∙ q)
     by-first false q r h rest = rw (h 0 (omega arith) ∙ q) (rest (λ j l. h (suc j) (omega arith)))
+
+-- The last place read decides.
+early-last : (n : ℕ) (f : ℕ → Bool) → (0 < readUntil (suc n) f) × (early (suc n) f ≡ f (readUntil (suc n) f - 1))
+unfolding early readUntil
+early-last zero f = bare (f 0) refl
+  where
+    bare : (b : Bool) → f 0 ≡ b → (0 < cond b 1 1) × (cond b true false ≡ f (cond b 1 1 - 1))
+    bare true e = (omega arith, sym e)
+    bare false e = (omega arith, sym e)
+early-last (suc n) f = by-first (f 0) refl (early-last n (λ i. f (suc i)))
+  where
+    by-first : (b : Bool) → f 0 ≡ b
+        → (0 < readUntil (suc n) (λ i. f (suc i))) × (early (suc n) (λ i. f (suc i)) ≡ f (suc (readUntil (suc n) (λ i. f (suc i)) - 1)))
+        → (0 < cond b 1 (suc (readUntil (suc n) (λ i. f (suc i)))))
+        × (cond b true (early (suc n) (λ i. f (suc i))) ≡ f (cond b 1 (suc (readUntil (suc n) (λ i. f (suc i)))) - 1))
+    by-first true e rest = (omega arith, sym e)
+    by-first false e rest =
+        let place : suc (readUntil (suc n) (λ i. f (suc i)) - 1) ≡ suc (readUntil (suc n) (λ i. f (suc i))) - 1 = omega (arith, rest .0) in
+        (omega arith, rest .1 ∙ ap f place)
+
+pub some-last : (n : ℕ) (f : ℕ → Bool) → 0 < n → (0 < readUntil n f) × (some n f ≡ f (readUntil n f - 1))
+some-last zero f h = absurd (omega arith)
+some-last (suc n) f h = let last = early-last n f in (last .0, some-early (suc n) f ∙ last .1)
 
 -- The places that a scan reads settle it: a test that says the same of them gets the same answer.
 pub some-settled : (n : ℕ) (f g : ℕ → Bool) → ((i : ℕ) → i < readUntil n f → g i ≡ f i) → some n g ≡ some n f

@@ -31,11 +31,11 @@ withinUnertaintyBox box start scale point other =
     && leb (length box) (length other - start)
     && not (some (length box) (outsideAt box start scale point other))
 
--- No index runs out: neither scale nor a point from start on is shorter than the box.
+-- Neither scale nor a point from start on is shorter than the box.
 unfoldable pub boxFits : ℕ → ℕ → ℕ → ℕ → ℕ → Bool
 boxFits edges start scales points others = leb edges scales && leb edges (points - start) && leb edges (others - start)
 
--- How many coordinates are read: up to the first one outside, else all of the box. None where an index would run out.
+-- How many coordinates of the box are read: up to the first one outside, else all. None where something is shorter than the box.
 unfoldable pub coordinatesRead : List Float → ℕ → List Float → List Float → List Float → ℕ
 coordinatesRead box start scale point other =
     cond (boxFits (length box) start (length scale) (length point) (length other))

@@ -1,9 +1,11 @@
--- What is read of a point is what was needed: the coordinates read settle both scans, whatever stands at the others.
-use Prim.Native.Nat.{ℕ, _+_, _<_}
+-- The coordinates read are enough: they settle both scans, whatever stands at the others, and the last of them decides.
+use Prim.Native.Nat.{ℕ, _+_, _-_, _<_}
 use mathlib.Core.Path.{_≡_}
+use mathlib.Core.Bool.{true, cond, not}
 use mathlib.Core.List.{List}
 use lib.ListN.{length}
 use lib.Ieee.{Float}
+use Rattle.uncertainty_box.specs.Const.{zero32, one}
 use Rattle.uncertainty_box.specs.Scan.{nth}
 use Rattle.uncertainty_box.specs.Box as Box
 use Rattle.uncertainty_box.specs.Pass as Pass
@@ -26,3 +28,21 @@ BoxSettled =
     → ((y : ℕ) → y < Box.coordinatesRead box start scale point other → (nth point′ (start + y) ≡ nth point (start + y)) × (nth other′ (start + y) ≡ nth other (start + y)))
     → (Box.withinUnertaintyBox box start scale point′ other′ ≡ Box.withinUnertaintyBox box start scale point other)
     × (Box.coordinatesRead box start scale point′ other′ ≡ Box.coordinatesRead box start scale point other)
+
+-- One is read at least, and the factor is 1 exactly where the last one read is over its line.
+abbrev pub PassDecided : Type 0
+PassDecided =
+    (base : ℕ) (scale shift deviations point : List Float)
+    → Pass.passable base (length scale) (length shift) (length deviations) (length point) ≡ true
+    → (0 < Pass.coordinatesRead base scale shift deviations point)
+    × (Pass.centeredTransformPass base scale shift deviations point
+    ≡ cond (Pass.overAt base scale shift point (Pass.coordinatesRead base scale shift deviations point - 1)) one zero32)
+
+-- The same of a box that is not empty: the point is within it exactly where the last coordinate read is not outside.
+abbrev pub BoxDecided : Type 0
+BoxDecided =
+    (box : List Float) (start : ℕ) (scale point other : List Float)
+    → Box.boxFits (length box) start (length scale) (length point) (length other) ≡ true
+    → 0 < length box
+    → (0 < Box.coordinatesRead box start scale point other)
+    × (Box.withinUnertaintyBox box start scale point other ≡ not (Box.outsideAt box start scale point other (Box.coordinatesRead box start scale point other - 1)))

@@ -4,7 +4,7 @@ ghost use mathlib.Core.Bool.{cond};
 ghost use Prim.Native.Nat.{_+_, _-_, _≤_, _<_, _%_};
 ghost use Rattle.uncertainty_box.specs.Box as Box;
 ghost use Rattle.uncertainty_box.specs.Pass as Pass;
-ghost use Rattle.uncertainty_box.specs.Settled.{BoxSettled, PassSettled};
+ghost use Rattle.uncertainty_box.specs.Settled.{BoxDecided, BoxSettled, PassDecided, PassSettled};
 
 // How many of len places are left from start on.
 fn left(len: usize, start: usize) -> usize
@@ -25,6 +25,7 @@ fn outside(edge: f32, scale: f32, p: f32, q: f32) -> bool
     a > b + edge
 }
 
+// Whether no slice is too short for the box.
 fn box_fits(edges: usize, start: usize, scales: usize, points: usize, others: usize) -> bool
     ensures { λ r. ⌜ r ≡ Box.boxFits edges start scales points others ⌝ }
 {
@@ -37,7 +38,7 @@ fn box_fits(edges: usize, start: usize, scales: usize, points: usize, others: us
     edges <= left(others, start)
 }
 
-// Whether a point is within a box, and how many of its coordinates were read to say so.
+// Whether a point is within a box, and how many of the box's coordinates were read to say so.
 pub struct Within {
     pub within: bool,
     pub read: usize,
@@ -53,12 +54,8 @@ pub fn within_unertainty_box(
     other_point: &[f32],
 ) -> Within
     ensures { λ r. ⌜
-        (r .within ≡ Box.withinUnertaintyBox
-        (now («uncertainty_box» .entry)) «start_position» (now (scale .entry))
-        (now (point .entry)) (now («other_point» .entry)))
-        × (r .read ≡ Box.coordinatesRead
-        (now («uncertainty_box» .entry)) «start_position» (now (scale .entry))
-        (now (point .entry)) (now («other_point» .entry))) ⌝ }
+        (r .within ≡ Box.withinUnertaintyBox (now («uncertainty_box» .entry)) «start_position» (now (scale .entry)) (now (point .entry)) (now («other_point» .entry)))
+        × (r .read ≡ Box.coordinatesRead (now («uncertainty_box» .entry)) «start_position» (now (scale .entry)) (now (point .entry)) (now («other_point» .entry))) ⌝ }
 {
     let all = uncertainty_box.len();
     if !box_fits(
@@ -79,7 +76,7 @@ pub fn within_unertainty_box(
         if outside(uncertainty_box[y], scale[y], point[at], other_point[at]) {
             return Within {
                 within: false,
-                read: scan::read_until(y, all),
+                read: scan::places_read(y, all),
             };
         }
         y += 1;
@@ -250,6 +247,7 @@ fn over_line(coordinate: f32, scale: f32, shift: f32) -> bool
     util::absf32(coordinate) * scale > 1e-3 * (1.0 + util::absf32(shift))
 }
 
+// Whether the base is not 0 and no slice is too short for it.
 fn passable(base: usize, scales: usize, shifts: usize, deviations: usize, points: usize) -> bool
     ensures { λ r. ⌜ r ≡ Pass.passable base scales shifts deviations points ⌝ }
 {
@@ -283,7 +281,7 @@ pub struct Passed {
 }
 
 // 1 where a coordinate is over its precision line, else 0. The first one over it settles it, and no further one is read; the deviations change nothing.
-// 0, and none read, where a slice is too short for the base.
+// 0, and none read, where the base is 0 or a slice is too short for it.
 pub fn centered_transform_pass(
     base_dimension: usize,
     scale: &[f32],
@@ -292,12 +290,8 @@ pub fn centered_transform_pass(
     point: &[f32],
 ) -> Passed
     ensures { λ r. ⌜
-        (r .factor ≡ Pass.centeredTransformPass
-        «base_dimension» (now (scale .entry)) (now (shift .entry))
-        (now («difference_deviations» .entry)) (now (point .entry)))
-        × (r .read ≡ Pass.coordinatesRead
-        «base_dimension» (now (scale .entry)) (now (shift .entry))
-        (now («difference_deviations» .entry)) (now (point .entry))) ⌝ }
+        (r .factor ≡ Pass.centeredTransformPass «base_dimension» (now (scale .entry)) (now (shift .entry)) (now («difference_deviations» .entry)) (now (point .entry)))
+        × (r .read ≡ Pass.coordinatesRead «base_dimension» (now (scale .entry)) (now (shift .entry)) (now («difference_deviations» .entry)) (now (point .entry))) ⌝ }
 {
     let all = point.len();
     if !passable(
@@ -318,7 +312,7 @@ pub fn centered_transform_pass(
         if over_line(point[i], scale[y], shift[y]) {
             return Passed {
                 factor: 1.0,
-                read: scan::read_until(i, all),
+                read: scan::places_read(i, all),
             };
         }
         i += 1;
@@ -332,9 +326,9 @@ pub fn centered_transform_pass(
 
 // These do nothing: they hold the theorems to their statements.
 fn pass_settled()
-    ensures { λ r. ⌜ PassSettled ⌝ }
+    ensures { λ r. ⌜ PassSettled × PassDecided ⌝ }
 {}
 
 fn box_settled()
-    ensures { λ r. ⌜ BoxSettled ⌝ }
+    ensures { λ r. ⌜ BoxSettled × BoxDecided ⌝ }
 {}

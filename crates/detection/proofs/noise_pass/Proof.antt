@@ -18,13 +18,13 @@ use Rattle.detection.proofs.noise_pass.Tie as tie
 is-recent-requires : tie.Need-is-recent-requires
 is-recent-requires c κs = search needs
 
-centered-transform-pass-requires : tie.Need-centered-transform-pass-requires
-centered-transform-pass-requires c κs = search needs
+pass-factor-requires : tie.Need-pass-factor-requires
+pass-factor-requires c κs = search needs
 
 returns : tie.Need-returns
 returns c =
     let a = c .before .before .before .before .before .before .before .before .before .args in
-    c .centered-transform-pass .ensures .0
+    c .pass-factor .ensures
     ∙ ap (centeredTransformPass (a .r .«base_dimension») (now (a .scale)) (now (a .shift)) (now (a .difference-deviations)))
     (not-recent (now (a .point)) (a .gap) (a .r .«shingle_size») (a .r .«base_dimension») (a .l .«has_anomaly») (now (a .last-expected)) (now (a .last-anomalous)) (a .l .anomaly .«relative_index») (isDifferenced (a .r .«transform_method»)) (a .r .«time_augmented») (sym (c .before .before .is-recent .ensures) ∙ not-true (c .before .before .is-recent .result) (c .before .if1 .taken)))
 
@@ -50,15 +50,15 @@ array-share-prefix-work c =
     let long : length (c .before .write-corrected-point .last .1 .1 .1 .1 .1 .1 .1 .1 .1 .1 .0) ≡ length (now (c .before .before .before .before .before .before .before .before .before .before .before .before .before .before .before .args .point)) = c .before .write-corrected-point .kept .1 .1 .1 .1 .1 .1 .1 .1 .1 .1 .0 ∙ length-take-le (length (now (c .before .before .before .before .before .before .before .before .before .before .before .before .before .before .before .args .point))) (c .before .before .before .before .before .zeros .result) (omega arith) in
     simp length-append (omega arith)
 
-slice-aggregate-centered-transform-pass : tie.Need-slice-aggregate-centered-transform-pass
-slice-aggregate-centered-transform-pass c =
+slice-aggregate-pass-factor : tie.Need-slice-aggregate-pass-factor
+slice-aggregate-pass-factor c =
     let l : length (c .before .before .before .before .before .before .zeros .result) ≡ 1024 = search needs in
     let k = c .before .before .before .before .before .before .before .before .before .before .before .before .before .before .before .before .pre .0 in
     let long : length (c .before .before .write-corrected-point .last .1 .1 .1 .1 .1 .1 .1 .1 .1 .1 .0) ≡ length (now (c .before .before .before .before .before .before .before .before .before .before .before .before .before .before .before .before .args .point)) = c .before .before .write-corrected-point .kept .1 .1 .1 .1 .1 .1 .1 .1 .1 .1 .0 ∙ length-take-le (length (now (c .before .before .before .before .before .before .before .before .before .before .before .before .before .before .before .before .args .point))) (c .before .before .before .before .before .before .zeros .result) (omega arith) in
     sym (ap length (front-is (c .before .before .before .before .before .before .zeros .result) (c .before .before .write-corrected-point .last .1 .1 .1 .1 .1 .1 .1 .1 .1 .1 .0) (c .before .before .write-corrected-point .last .1 .1 .1 .1 .1 .1 .1 .1 .1 .1 .0) (length (now (c .before .before .before .before .before .before .before .before .before .before .before .before .before .before .before .before .args .point))) long refl) ∙ long)
 
-centered-transform-pass-requires-2 : tie.Need-centered-transform-pass-requires-2
-centered-transform-pass-requires-2 c κs = search needs
+pass-factor-requires-2 : tie.Need-pass-factor-requires-2
+pass-factor-requires-2 c κs = search needs
 
 returns-2 : tie.Need-returns-2
 returns-2 c =
@@ -68,7 +68,7 @@ returns-2 c =
     let short : length (take (length (now (a .point))) (c .before .before .before .before .before .before .before .zeros .result)) ≡ length (now (a .point)) = length-take-le (length (now (a .point))) (c .before .before .before .before .before .before .before .zeros .result) (omega arith) in
     let long = c .before .before .before .write-corrected-point .kept .1 .1 .1 .1 .1 .1 .1 .1 .1 .1 .0 ∙ short in
     let i = toZ-ofZ w32 (a .l .anomaly .«relative_index») (search needs) in
-    c .centered-transform-pass2 .ensures .0
+    c .pass-factor2 .ensures
     ∙ ap (centeredTransformPass (a .r .«base_dimension») (now (a .scale)) (now (a .shift)) (now (a .difference-deviations)))
     (front-is (c .before .before .before .before .before .before .before .zeros .result) (c .before .before .before .write-corrected-point .last .1 .1 .1 .1 .1 .1 .1 .1 .1 .1 .0) _ (length (now (a .point))) long
     (corrected-is (length (now (a .point))) (a .gap) (a .r .«shingle_size») (a .r .«base_dimension») (a .l .«has_anomaly») (length (now (a .last-expected))) (length (now (a .last-anomalous))) (take (length (now (a .point))) (c .before .before .before .before .before .before .before .zeros .result)) _ _ short (c .before .before .before .before .before .before .before .before .before .before .before .before .before .before .before .before .before .pre .1) (c .before .before .before .write-corrected-point .ensures)
@@ -79,7 +79,7 @@ noise-pass-spec =
     tie.close
     (tie.spec
     is-recent-requires
-    centered-transform-pass-requires
+    pass-factor-requires
     returns
     zeros-requires
     is-differenced-requires
@@ -87,6 +87,6 @@ noise-pass-spec =
     slice-aggregate-write-corrected-point
     write-corrected-point-requires
     array-share-prefix-work
-    slice-aggregate-centered-transform-pass
-    centered-transform-pass-requires-2
+    slice-aggregate-pass-factor
+    pass-factor-requires-2
     returns-2)

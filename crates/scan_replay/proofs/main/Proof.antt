@@ -24,8 +24,8 @@ read-full-requires c κs = search needs
 returns : tie.Need-returns Inv-loop μ-loop
 returns c = search needs
 
-whole-requires : tie.Need-whole-requires Inv-loop μ-loop
-whole-requires c κs = search needs
+replayed-requires : tie.Need-replayed-requires Inv-loop μ-loop
+replayed-requires c κs = search needs
 
 returns-2 : tie.Need-returns-2 Inv-loop μ-loop
 returns-2 c = search needs
@@ -53,7 +53,7 @@ main-spec =
     slice-aggregate-read-full
     read-full-requires
     returns
-    whole-requires
+    replayed-requires
     returns-2
     add-k
     loop-less

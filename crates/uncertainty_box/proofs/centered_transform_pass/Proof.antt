@@ -61,8 +61,8 @@ shared-slice-read-over-line-3 c = search needs
 over-line-requires : tie.Need-over-line-requires Inv-loop μ-loop
 over-line-requires c κs = search needs
 
-read-until-requires : tie.Need-read-until-requires Inv-loop μ-loop
-read-until-requires c κs = search needs
+places-read-requires : tie.Need-places-read-requires Inv-loop μ-loop
+places-read-requires c κs = search needs
 
 returns-2 : tie.Need-returns-2 Inv-loop μ-loop
 returns-2 c =
@@ -72,7 +72,7 @@ returns-2 c =
     let fit = not-false _ (rw (c .before .before .before .before .before .before .before .before .before .passable .ensures) at (c .before .before .before .before .before .before .before .before .if1 .left)) in
     let over = over-at (a .base-dimension) (now (a .scale)) (now (a .shift)) (now (a .point)) (l .i) (l .y) _ true (l .inv .2) (c .before .before .over-line .ensures) (c .before .if2 .taken) in (
       sym (centered-over (a .base-dimension) (now (a .scale)) (now (a .shift)) (now (a .difference-deviations)) (now (a .point)) (l .i) fit here over),
-      pass-read-over (a .base-dimension) (now (a .scale)) (now (a .shift)) (now (a .difference-deviations)) (now (a .point)) fit (l .i) _ here (l .inv .5) over (c .read-until .ensures),
+      pass-read-over (a .base-dimension) (now (a .scale)) (now (a .shift)) (now (a .difference-deviations)) (now (a .point)) fit (l .i) _ here (l .inv .5) over (c .places-read .ensures),
     )
 
 add-i : tie.Need-add-i Inv-loop μ-loop
@@ -123,7 +123,7 @@ centered-transform-pass-spec =
     mul-over-line-3
     shared-slice-read-over-line-3
     over-line-requires
-    read-until-requires
+    places-read-requires
     returns-2
     add-i
     next-in-row-requires

@@ -69,8 +69,8 @@ shared-slice-read-outside-4 c = search needs
 outside-requires : tie.Need-outside-requires Inv-loop μ-loop
 outside-requires c κs = search needs
 
-read-until-requires : tie.Need-read-until-requires Inv-loop μ-loop
-read-until-requires c κs = search needs
+places-read-requires : tie.Need-places-read-requires Inv-loop μ-loop
+places-read-requires c κs = search needs
 
 returns-2 : tie.Need-returns-2 Inv-loop μ-loop
 unfolding outsideAt
@@ -81,7 +81,7 @@ returns-2 c =
     let fit = not-false _ (rw (c .before .before .before .before .before .before .before .before .before .before .box-fits .ensures) at (c .before .before .before .before .before .before .before .before .before .if1 .left)) in
     let out = sym (c .before .before .outside .ensures) ∙ c .before .if2 .taken in (
       sym (within-outside (now (a .uncertainty-box)) (a .start-position) (now (a .scale)) (now (a .point)) (now (a .other-point)) (l .y) here out),
-      box-read-outside (now (a .uncertainty-box)) (a .start-position) (now (a .scale)) (now (a .point)) (now (a .other-point)) fit (l .y) _ here (l .inv .4) out (c .read-until .ensures),
+      box-read-outside (now (a .uncertainty-box)) (a .start-position) (now (a .scale)) (now (a .point)) (now (a .other-point)) fit (l .y) _ here (l .inv .4) out (c .places-read .ensures),
     )
 
 add-y : tie.Need-add-y Inv-loop μ-loop
@@ -128,7 +128,7 @@ within-unertainty-box-spec =
     mul-outside-4
     shared-slice-read-outside-4
     outside-requires
-    read-until-requires
+    places-read-requires
     returns-2
     add-y
     loop-less

@@ -2,8 +2,8 @@ use mathlib.Core.Path.{_≡_}
 use native.Mathlib.Omega.{arith}
 use lib.ListN.{length, length-take}
 use borrow.Author.Needs.{needs}
-use Rattle.scan_replay.proofs.whole.Statement.{statement}
-use Rattle.scan_replay.proofs.whole.Tie as tie
+use Rattle.scan_replay.proofs.replayed.Statement.{statement}
+use Rattle.scan_replay.proofs.replayed.Tie as tie
 
 ends-of-requires : tie.Need-ends-of-requires
 ends-of-requires c κs = search needs
@@ -55,8 +55,8 @@ write-all-requires c κs = search needs
 returns-2 : tie.Need-returns-2
 returns-2 c = search needs
 
-pub whole-spec : {M : Type 1} → statement M
-whole-spec =
+pub replayed-spec : {M : Type 1} → statement M
+replayed-spec =
     tie.close
     (tie.spec
     ends-of-requires
