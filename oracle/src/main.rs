@@ -16,6 +16,7 @@ mod readings;
 mod refusals;
 mod same;
 mod sample;
+mod scans;
 mod statistics;
 mod tally;
 mod thresholders;
@@ -76,6 +77,7 @@ fn run(name: &str, seed: u64) -> u64 {
         parts::exits::write().expect("readings written");
         bench::score_watch::write(&mut Random::new(seed)).expect("scores written");
         bench::export_watch::write(&mut Random::new(seed)).expect("an export written");
+        scans::sample::write(&mut Random::new(seed)).expect("scans written");
         return 0;
     }
     let part = PARTS.iter().find(|p| p.name == name).expect("a known part");

@@ -50,7 +50,7 @@ macro_rules! plain {
     )*};
 }
 
-plain!(u8, u32, u64, usize, i32, bool);
+plain!(u8, u32, u64, usize, i32, bool, String);
 
 impl<T: Same> Same for [T] {
     fn same(&self, other: &[T]) -> bool {

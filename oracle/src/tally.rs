@@ -41,6 +41,19 @@ impl Tally {
         println!("{}: {case}\n    ours {ours}\n    rust {rust}", self.part);
     }
 
+    /// Prints how often each of some things came up. One below the least counts as a case that
+    /// differs.
+    pub fn owed(&mut self, what: &str, counts: &[(String, u64)], least: u64) {
+        let each: Vec<String> = counts
+            .iter()
+            .map(|(name, n)| format!("{name} {n}"))
+            .collect();
+        println!("    {what}: {}", each.join(", "));
+        for (name, n) in counts {
+            self.compare(&(*n >= least), &true, || format!("{what}, {name}: {n}"));
+        }
+    }
+
     /// Prints the part's line and hands back how many cases differ.
     pub fn report(self) -> u64 {
         println!(

@@ -22,8 +22,9 @@ use crate::same::Same;
 /// Shingle and base of D 1, 8, 64 and 1024.
 const SIZES: [(usize, usize); 4] = [(1, 1), (8, 1), (16, 4), (64, 16)];
 
-/// Calm scores counted before.
+/// Calm scores counted before, and the score of a raised reading.
 const COUNTED: usize = 30;
+pub const RAISING: f32 = 5.0;
 
 /// One row of the table.
 #[derive(Clone, Copy)]
@@ -59,7 +60,7 @@ impl Row {
     }
 
     /// A reading with the given score, whose last row stands out and lies far from its neighbours.
-    fn reading(&self, random: &mut Random, score: f32) -> Reading {
+    pub fn reading(&self, random: &mut Random, score: f32) -> Reading {
         let (shingle, base) = self.size;
         let n = shingle * base;
         let mut list = |n: usize, middle: f32| -> Vec<f32> {
@@ -98,7 +99,7 @@ impl Row {
     }
 
     /// The state before: auto adjust where there are neighbours to look at.
-    fn chain(&self, random: &mut Random) -> PredictorCorrector {
+    pub fn chain(&self, random: &mut Random) -> PredictorCorrector {
         let adjust = self.neighbours > 0;
         let made = PredictorCorrector::new(0.01, adjust, self.size.1);
         let mut chain = made.expect("a discount below 1");
@@ -109,81 +110,101 @@ impl Row {
         chain
     }
 
-    /// The row's reading, the state before it on the Rust's side, and both as ours is handed them.
-    pub fn prepared(&self, random: &mut Random) -> (Reading, PredictorCorrector, Handed) {
+    /// The row's reading in the state before it.
+    pub fn prepared(&self, random: &mut Random) -> Prepared {
         let chain = self.chain(random);
-        let score = if self.raised { 5.0 } else { 1.02 };
+        let score = if self.raised { RAISING } else { 1.02 };
         let reading = self.reading(random, score);
-        let mut state = vec![0; STATE];
-        states::put(&chain.state(), self.size.1, &mut state);
-        let handed = Handed::new(&state, &reading);
-        self.check(&reading, &chain, handed.clone());
-        (reading, chain, handed)
+        Prepared::new(reading, chain, (&self.name(), self.exit()))
     }
 
     fn run(&self, random: &mut Random) {
-        let (reading, chain, handed) = self.prepared(random);
-        let d = reading.point.len();
+        let prepared = self.prepared(random);
+        let d = prepared.reading.point.len();
         let calls = if d > 64 { 16 } else { 128 };
-        let ours = || {
-            let mut batch = vec![handed.clone(); calls];
-            pass(calls, || {
-                for h in &mut batch {
-                    black_box(h.judge());
-                }
-            })
-        };
-        let one = || {
-            let forest = RCFLarge::<u64, u64>::unwatched(d, reading.lent());
-            (chain.clone(), reading.descriptor(), forest)
-        };
-        let rust = || {
-            let mut batch: Vec<_> = (0..calls).map(|_| one()).collect();
-            pass(calls, || {
-                for (chain, result, forest) in &mut batch {
-                    let done =
-                        chain.detect_and_modify(result, &reading.last, reading.shingle, forest);
-                    let _ = black_box(done);
-                }
-            })
-        };
-        let all = || self.checked::<All>(calls, &reading, &handed, one);
-        let fold = || self.checked::<Fold>(calls, &reading, &handed, one);
+        let ours = || prepared.ours(calls);
+        let rust = || prepared.rust(calls);
+        let all = || prepared.checked::<All>(calls);
+        let fold = || prepared.checked::<Fold>(calls);
         against_checked(&self.name(), ours, rust, [&all, &fold]);
     }
+}
 
-    /// The time of the Rust behind entry checks.
-    fn checked<F: Finite>(
-        &self,
-        calls: usize,
-        reading: &Reading,
-        handed: &Handed,
-        one: impl Fn() -> (PredictorCorrector, Descriptor, RCFLarge<u64, u64>),
-    ) -> f64 {
+/// A reading, the state before it on the Rust's side, and both as ours is handed them.
+pub struct Prepared {
+    reading: Reading,
+    chain: PredictorCorrector,
+    pub handed: Handed,
+}
+
+impl Prepared {
+    /// Both sides take this exit and say the same.
+    pub fn new(
+        reading: Reading,
+        chain: PredictorCorrector,
+        (name, way): (&str, usize),
+    ) -> Prepared {
+        let mut state = vec![0; STATE];
+        states::put(&chain.state(), reading.base, &mut state);
+        let handed = Handed::new(&state, &reading);
+        let (result, calls) = reading.judge(&mut chain.clone());
+        assert_eq!(exit(&result, &calls), way, "{name}");
+        let mut judged = handed.clone();
+        assert_eq!(judged.judge(), 0, "{name}");
+        assert!(said(&judged.verdict).0.same(&verdict(&result)), "{name}");
+        Prepared {
+            reading,
+            chain,
+            handed,
+        }
+    }
+
+    /// The time of our judgment.
+    pub fn ours(&self, calls: usize) -> f64 {
+        let mut batch = vec![self.handed.clone(); calls];
+        pass(calls, || {
+            for h in &mut batch {
+                black_box(h.judge());
+            }
+        })
+    }
+
+    /// What one judgment of the Rust works on.
+    fn one(&self) -> (PredictorCorrector, Descriptor, RCFLarge<u64, u64>) {
+        let forest = RCFLarge::unwatched(self.reading.point.len(), self.reading.lent());
+        (self.chain.clone(), self.reading.descriptor(), forest)
+    }
+
+    /// The time of the Rust's.
+    pub fn rust(&self, calls: usize) -> f64 {
+        let Reading { last, shingle, .. } = &self.reading;
+        let mut batch: Vec<_> = (0..calls).map(|_| self.one()).collect();
+        pass(calls, || {
+            for (chain, result, forest) in &mut batch {
+                let done = chain.detect_and_modify(result, last, *shingle, forest);
+                let _ = black_box(done);
+            }
+        })
+    }
+
+    /// The time of the Rust's behind entry checks.
+    fn checked<F: Finite>(&self, calls: usize) -> f64 {
         let peer = || {
-            let (chain, result, forest) = one();
+            let (chain, result, forest) = self.one();
             Peer {
                 chain,
-                base: self.size.1,
+                base: self.reading.base,
                 result,
                 forest,
-                lent: handed.clone(),
+                lent: self.handed.clone(),
             }
         };
         let mut batch: Vec<Peer> = (0..calls).map(|_| peer()).collect();
         pass(calls, || {
             for peer in &mut batch {
-                assert_eq!(black_box(peer.judge::<F>(black_box(reading))), 0);
+                assert_eq!(black_box(peer.judge::<F>(black_box(&self.reading))), 0);
             }
         })
-    }
-
-    /// Both sides take the row's exit and say the same.
-    fn check(&self, reading: &Reading, chain: &PredictorCorrector, mut handed: Handed) {
-        let (result, calls) = reading.judge(&mut chain.clone());
-        assert_eq!(exit(&result, &calls), self.exit(), "{}", self.name());
-        assert_eq!(handed.judge(), 0, "{}", self.name());
-        assert!(said(&handed.verdict).0.same(&verdict(&result)));
     }
 }
 

@@ -5,6 +5,7 @@ mod judging;
 mod numbers;
 mod peer;
 mod pool;
+mod scans;
 pub mod score_watch;
 mod timing;
 
@@ -15,6 +16,7 @@ pub fn run(random: &mut Random) {
     numbers::run(random);
     judging::run(random);
     pool::run(random);
+    scans::run(random);
     score_watch::run(random).expect("both score watches run");
     export_watch::run(random).expect("both export watches run");
 }

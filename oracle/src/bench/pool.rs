@@ -66,7 +66,7 @@ fn check(row: &Row, pool: &[u8], drawers: &[u32], handed: &Handed) {
 pub fn run(random: &mut Random) {
     pooled_heading();
     for row in ROWS {
-        let (_, _, handed) = row.prepared(random);
+        let handed = row.prepared(random).handed;
         let pool = full(&handed.state);
         let (answer, drawers) = listing(&pool);
         assert_eq!(answer, 0);

@@ -56,7 +56,7 @@ pub fn heading() {
 }
 
 /// The best time of each side, the sides taking turns.
-fn best<const N: usize>(sides: [&dyn Fn() -> f64; N]) -> [f64; N] {
+pub fn best<const N: usize>(sides: [&dyn Fn() -> f64; N]) -> [f64; N] {
     let mut best = [f64::INFINITY; N];
     for _ in 0..ROUNDS {
         for (least, side) in best.iter_mut().zip(sides) {

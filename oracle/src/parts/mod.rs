@@ -15,6 +15,7 @@ mod narrow;
 mod newest;
 mod pool;
 mod root;
+mod scans;
 mod standin;
 mod thresholder;
 mod util;
@@ -55,5 +56,6 @@ pub const PARTS: &[Part] = &[
     part("asked", buffers::asked),
     part("demand3", demand3::compare),
     part("exports", exports::compare),
+    part("scans", scans::compare),
     part("pool", pool::compare),
 ];

@@ -394,38 +394,23 @@ fn sequence(tally: &mut Tally, random: &mut Random, seen: &mut Seen) {
     }
 }
 
-/// Prints how often each of some things came up. One below the least counts as a case that differs.
-fn owed(tally: &mut Tally, what: &str, counts: &[(String, u64)]) {
-    let each: Vec<String> = counts
-        .iter()
-        .map(|(name, n)| format!("{name} {n}"))
-        .collect();
-    println!("    {what}: {}", each.join(", "));
-    for (name, n) in counts {
-        tally.compare(&(*n >= LEAST), &true, || format!("{what}, {name}: {n}"));
-    }
-}
-
 fn report(tally: &mut Tally, seen: &Seen) {
     for (k, kind) in KINDS.iter().enumerate() {
         let count = |n: &u8| (format!("answer {n}"), seen.answers[k][*n as usize]);
         let counts: Vec<(String, u64)> = ANSWERS[k].iter().map(count).collect();
-        owed(tally, kind, &counts);
+        tally.owed(kind, &counts, LEAST);
     }
     for (strategy, counts) in ["height", "DISTANCE"].iter().zip(&seen.verdicts) {
         let kinds = ["quiet", "corrected", "raised", "skipped"].map(str::to_string);
         let counts: Vec<(String, u64)> = kinds.into_iter().zip(*counts).collect();
-        owed(tally, &format!("judged by {strategy}"), &counts);
+        tally.owed(&format!("judged by {strategy}"), &counts, LEAST);
     }
     let named = |names: &[&str], counts: &[u64]| -> Vec<(String, u64)> {
         let names = names.iter().map(|name| name.to_string());
         names.zip(counts.iter().copied()).collect()
     };
-    owed(
-        tally,
-        "settings not written",
-        &named(&["the same bits", "other bits"], &seen.same),
-    );
+    let same = named(&["the same bits", "other bits"], &seen.same);
+    tally.owed("settings not written", &same, LEAST);
     let pools = [seen.empty, seen.full, seen.resized, seen.several];
     let kinds = [
         "empty",
@@ -433,11 +418,11 @@ fn report(tally: &mut Tally, seen: &Seen) {
         "of another length",
         "broken in several ways",
     ];
-    owed(tally, "pools", &named(&kinds, &pools));
+    tally.owed("pools", &named(&kinds, &pools), LEAST);
     let names = BREAKING.map(|(name, _)| name);
-    owed(tally, "broken alone", &named(&names, &seen.broken));
+    tally.owed("broken alone", &named(&names, &seen.broken), LEAST);
     let names = SPARING.map(|(name, _)| name);
-    owed(tally, "changed and sound", &named(&names, &seen.spared));
+    tally.owed("changed and sound", &named(&names, &seen.spared), LEAST);
 }
 
 pub fn compare(tally: &mut Tally, random: &mut Random) {

@@ -36,10 +36,33 @@ impl PredictorCorrector {
     }
 }
 
+/// What is private otherwise.
 impl PredictorCorrector {
-    /// The path deviation, which is private.
     pub fn path_deviation(point: &[f32], base_dimension: usize, differenced: bool) -> f32 {
         Self::calculate_path_deviation(point, 0, 0, base_dimension, differenced)
+    }
+
+    pub fn noise_pass(base_dimension: usize, result: &Descriptor, point: &[f32]) -> f32 {
+        Self::centered_transform_pass(base_dimension, result, point)
+    }
+
+    pub fn uncertainty_box(
+        point: &[f32],
+        start_position: usize,
+        base_dimension: usize,
+        result: &Descriptor,
+    ) -> Vec<f32> {
+        Self::construct_uncertainty_box(point, start_position, base_dimension, result)
+    }
+
+    pub fn within_box(
+        uncertainty_box: &[f32],
+        start_position: usize,
+        scale: &[f32],
+        point: &[f32],
+        other_point: &[f32],
+    ) -> bool {
+        Self::within_unertainty_box(uncertainty_box, start_position, scale, point, other_point)
     }
 }
 
