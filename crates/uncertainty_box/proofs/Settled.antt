@@ -39,7 +39,8 @@ pub pass-decided : PassDecided
 unfolding Pass.coordinatesRead
 pass-decided base scale shift deviations point p =
     let last = some-last (length point) (overAt base scale shift point) (passable-points base (length scale) (length shift) (length deviations) (length point) p) in
-    (rw p (last .0), centered-is base scale shift deviations point ∙ rw p (ap (λ (b : Bool). cond b one zero32) (last .1)))
+    let read = laws (length point) (overAt base scale shift point) in
+    (rw p (last .0), rw p (read .most), rw p (read .none), centered-is base scale shift deviations point ∙ rw p (ap (λ (b : Bool). cond b one zero32) (last .1)))
 
 same-outside : (box : List Float) (start : ℕ) (scale point other point′ other′ : List Float) (y : ℕ) → nth point′ (start + y) ≡ nth point (start + y) → nth other′ (start + y) ≡ nth other (start + y) → outsideAt box start scale point′ other′ y ≡ outsideAt box start scale point other y
 unfolding outsideAt
@@ -66,4 +67,5 @@ pub box-decided : BoxDecided
 unfolding Box.coordinatesRead
 box-decided box start scale point other p h =
     let last = some-last (length box) (outsideAt box start scale point other) h in
-    (rw p (last .0), within-is box start scale point other ∙ rw p (ap not (last .1)))
+    let read = laws (length box) (outsideAt box start scale point other) in
+    (rw p (last .0), rw p (read .most), rw p (read .none), within-is box start scale point other ∙ rw p (ap not (last .1)))
