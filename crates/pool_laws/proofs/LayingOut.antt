@@ -3,20 +3,20 @@ use mathlib.Core.Path.{_≡_, refl, sym, ap, _∙_}
 use mathlib.Core.Logic.{_≢_}
 use mathlib.Core.Bool.{Bool, true, false, cond}
 use mathlib.Core.List.{List, [], _∷_}
-use Prim.Native.Nat.{ℕ, zero, suc, _+_, _-_, _≤_, _<_}
+use Prim.Native.Nat.{ℕ, zero, suc, _+_, _≤_, _<_}
 use native.Mathlib.Omega.{arith}
 use lib.Dec.{eqb}
 use lib.ListN.{length, replicate, length-replicate}
 use borrow.Author.Tests.{eqb-false, eq-eqb, ne-eqb}
 use Rattle.record_pool.specs.Lists.{same, occ}
-use Rattle.record_pool.specs.Chains.{chain, Chained}
+use Rattle.record_pool.specs.Chains.{Chained}
 use Rattle.record_pool.specs.Pool.{nextAt, usedOf, freeOf, rulesOk, withHeader, withNext}
 use Rattle.pool_laws.specs.Rules.{upFrom}
 use Rattle.pool_drawers.specs.Drawers.{laidRecords, laidOut}
 use Rattle.record_pool.proofs.Occ.{Either, equal, other, either, same-other}
 use Rattle.record_pool.proofs.Bytes.{Agree, agree-trans, next-agrees}
 use Rattle.record_pool.proofs.Writes.{count-agrees, used-agrees, free-agrees, header-length, header-count, header-used, header-free, next-length, next-next, next-others, next-header}
-use Rattle.record_pool.proofs.Passing.{RulesAt, passes, used-of, free-of, passing}
+use Rattle.record_pool.proofs.Passing.{RulesAt, used-of, free-of, passing}
 
 -- What the first k records lead to once they are laid.
 abbrev led : ℕ → ℕ

@@ -1,15 +1,15 @@
 -- A pool that passes 13 still passes it after an opening, which leaves the other drawers. Assumes nothing.
-use mathlib.Core.Path.{_≡_, refl, sym, ap, _∙_}
+use mathlib.Core.Path.{_≡_, sym, ap, _∙_}
 use mathlib.Core.Logic.{_≢_}
 use mathlib.Core.Bool.{true}
 use mathlib.Core.List.{List, _∷_, map}
-use Prim.Native.Nat.{ℕ, _+_, _-_, _≤_, _<_}
+use Prim.Native.Nat.{ℕ, _+_, _≤_, _<_}
 use native.Mathlib.Omega.{arith}
 use lib.ListN.{length}
 use Rattle.record_pool.specs.Lists.{same, occ}
 use Rattle.record_pool.specs.Chains.{Rules, holder}
 use Rattle.record_pool.specs.Pool.{place, countOf, firstUsed, firstFree, nextAt, numberAt, flagsAt, stateAt, usedOf, freeOf, rulesOk, recordOf, withHeader, withRecord, opened}
-use Rattle.record_pool.proofs.Occ.{other, same-refl}
+use Rattle.record_pool.proofs.Occ.{same-refl}
 use Rattle.pool_laws.proofs.Kept.{open-kept}
 use Rattle.record_pool.proofs.Bytes.{Agree, agree-trans, behind-next, next-agrees, number-agrees, flags-agree, state-agrees}
 use Rattle.record_pool.proofs.Finding.{not-held, holder-agrees, passed-first, found-first}

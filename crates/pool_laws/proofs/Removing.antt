@@ -10,7 +10,7 @@ use lib.ListN.{length, getD, replicate, length-append, length-replicate, getD-re
 use borrow.Author.Tests.{ne-eqb, leb-true, leb-false}
 use Rattle.layout.specs.Numbers.{bytes4}
 use Rattle.record_pool.specs.Lists.{same, occ}
-use Rattle.record_pool.specs.Chains.{chain, Chained, Rules, holder}
+use Rattle.record_pool.specs.Chains.{Chained, Rules, holder}
 use Rattle.record_pool.specs.Pool.{place, countOf, firstUsed, firstFree, nextAt, numberAt, flagsAt, stateAt, usedOf, freeOf, rulesOk, recordOf, frontOf, withHeader, withNext, withRecord, unlinked, removed}
 use Rattle.record_pool.proofs.Occ.{Either, equal, other, either, same-refl, occ-append}
 use Rattle.record_pool.proofs.Chaining.{lastOr, last-in, link-front, taken-out, chain-frame}

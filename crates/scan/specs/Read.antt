@@ -21,7 +21,7 @@ pub record LawsOf (n : ℕ) (f : ℕ → Bool) : Type 0 where
   pub all : ((i : ℕ) → i < n → f i ≡ false) → readUntil n f ≡ n
   -- The places read are enough: a test that says the same of them ends at the same one, whatever it says of the others.
   pub settled : (g : ℕ → Bool) → ((i : ℕ) → i < readUntil n f → g i ≡ f i) → readUntil n g ≡ readUntil n f
-  -- Fewer are not: of k of them a test whose only hit is the next place says the same, and so does one without a hit.
+  -- Fewer do not say whether there is a hit: of k of them a test whose only hit is the next place says the same, and so does one without a hit.
   pub unsettled : (k : ℕ) → k < readUntil n f → (k < n) × ((i : ℕ) → i < k → (eqb k i ≡ f i) × (false ≡ f i))
 
 abbrev pub ReadLaws : Type 0

@@ -67,7 +67,7 @@ pass-reads : read 1 0 0x4110_0000 ∷ read 1 0x4110_0000 0 ∷ read 1 0x4110_000
 unfolding Pass.coordinatesRead passable readUntil overAt overLine absf32 ofBits Ieee.neg Ieee.add Ieee.mul Ieee.lt
 pass-reads = refl
 
--- Read of the same points, held against boxes of 0.5 around (0, 0): likewise. From the second coordinate on none where the box has two edges, and one where it has one.
+-- Read of the same points, held against boxes of 0.5 around (0, 0): likewise. From the second coordinate on none where the box has two edges, and one where it has one; none of an empty box.
 abbrev held : List ℕ → ℕ → ℕ → ℕ → ℕ
 held edges start a b = Box.coordinatesRead (floats edges) start (floats (0x3F80_0000 ∷ 0x3F80_0000 ∷ [])) (floats (a ∷ b ∷ [])) (floats (0 ∷ 0 ∷ []))
 

@@ -1,8 +1,7 @@
 -- What callers and readers may take from the definitions. Assumes nothing.
 use mathlib.Core.Path.{_≡_, refl, sym, ap, _∙_}
-use mathlib.Core.Bool.{Bool, true, false, cond, not, _&&_, and-false}
+use mathlib.Core.Bool.{Bool, true, false, cond, _&&_, and-false}
 use mathlib.Core.List.{List}
-use mathlib.Core.Logic.{_⊎_, inl, inr}
 use Prim.Native.Nat.{ℕ, zero, suc, _-_, _*_, _/_, _%_, _<_, _≤_}
 use native.Mathlib.Omega.{arith}
 use lib.ListN.{length}
@@ -18,23 +17,13 @@ use Rattle.uncertainty_box.specs.Box.{outsideAt, withinUnertaintyBox, bo
 use Rattle.uncertainty_box.specs.Box as Box
 use Rattle.uncertainty_box.specs.Pass as Pass
 use Rattle.uncertainty_box.specs.Pass.{overLine, overAt, noiseStep, noiseLoop, noisePass, passable, centeredTransformPass}
-use Rattle.uncertainty_box.proofs.Scans.{early, some-at, some-early, read-here, read-all, listed-length}
+use Rattle.uncertainty_box.proofs.Scans.{some-at, read-here, read-all, listed-length}
 
 module _ (box : List Float) (start : ℕ) (scale point other : List Float) where
   -- One coordinate outside settles the full scan, whatever the others are: the first one may end it.
   pub within-outside : (y : ℕ) → y < length box → outsideAt box start scale point other y ≡ true → withinUnertaintyBox box start scale point other ≡ false
   unfolding withinUnertaintyBox
   within-outside y h e = rw (some-at (outsideAt box start scale point other) (length box) y h e, and-false)
-
-  -- The scan that stops at the first coordinate outside says the same.
-  pub within-early :
-      withinUnertaintyBox box start scale point other
-      ≡ (leb (length box) (length scale)
-      && leb (length box) (length point - start)
-      && leb (length box) (length other - start)
-      && not (early (length box) (outsideAt box start scale point other)))
-  unfolding withinUnertaintyBox
-  within-early = rw some-early
 
   pub within-none : boxFits (length box) start (length scale) (length point) (length other) ≡ true → some (length box) (outsideAt box start scale point other) ≡ false → withinUnertaintyBox box start scale point other ≡ true
   unfolding withinUnertaintyBox boxFits
@@ -109,14 +98,6 @@ module _ (base : ℕ) (scale shift deviations point : List Float) where
       ≡ cond (passable base (length scale) (length shift) (length deviations) (length point)) (cond (some (length point) (overAt base scale shift point)) one zero32) zero32
   unfolding centeredTransformPass
   centered-is = rw noise-pass
-
-  pub centered-zero-or-one : (centeredTransformPass base scale shift deviations point ≡ zero32) ⊎ (centeredTransformPass base scale shift deviations point ≡ one)
-  centered-zero-or-one = picked (passable base (length scale) (length shift) (length deviations) (length point)) (some (length point) (overAt base scale shift point)) centered-is
-    where
-      picked : {x : Float} (p b : Bool) → x ≡ cond p (cond b one zero32) zero32 → (x ≡ zero32) ⊎ (x ≡ one)
-      picked true true e = inr e
-      picked true false e = inl e
-      picked false b e = inl e
 
   -- One coordinate over its line settles it, whatever the others are: the first one may end the scan.
   pub centered-over : (i : ℕ) → passable base (length scale) (length shift) (length deviations) (length point) ≡ true → i < length point → overAt base scale shift point i ≡ true → centeredTransformPass base scale shift deviations point ≡ one

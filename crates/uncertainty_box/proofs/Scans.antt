@@ -68,7 +68,7 @@ module _ (f : ℕ → Bool) where
       bumped false w n h = omega arith
 
 -- The scan that stops at the first place where f holds.
-unfoldable pub early : ℕ → (ℕ → Bool) → Bool
+unfoldable early : ℕ → (ℕ → Bool) → Bool
 early zero f = false
 early (suc n) f = cond (f 0) true (early n (λ i. f (suc i)))
 
@@ -86,7 +86,7 @@ some-front (suc n) f = ap (λ (b : Bool). b || f (suc n)) (some-front n f) ∙ m
     moved false b c = refl
 
 -- It says what the full scan says.
-pub some-early : (n : ℕ) (f : ℕ → Bool) → some n f ≡ early n f
+some-early : (n : ℕ) (f : ℕ → Bool) → some n f ≡ early n f
 unfolding some early
 some-early zero f = refl
 some-early (suc n) f = some-front n f ∙ ap (cond (f 0) true) (some-early n (λ i. f (suc i)))

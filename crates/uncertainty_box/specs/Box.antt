@@ -35,7 +35,7 @@ withinUnertaintyBox box start scale point other =
 unfoldable pub boxFits : ℕ → ℕ → ℕ → ℕ → ℕ → Bool
 boxFits edges start scales points others = leb edges scales && leb edges (points - start) && leb edges (others - start)
 
--- How many coordinates of the box are read: up to the first one outside, else all. None where something is shorter than the box.
+-- How many coordinates of the box are read: up to the first one outside, else all. None unless `boxFits`.
 unfoldable pub coordinatesRead : List Float → ℕ → List Float → List Float → List Float → ℕ
 coordinatesRead box start scale point other =
     cond (boxFits (length box) start (length scale) (length point) (length other))

@@ -51,7 +51,7 @@ centeredTransformPass base scale shift deviations point =
     (noisePass base scale deviations point (cond (some (length point) (overAt base scale shift point)) one zero32))
     zero32
 
--- How many coordinates its first loop reads: up to the first one over its line, else all. None where the base is 0 or something is shorter than it.
+-- How many coordinates its first loop reads: up to the first one over its line, else all. None unless `passable`.
 unfoldable pub coordinatesRead : ℕ → List Float → List Float → List Float → List Float → ℕ
 coordinatesRead base scale shift deviations point =
     cond (passable base (length scale) (length shift) (length deviations) (length point))
