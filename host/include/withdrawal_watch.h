@@ -58,6 +58,9 @@
  *   154 u32 base dimension     158 16 statistics, actual   734 16 statistics, expected
  * Of the two lists the first "base dimension" entries exist, and only with auto adjust.
  *
+ * A new thresholder or state has the z factor 2.5, the absolute threshold 0.8, the initial threshold
+ * 1.5 and the horizon 0.5. One that is stored keeps its own.
+ *
  * A pool of thirty records, 61472 bytes; krcf_pool_lay_out writes an empty one, and it may be stored
  * and read back as it is:
  *     0 u32 count of drawers     4 u32 first used record     8 u32 first free record

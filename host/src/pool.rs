@@ -252,7 +252,7 @@ impl Pool {
     /// # use withdrawal_watch::Pool;
     /// let mut pool = Pool::new();
     /// pool.open(7, 0.01, false, 1)?;
-    /// pool.set_z_factor(7, 2.5)?;
+    /// pool.set_z_factor(7, 3.0)?;
     /// # Ok::<(), withdrawal_watch::Refused>(())
     /// ```
     pub fn set_z_factor(&mut self, drawer: u32, factor: f32) -> Result<(), Refused> {

@@ -26,7 +26,8 @@ pub(crate) struct Trial {
 }
 
 impl Watch {
-    /// A watch that has seen nothing.
+    /// A watch that has seen nothing, with a z factor of 2.5. (One that was stored keeps its own,
+    /// whichever a new watch had then.)
     ///
     /// `discount` says how fast old scores fade, 0 for not at all; with `auto_adjust` the watch
     /// takes a new level for the drawer's own after some raised readings; `base_dimension` is how
@@ -78,12 +79,14 @@ impl Watch {
         }
     }
 
-    /// Sets how many deviations above the mean the threshold lies; 3 at first. Never refused.
+    /// Sets how many deviations above the mean the threshold lies; 2.5 at first. Never refused.
     ///
     /// ```
     /// # use withdrawal_watch::Watch;
     /// let mut watch = Watch::new(0.01, false, 1)?;
-    /// watch.set_z_factor(2.5)?;
+    /// assert_eq!(watch.state_bytes()[145..149], 2.5f32.to_le_bytes());
+    /// watch.set_z_factor(3.0)?;
+    /// assert_eq!(watch.state_bytes()[145..149], 3.0f32.to_le_bytes());
     /// # Ok::<(), withdrawal_watch::Refused>(())
     /// ```
     pub fn set_z_factor(&mut self, factor: f32) -> Result<(), Refused> {

@@ -74,8 +74,8 @@ fn judged_as_by_themselves() {
         assert_eq!(pool.judge(drawer, &reading), alone[k].judge(&reading));
         let set = alone[k].set_horizon(horizon);
         assert_eq!(pool.set_horizon(drawer, horizon), set);
-        pool.set_z_factor(drawer, 2.5).unwrap();
-        alone[k].set_z_factor(2.5).unwrap();
+        pool.set_z_factor(drawer, 3.0).unwrap();
+        alone[k].set_z_factor(3.0).unwrap();
     }
     for (drawer, watch) in (1..).zip(&alone) {
         let pooled = pool.watch(drawer).unwrap();
@@ -143,7 +143,7 @@ fn the_same_setting_is_not_written() {
     let mut bytes = *of_drawers([9]).as_bytes();
     bytes[last_score..last_score + 4].copy_from_slice(&[1, 2, 0xc3, 0x7f]);
     let mut pool = Pool::from_bytes(&bytes).unwrap();
-    pool.set_z_factor(9, 3.0).unwrap();
+    pool.set_z_factor(9, 2.5).unwrap();
     pool.set_initial_threshold(9, 1.5).unwrap();
     assert_eq!(pool.as_bytes(), &bytes);
     pool.set_initial_threshold(9, 1.25).unwrap();

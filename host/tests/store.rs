@@ -69,6 +69,23 @@ fn a_restart_at_every_reading() {
     }
 }
 
+/// Drawer B in the middle of the month, stored when new drawers had z 3: it keeps that, and what is
+/// said of the other half, and stored after it, is what was said and stored then.
+#[test]
+fn a_drawer_stored_with_z_3() {
+    let about = DRAWERS[1];
+    let amounts = amounts(about.name);
+    let mut alone = Alone::new(about);
+    judge(&mut alone, &amounts[..90]);
+    alone.drawer = Drawer::of_bytes(include_bytes!("stored/drawer_b.bin")).unwrap();
+    let said = judge(&mut alone, &amounts[90..]);
+    let lines: String = said.iter().map(|said| format!("{said:?}\n")).collect();
+    assert_eq!(lines, include_str!("stored/drawer_b.txt"));
+    let after = include_bytes!("stored/drawer_b_after.bin");
+    assert_eq!(alone.drawer.to_bytes(), after);
+    assert_eq!(alone.drawer.state_bytes()[145..149], 3f32.to_le_bytes());
+}
+
 /// A drawer with an anomaly, and its bytes.
 fn stored() -> Vec<u8> {
     let mut alone = Alone::new(DRAWERS[2]);
@@ -234,9 +251,10 @@ fn a_ward_restarted_again_and_again() {
     }
 }
 
-/// A ward after its month, two of whose drawers have an anomaly.
+/// A ward after its month, two of whose drawers have an anomaly and one a z factor of 3.
 fn stored_site() -> Vec<u8> {
     let mut ward = Ward::new().unwrap();
+    ward.site.set_z_factor(1, 3.0).unwrap();
     for line in lines(MONTH).unwrap() {
         let place = ward.place(line.drawer).unwrap();
         ward.judge(place, line.amount).said.ok();

@@ -216,12 +216,14 @@ fn corrected_as_drift() {
     assert!(is_raised(&watch.judge(&reading).expect("accepted")));
 }
 
-/// Under DISTANCE the threshold is the mean and `z_factor` deviations.
+/// Under DISTANCE the threshold is the mean and `z_factor` deviations, 2.5 where none is set.
 #[test]
 fn z_factor_moves_the_threshold() {
-    for (z, threshold) in [(3.0, 4.5), (2.0, 3.5)] {
+    for (z, threshold) in [(None, 4.0), (Some(3.0), 4.5), (Some(2.0), 3.5)] {
         let mut watch = Watch::new(0.0, false, 1).expect("a watch");
-        watch.set_z_factor(z).expect("set");
+        if let Some(z) = z {
+            watch.set_z_factor(z).expect("set");
+        }
         let mut reading = Reading {
             scoring_strategy: ScoringStrategy::Distance,
             ..raised()

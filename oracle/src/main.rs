@@ -6,6 +6,7 @@ mod buffers;
 mod bytes;
 mod chain;
 mod exports;
+mod fresh;
 mod ledger;
 mod ours;
 mod parts;

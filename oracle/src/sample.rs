@@ -12,6 +12,7 @@ use rcflib::reach;
 use rcflib::trcf::basicthresholder::{BasicThresholder, Numbers};
 
 use crate::bytes::Bytes;
+use crate::fresh;
 use crate::random::Random;
 use crate::refusals::{COUNT, DISCOUNT, RANGE};
 use crate::statistics::{self, countable};
@@ -182,7 +183,7 @@ fn call(sample: &mut Sample, s: &Numbers, call: Call) {
 fn new(sample: &mut Sample, s: &Numbers, discount: f64, adjust: u8) {
     let before = s.bytes();
     let arguments = [discount.to_bits(), adjust as u64];
-    let (number, after) = match BasicThresholder::new_adjustible(discount, adjust == 1) {
+    let (number, after) = match fresh::thresholder(discount, adjust == 1) {
         Ok(made) if adjust <= 1 => (0, made.numbers().plain().bytes()),
         Ok(_) => (RANGE, before.clone()),
         Err(_) => (DISCOUNT, before.clone()),
@@ -191,9 +192,10 @@ fn new(sample: &mut Sample, s: &Numbers, discount: f64, adjust: u8) {
     sample.states(&before, &after);
 }
 
-/// A state that up to forty scores lead to.
+/// A state that up to forty scores lead to, as stored before A5, with z 3.
 fn lived(random: &mut Random) -> Numbers {
     let mut s = BasicThresholder::of_numbers(thresholders::fresh(random));
+    s.set_z_factor(3.0);
     for _ in 0..random.below(40) {
         let scores = [random.fraction() as f32, random.fraction() as f32];
         s.update(1.0 + 0.25 * scores[0], 1.0 + 0.25 * scores[1], scores[0]);

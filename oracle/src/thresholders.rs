@@ -3,6 +3,7 @@
 use rcflib::trcf::basicthresholder::{BasicThresholder, Numbers};
 
 use crate::bytes::Bytes;
+use crate::fresh;
 use crate::ours;
 use crate::random::Random;
 use crate::readings::METHODS;
@@ -200,7 +201,7 @@ pub fn updates(mut next: impl FnMut() -> f32) -> [Call; 4] {
 /// A new state by a discount that is taken.
 pub fn fresh(random: &mut Random) -> Numbers {
     let adjust = random.once_in(2);
-    let made = BasicThresholder::new_adjustible(discount(random), adjust);
+    let made = fresh::thresholder(discount(random), adjust);
     made.expect("a discount below 1").numbers()
 }
 

@@ -29,7 +29,7 @@ abbrev pub initialThresholdDefault : Float
 initialThresholdDefault = ofBits binary32 0x3FC0_0000
 
 abbrev pub zFactorDefault : Float
-zFactorDefault = ofBits binary32 0x4040_0000
+zFactorDefault = ofBits binary32 0x4020_0000
 
 abbrev pub factorAdjustmentThresholdDefault : Float
 factorAdjustmentThresholdDefault = ofBits binary32 0x3F66_6666
@@ -44,7 +44,7 @@ pub defaults :
     × (absoluteThresholdDefault ≡ round binary32 false 8 10)
     × (absoluteScoreFractionDefault ≡ round binary32 false 1 2)
     × (initialThresholdDefault ≡ round binary32 false 3 2)
-    × (zFactorDefault ≡ round binary32 false 3 1)
+    × (zFactorDefault ≡ round binary32 false 5 2)
     × (factorAdjustmentThresholdDefault ≡ round binary32 false 9 10)
 unfolding ofBits round
 defaults = (refl, refl, refl, refl, refl, refl, refl)

@@ -4,16 +4,16 @@ use mathlib.Core.Logic.{inr}
 use mathlib.Core.Bool.{false}
 use mathlib.Core.List.{_∷_}
 use Prim.Native.Nat.{ℕ, zero, suc, _≤_}
-use lib.Dec.{T, lit≤}
+use lib.Dec.{lit≤}
 use lib.Ieee.{fits, round, add, sub, mul, div, lt, le, eq, ne, ofInt, ofBits}
 use Rattle.util.specs.Util.{minf32}
 use Rattle.ieee.specs.Round.{narrow}
 use Rattle.deviation.specs.Statistics as Statistics
 use Rattle.deviation.specs.Statistics.{countable, next, oneMore}
-use Rattle.basicthresholder.specs.Const.{zero32, sixteen32}
 use Rattle.basicthresholder.specs.Grades.{primaryThresholdAndGrade, threshold, thresholdBy, primaryGrade, gradeOver, isDeviationReady, countsReady}
 use Rattle.basicthresholder.specs.Updates.{countsOk, updated, updatePrimary, primaryCounted, countedOver, countedGap}
 use Rattle.ledger.specs.Statement.{mostReadings, accepted, Sized, Sizes, InBounds}
+use Rattle.ledger.proofs.Laws.{default-z}
 use Rattle.descriptor.specs.Checks.{every, sizesOk, dimension, rangeOk, lengthsOf, pointsOk, rowsOk, neighboursOk, lastPointsOk, lengthsOk, numbersFinite, lastFinite, finiteOk, isLater, seenOk, answerOf}
 use Rattle.predictorcorrector.specs.State as State
 use Rattle.predictorcorrector.specs.State.{freshState, freshList, stateCountsOk, runEnded}
@@ -51,17 +51,9 @@ unfolding answerOf rangeOk sizesOk lengthsOf lengthsOk dimension pointsOk rowsOk
     primaryThresholdAndGrade threshold thresholdBy primaryGrade gradeOver isDeviationReady countsReady minf32
 all-accepted = refl
 
-z-above : T (lt zero32 (zOf eleven))
-unfolding lt ofBits
-z-above = tt
-
-z-most : T (le (zOf eleven) sixteen32)
-unfolding lt le eq ofBits
-z-most = tt
-
 pub calm-met : InTurn (new nought false 1 made ∷ eleven) × InBounds (zOf eleven) (toldOf (made .state) eleven) × (accepted (toldOf (made .state) eleven) ≡ 11)
 calm-met = (
   (made-is, kept 11 (made .state)),
-  record { z-above = z-above; z-most = z-most; readings = subst (λ (n : ℕ). n ≤ mostReadings) (sym all-accepted) (lit≤ tt); scores = sizes 11 (made .state) },
+  default-z (toldOf (made .state) eleven) (subst (λ (n : ℕ). n ≤ mostReadings) (sym all-accepted) (lit≤ tt)) (sizes 11 (made .state)),
   all-accepted,
 )

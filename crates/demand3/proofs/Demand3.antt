@@ -2,7 +2,7 @@
 use mathlib.Core.Path.{_≡_, refl, sym, ap, ap₂, _∙_, subst}
 use mathlib.Core.Bool.{Bool, true, false, cond, _&&_}
 use mathlib.Core.List.{List, [], _∷_}
-use Prim.Native.Nat.{ℕ}
+use Prim.Native.Nat.{ℕ, _≤_}
 use lib.Dec.{T, leb}
 use lib.Ieee.{Float, binary64, fits}
 use Rattle.types.specs.declared.Refusal.the-variants as Refusals
@@ -10,15 +10,16 @@ use Rattle.types.specs.declared.Answer.{Answer}
 use Rattle.types.specs.declared.Answer.the-variants as Answers
 use Rattle.deviation.specs.Statistics.{isDiscount}
 use Rattle.basicthresholder.specs.Const.{zFactorDefault}
-use Rattle.ledger.specs.Statement.{Told, Shown, told, showed, InBounds, Demand3}
+use Rattle.ledger.specs.Statement.{mostReadings, Told, Shown, told, showed, accepted, Sizes, InBounds, Demand3}
 use Rattle.ledger.specs.Theorem.{New}
+use Rattle.ledger.proofs.Laws as Ledgers
 use Rattle.ledger.proofs.Laws.{new-fresh, new-z, new-horizon}
 use Rattle.ledger.proofs.WholeList as WholeList
 use Rattle.predictorcorrector.specs.State as State
 use Rattle.predictorcorrector.specs.State.{freshState, refusedNew, setHorizon}
 use Rattle.predictorcorrector.specs.declared.PredictorCorrector.{PredictorCorrector}
 use Rattle.predictorcorrector.specs.declared.Updated.{Updated}
-use Rattle.demand3.specs.Calls.{Judging, Call, new, set-z-factor, set-horizon, detect-and-modify, Contract, JudgedInTurn, SetInTurn, InTurn, zAfter, zOf, answerAt, isRefusal, toldOf, shownBy, shownOf}
+use Rattle.demand3.specs.Calls.{Judging, Call, new, set-z-factor, set-horizon, detect-and-modify, Contract, JudgedInTurn, SetInTurn, InTurn, zAfter, zOf, ZUnset, answerAt, isRefusal, toldOf, shownBy, shownOf}
 use Rattle.demand3.specs.Statement.{Returned, Demand3OfCalls}
 use Rattle.demand3.proofs.Keeps.{Lending, watch, returned-at, watch-keeps}
 use Rattle.demand3.proofs.Calmness.{calm-met}
@@ -113,5 +114,19 @@ demand-3 d auto base r cs k b =
     set-in-turn d (m .discount) (n .discount) cs zFactorDefault (r .state)
     (subst (λ (c : Updated). New d zFactorDefault (c .state .«basic_thresholder»)) (sym (m .contract)) (n .new)) (k .1) b
 
+z-unset : (z : Float) (cs : List Call) → ZUnset cs → zAfter z cs ≡ z
+z-unset z [] u = refl
+z-unset z (new d auto base r ∷ cs) u = z-unset z cs u
+z-unset z (set-z-factor x s ∷ cs) u = absurd u
+z-unset z (set-horizon x r ∷ cs) u = z-unset z cs u
+z-unset z (detect-and-modify c ∷ cs) u = z-unset z cs u
+
+default-z : (d : Float) (auto : Bool) (base : ℕ) (r : Updated) (cs : List Call) → InTurn (new d auto base r ∷ cs) → ZUnset cs
+    → accepted (toldOf (r .state) cs) ≤ mostReadings → Sizes (toldOf (r .state) cs) → Demand3 d zFactorDefault (toldOf (r .state) cs) (shownOf (r .state) cs)
+default-z d auto base r cs k u h s =
+    let e : zOf cs ≡ zFactorDefault = z-unset zFactorDefault cs u in
+    let b = subst (λ (z : Float). InBounds z (toldOf (r .state) cs)) (sym e) (Ledgers.default-z (toldOf (r .state) cs) h s) in
+    subst (λ (z : Float). Demand3 d z (toldOf (r .state) cs) (shownOf (r .state) cs)) e (demand-3 d auto base r cs k b)
+
 pub demand-3-of-calls : Demand3OfCalls
-demand-3-of-calls = record { returned = returned; demand-3 = demand-3; met = calm-met }
+demand-3-of-calls = record { returned = returned; demand-3 = demand-3; default-z = default-z; met = calm-met }

@@ -100,6 +100,14 @@ zAfter z (detect-and-modify c ∷ cs) = zAfter z cs
 abbrev pub zOf : List Call → Float
 zOf cs = zAfter zFactorDefault cs
 
+-- None sets it.
+abbrev pub ZUnset : List Call → Type 0
+ZUnset [] = Unit
+ZUnset (new d auto base r ∷ cs) = ZUnset cs
+ZUnset (set-z-factor x s′ ∷ cs) = ⊥
+ZUnset (set-horizon x r ∷ cs) = ZUnset cs
+ZUnset (detect-and-modify c ∷ cs) = ZUnset cs
+
 -- ---- what the ledger is told of a judgment
 -- The refusal table's answer to it, and whether that is a refusal.
 abbrev pub answerAt : PredictorCorrector → Judging → Answer

@@ -1,20 +1,20 @@
 -- Demand 3 of calls of the watch's functions: what this crate proves. The quoted words are document 01's. Definitions only.
-use Prim.Native.Nat.{ℕ}
+use Prim.Native.Nat.{ℕ, _≤_}
 use mathlib.Core.Path.{_≡_}
 use mathlib.Core.Bool.{Bool, true, false, not}
 use mathlib.Core.List.{List, _∷_}
 use lib.Dec.{T}
 use lib.Ieee.{Float, eq}
-use Rattle.basicthresholder.specs.Const.{zero32}
+use Rattle.basicthresholder.specs.Const.{zero32, zFactorDefault}
 use Rattle.basicthresholder.specs.declared.Graded.{Graded}
-use Rattle.ledger.specs.Statement.{accepted, InBounds, Demand3}
+use Rattle.ledger.specs.Statement.{mostReadings, accepted, Sizes, InBounds, Demand3}
 use Rattle.predictorcorrector.specs.declared.PredictorCorrector.{PredictorCorrector}
 use Rattle.predictorcorrector.specs.declared.Updated.{Updated}
 use Rattle.detection.specs.declared.Verdict.{Verdict}
 use Rattle.detection.specs.declared.Verdict.the-variants.{Quiet, Corrected, Raised, Skipped}
 use Rattle.detection.specs.declared.Outcome.{Outcome}
 use Rattle.detection.specs.declared.Outcome.the-variants.{Accepted, Refused}
-use Rattle.demand3.specs.Calls.{Judging, Call, new, Contract, InTurn, zOf, answerAt, isRefusal, toldOf, shownOf, thresholdOf, gradeOf, opened}
+use Rattle.demand3.specs.Calls.{Judging, Call, new, Contract, InTurn, zOf, ZUnset, answerAt, isRefusal, toldOf, shownOf, thresholdOf, gradeOf, opened}
 use Rattle.demand3.specs.Calm.{nought, made, eleven}
 
 -- ---- what a call returned, beside its opening threshold and grade
@@ -57,5 +57,9 @@ pub record Demand3OfCalls : Type 0 where
   pub demand-3 : (d : Float) (auto : Bool) (base : ℕ) (r : Updated) (cs : List Call)
       → InTurn (new d auto base r ∷ cs) → InBounds (zOf cs) (toldOf (r .state) cs)
       → Demand3 d (zOf cs) (toldOf (r .state) cs) (shownOf (r .state) cs)
+  -- Where none sets z, by the new state's own: the bounds on the readings are left.
+  pub default-z : (d : Float) (auto : Bool) (base : ℕ) (r : Updated) (cs : List Call)
+      → InTurn (new d auto base r ∷ cs) → ZUnset cs → accepted (toldOf (r .state) cs) ≤ mostReadings → Sizes (toldOf (r .state) cs)
+      → Demand3 d zFactorDefault (toldOf (r .state) cs) (shownOf (r .state) cs)
   -- Such lists exist: the entry checks accept eleven calm readings, and the last has ten counted before it.
   pub met : InTurn (new nought false 1 made ∷ eleven) × InBounds (zOf eleven) (toldOf (made .state) eleven) × (accepted (toldOf (made .state) eleven) ≡ 11)

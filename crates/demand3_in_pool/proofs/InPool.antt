@@ -2,7 +2,7 @@
 use mathlib.Core.Path.{_≡_, refl, sym, ap, _∙_, subst}
 use mathlib.Core.Bool.{Bool, true, false, cond, _&&_}
 use mathlib.Core.List.{List, [], _∷_}
-use Prim.Native.Nat.{ℕ}
+use Prim.Native.Nat.{ℕ, _≤_}
 use native.Mathlib.Omega.{arith}
 use lib.Dec.{T, eqb, leb}
 use lib.ListN.{length, replicate, length-replicate}
@@ -15,7 +15,9 @@ use Rattle.types.specs.declared.Answer.the-variants.{Done, Refused}
 use Rattle.deviation.specs.Statistics.{isDiscount}
 use Rattle.basicthresholder.specs.Const.{zero32, zFactorDefault}
 use Rattle.basicthresholder.specs.Updates.{done, refused, isHorizon, withScoreDifferencing, setScoreDifferencing}
-use Rattle.ledger.specs.Statement.{Told, Shown, InBounds, Demand3}
+use Rattle.ledger.specs.Statement as Ledgers
+use Rattle.ledger.specs.Statement.{mostReadings, Told, Shown, Sizes, InBounds, Demand3}
+use Rattle.ledger.proofs.Laws.{default-z}
 use Rattle.predictorcorrector.specs.State.{new, freshState, refusedNew, updated, zFactorSet, setHorizon}
 use Rattle.predictorcorrector.specs.declared.PredictorCorrector.{PredictorCorrector}
 use Rattle.predictorcorrector.specs.declared.Updated.{Updated}
@@ -44,7 +46,7 @@ use Rattle.pool_laws.proofs.Frames.{made-bytes, which, opens-passes, stored-fla
 use Rattle.pool_laws.proofs.Frames as Frames
 use Rattle.pool_laws.proofs.Alone.{alone}
 use Rattle.pool_laws.proofs.Theorems.{pool-rules}
-use Rattle.demand3_in_pool.specs.Statement.{Judgments, SetFirst, zAfter, zAsked, toldIn, shownIn, Demand3InPool}
+use Rattle.demand3_in_pool.specs.Statement.{Judgments, SetFirst, zAfter, zAsked, ZUnasked, toldIn, shownIn, Demand3InPool}
 use Rattle.demand3_in_pool.proofs.OneWay.{one-way}
 use Rattle.demand3_in_pool.proofs.Witness.{calm-met}
 
@@ -221,6 +223,14 @@ settings (judgment q ∷ qs) ts zs′ s zs z y a k =
     record { calls = m .calls; turn = no-settings (m .calls) zs (m .turn); told = m .told; shown = m .shown; factor = m .factor }
 
 -- ---- the drawer that an opening made
+unasked : (z : Float) (qs : List Ask) → ZUnasked qs → zAfter z qs ≡ z
+unasked z [] u = refl
+unasked z (setting (z-factor x) ∷ qs) u = absurd u
+unasked z (setting (lower-threshold x) ∷ qs) u = unasked z qs u
+unasked z (setting (initial-threshold x) ∷ qs) u = unasked z qs u
+unasked z (setting (horizon x) ∷ qs) u = unasked z qs u
+unasked z (judgment a ∷ qs) u = unasked z qs u
+
 new-factor : (d : Float) (auto : Bool) (base : ℕ) → new d auto base .state .«basic_thresholder» .«z_factor» ≡ zFactorDefault
 unfolding new refusedNew freshState
 new-factor d auto base = go (isDiscount d) (leb 1 base && leb base 16)
@@ -282,8 +292,18 @@ module _ (xs : List ℕ) (d : ℕ) (discount : Float) (adjust base : ℕ) (ys : 
       (record { discount = f; contract = opened .contract; accepted = refl }, m .turn) bounds in
       rw (sym e, sym (m .told), sym (m .shown)) proved
 
+  by-default : (cs : List Call) → T (fits binary64 discount) → InTurn ys cs → Stays d cs → SetFirst (asks d cs) → ZUnasked (asks d cs)
+      → Ledgers.accepted (toldIn (asks d cs) (tells d cs)) ≤ mostReadings → Sizes (toldIn (asks d cs) (tells d cs))
+      → Demand3 discount zFactorDefault (toldIn (asks d cs) (tells d cs)) (shownIn (tells d cs))
+  by-default cs f t stays s u h k =
+      let e : zAsked (asks d cs) ≡ zFactorDefault = unasked zFactorDefault (asks d cs) u in
+      let told = toldIn (asks d cs) (tells d cs) in
+      let b = subst (λ (z : Float). InBounds z told) (sym e) (default-z told h k) in
+      subst (λ (z : Float). Demand3 discount z told (shownIn (tells d cs))) e (in-pool cs f t stays s b)
+
 pub demand-3-in-pool : Demand3InPool
 demand-3-in-pool = record {
   demand-3 = λ xs d discount adjust base ys cs f c t stays s b. in-pool xs d discount adjust base ys c cs f t stays s b;
+  default-z = λ xs d discount adjust base ys cs f c t stays s u h k. by-default xs d discount adjust base ys c cs f t stays s u h k;
   met = calm-met;
 }

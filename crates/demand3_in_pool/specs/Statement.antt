@@ -1,5 +1,5 @@
 -- Demand 3 of a drawer in a pool: what this crate proves. The quoted words are document 01's. Definitions only.
-use Prim.Native.Nat.{ℕ}
+use Prim.Native.Nat.{ℕ, _≤_}
 use mathlib.Core.Path.{_≡_}
 use mathlib.Core.Bool.{not}
 use mathlib.Core.List.{List, [], _∷_}
@@ -7,7 +7,7 @@ use lib.Dec.{T, eqb}
 use lib.ListN.{length, getD}
 use lib.Ieee.{Float, binary32, binary64, fits}
 use Rattle.basicthresholder.specs.Const.{zFactorDefault}
-use Rattle.ledger.specs.Statement.{Told, Shown, accepted, InBounds, Demand3}
+use Rattle.ledger.specs.Statement.{mostReadings, Told, Shown, accepted, Sizes, InBounds, Demand3}
 use Rattle.layout.specs.Places.{readingLength, strategyAt, scoreAt}
 use Rattle.layout.specs.Numbers.{f32At}
 use Rattle.demand3_over_c.specs.Calls.{thresholdIn, gradeIn, openingIn}
@@ -49,6 +49,15 @@ zAfter z (judgment a ∷ qs) = zAfter z qs
 abbrev pub zAsked : List Ask → Float
 zAsked qs = zAfter zFactorDefault qs
 
+-- None was asked for.
+abbrev pub ZUnasked : List Ask → Type 0
+ZUnasked [] = Unit
+ZUnasked (setting (z-factor x) ∷ qs) = ⊥
+ZUnasked (setting (lower-threshold x) ∷ qs) = ZUnasked qs
+ZUnasked (setting (initial-threshold x) ∷ qs) = ZUnasked qs
+ZUnasked (setting (horizon x) ∷ qs) = ZUnasked qs
+ZUnasked (judgment a ∷ qs) = ZUnasked qs
+
 -- ---- what the ledger is told of each judgment: whether its answer is a refusal, and the score in its reading's bytes
 abbrev pub toldIn : List Ask → List Tell → List Told
 toldIn [] ts = []
@@ -71,6 +80,11 @@ pub record Demand3InPool : Type 0 where
       → T (fits binary64 discount) → Contract xs (opens d discount adjust base 0 ys) → InTurn ys cs → Stays d cs → SetFirst (asks d cs)
       → InBounds (zAsked (asks d cs)) (toldIn (asks d cs) (tells d cs))
       → Demand3 discount (zAsked (asks d cs)) (toldIn (asks d cs) (tells d cs)) (shownIn (tells d cs))
+  -- Where none is asked for, by the new state's own z: the bounds on the readings are left.
+  pub default-z : (xs : List ℕ) (d : ℕ) (discount : Float) (adjust base : ℕ) (ys : List ℕ) (cs : List Call)
+      → T (fits binary64 discount) → Contract xs (opens d discount adjust base 0 ys) → InTurn ys cs → Stays d cs → SetFirst (asks d cs)
+      → ZUnasked (asks d cs) → accepted (toldIn (asks d cs) (tells d cs)) ≤ mostReadings → Sizes (toldIn (asks d cs) (tells d cs))
+      → Demand3 discount zFactorDefault (toldIn (asks d cs) (tells d cs)) (shownIn (tells d cs))
   -- Such lists exist: in an empty pool drawer 1 is opened, and eleven calm readings are accepted in it; the last has ten counted before it.
   pub met : T (fits binary64 nought) × Contract laidOut (opens 1 nought 0 1 0 pool) × InTurn pool eleven × Stays 1 eleven × SetFirst (asks 1 eleven)
       × InBounds (zAsked (asks 1 eleven)) (toldIn (asks 1 eleven) (tells 1 eleven)) × (accepted (toldIn (asks 1 eleven) (tells 1 eleven)) ≡ 11)

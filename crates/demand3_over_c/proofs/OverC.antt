@@ -17,6 +17,7 @@ use Rattle.ledger.specs.Fractions.{Fraction, none, plusZero, plain, fractionOf,
 use Rattle.ledger.specs.Ledger.{Ledger, blank, enter, AtOrUnder, AtOrOver, Over}
 use Rattle.ledger.specs.Statement.{closeness, clearance, enoughScores, mostReadings, Told, Shown, Judged, Either, Agree, Demand3, counted, accepted, Sizes, InBounds}
 use Rattle.ledger.specs.Theorem.{New}
+use Rattle.ledger.proofs.Laws as Ledgers
 use Rattle.ledger.proofs.Laws.{new-z, new-horizon}
 use Rattle.deviation.specs.Statistics.{isDiscount}
 use Rattle.predictorcorrector.specs.State.{new, zFactorSet, setHorizon}
@@ -34,7 +35,7 @@ use Rattle.c_chain.specs.States.{chainMade}
 use Rattle.demand3.specs.Calls.{opened, shownBy, isRefusal, answerAt, detect-and-modify}
 use Rattle.demand3.specs.Calls as ByValue
 use Rattle.demand3.proofs.Demand3.{judged-in-turn, fresh}
-use Rattle.demand3_over_c.specs.Calls.{Judging, Call, krcf-new, krcf-chain-set-z-factor, krcf-chain-set-horizon, krcf-detect-and-modify, Kept, JudgedInTurn, SetInTurn, InTurn, zAfter, zOf, isRefused, scoreOf, kindIn, thresholdIn, gradeIn, openingIn, toldOf, shownOf}
+use Rattle.demand3_over_c.specs.Calls.{Judging, Call, krcf-new, krcf-chain-set-z-factor, krcf-chain-set-horizon, krcf-detect-and-modify, Kept, JudgedInTurn, SetInTurn, InTurn, zAfter, zOf, ZUnset, isRefused, scoreOf, kindIn, thresholdIn, gradeIn, openingIn, toldOf, shownOf}
 use Rattle.demand3_over_c.specs.Statement.{Opens, Demand3OverC}
 use Rattle.demand3_over_c.proofs.Simulation.{stateOf, readingOf, lastOf, byValue, Taken, taken, said, through, score-is, refused-keeps, accepted-reads, accepted-left, simulated, opens-over-c}
 use Rattle.demand3_over_c.proofs.Start.{Holds, new-holds, z-holds, horizon-holds}
@@ -281,5 +282,19 @@ demand-3 d auto base out n xs cs t b =
     let w = fresh d (eqb auto 1) base (h .0) in
     set d (m .discount) (w .discount) cs zFactorDefault (new d (eqb auto 1) base .state) xs (w .new) (h .1) (t .1) b
 
+z-unset : (z : Float) (cs : List Call) → ZUnset cs → zAfter z cs ≡ z
+z-unset z [] u = refl
+z-unset z (krcf-new d auto base out n ys ∷ cs) u = z-unset z cs u
+z-unset z (krcf-chain-set-z-factor x n ys ∷ cs) u = absurd u
+z-unset z (krcf-chain-set-horizon x n ys ∷ cs) u = z-unset z cs u
+z-unset z (krcf-detect-and-modify c ∷ cs) u = z-unset z cs u
+
+default-z : (d : Float) (auto base : ℕ) (out : List ℕ) (n : ℕ) (xs : List ℕ) (cs : List Call) → InTurn (krcf-new d auto base out n xs ∷ cs) → ZUnset cs
+    → accepted (toldOf cs) ≤ mostReadings → Sizes (toldOf cs) → Demand3 d zFactorDefault (toldOf cs) (shownOf cs)
+default-z d auto base out n xs cs t u h s =
+    let e : zOf cs ≡ zFactorDefault = z-unset zFactorDefault cs u in
+    let b = subst (λ (z : Float). InBounds z (toldOf cs)) (sym e) (Ledgers.default-z (toldOf cs) h s) in
+    subst (λ (z : Float). Demand3 d z (toldOf cs) (shownOf cs)) e (demand-3 d auto base out n xs cs t b)
+
 pub demand-3-over-c : Demand3OverC
-demand-3-over-c = record { simulated = simulated; opens = opens-over-c; demand-3 = demand-3; met = calm-met }
+demand-3-over-c = record { simulated = simulated; opens = opens-over-c; demand-3 = demand-3; default-z = default-z; met = calm-met }

@@ -80,7 +80,7 @@ fresh-thresholder d h = record {
   lower = ofBits-fits binary32 0x3F80_0000;
   adjustment = ofBits-fits binary32 0x3F66_6666;
   initial = ofBits-fits binary32 0x3FC0_0000;
-  factor = ofBits-fits binary32 0x4040_0000;
+  factor = ofBits-fits binary32 _;
 }
 
 empty : (k : ℕ) → Dec (k < 16) → getD (replicate 16 (fresh zero64)) k (fresh zero64) ≡ fresh zero64

@@ -15,10 +15,10 @@ use Rattle.types.specs.declared.Answer.{Answer}
 use Rattle.types.specs.declared.Answer.the-variants as Answers
 use Rattle.deviation.specs.Statistics.{countable, next, oneMore}
 use Rattle.deviation.specs.Statistics as Statistics
-use Rattle.basicthresholder.specs.Const.{zero32, sixteen32}
 use Rattle.basicthresholder.specs.Updates.{countsOk, updated, updatePrimary, primaryCounted, countedOver, countedGap}
 use Rattle.basicthresholder.specs.Grades.{primaryThresholdAndGrade, threshold, thresholdBy, primaryGrade, gradeOver, isDeviationReady, countsReady}
 use Rattle.ledger.specs.Statement.{mostReadings, accepted, Sized, Sizes, InBounds}
+use Rattle.ledger.proofs.Laws.{default-z}
 use Rattle.descriptor.specs.Lent.{Lent}
 use Rattle.descriptor.specs.Checks.{every, sizesOk, dimension, rangeOk, lengthsOf, pointsOk, rowsOk, neighboursOk, lastPointsOk, lengthsOk, numbersFinite, lastFinite, finiteOk, isLater, seenOk, answerOf}
 use Rattle.descriptor.specs.declared.Reading.{Reading}
@@ -146,10 +146,6 @@ sizes : (n : ℕ) (xs : List ℕ) → Sizes (toldOf (judgings n xs))
 sizes zero xs = tt
 sizes (suc n) xs = ((λ h. inr (subst Sized (sym score-one) sized-one)), sizes n (judging xs .state′))
 
-z-bounds : (xs : List ℕ) → T (lt zero32 (zOf (eleven xs))) × T (le (zOf (eleven xs)) sixteen32)
-unfolding lt le eq ofBits
-z-bounds xs = (tt, tt)
-
 pub calm-met : (out : List ℕ) → length out ≡ stateLength
     → InTurn (krcf-new nought 0 1 out 0 (made out) ∷ eleven (made out)) × InBounds (zOf (eleven (made out))) (toldOf (eleven (made out))) × (accepted (toldOf (eleven (made out))) ≡ 11)
 calm-met out h =
@@ -157,6 +153,6 @@ calm-met out h =
     let xs = made out in
     let many : accepted (toldOf (eleven xs)) ≡ 11 = accepted-in-turn 11 xs (new nought false 1 .state) (new-holds nought false 1 0 out xs none-fits (m .contract) .1) eleven-done in (
       (m, in-turn 11 xs),
-      record { z-above = z-bounds xs .0; z-most = z-bounds xs .1; readings = subst (λ (n : ℕ). n ≤ mostReadings) (sym many) (lit≤ tt); scores = sizes 11 xs },
+      default-z (toldOf (eleven xs)) (subst (λ (n : ℕ). n ≤ mostReadings) (sym many) (lit≤ tt)) (sizes 11 xs),
       many,
     )

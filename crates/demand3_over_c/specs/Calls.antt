@@ -96,6 +96,14 @@ zAfter z (krcf-detect-and-modify c ∷ cs) = zAfter z cs
 abbrev pub zOf : List Call → Float
 zOf cs = zAfter zFactorDefault cs
 
+-- None sets it.
+abbrev pub ZUnset : List Call → Type 0
+ZUnset [] = Unit
+ZUnset (krcf-new d auto base out n ys ∷ cs) = ZUnset cs
+ZUnset (krcf-chain-set-z-factor x n ys ∷ cs) = ⊥
+ZUnset (krcf-chain-set-horizon x n ys ∷ cs) = ZUnset cs
+ZUnset (krcf-detect-and-modify c ∷ cs) = ZUnset cs
+
 -- ---- what the ledger is told of a judgment: whether its answer is a refusal, and the score in its reading's bytes
 abbrev pub isRefused : Judging → Bool
 isRefused c = not (eqb (c .answer) 0)

@@ -1,5 +1,5 @@
 -- Demand 3 of the C functions: what this crate proves. Definitions only.
-use Prim.Native.Nat.{ℕ, _<_}
+use Prim.Native.Nat.{ℕ, _≤_, _<_}
 use mathlib.Core.Path.{_≡_}
 use mathlib.Core.Bool.{true, not}
 use mathlib.Core.List.{List, _∷_}
@@ -8,9 +8,9 @@ use lib.IntN.{ℤ}
 use lib.ListN.{length, getD}
 use lib.Ieee.{Float, eq}
 use Rattle.types.specs.Codes.{modeCode}
-use Rattle.basicthresholder.specs.Const.{zero32}
+use Rattle.basicthresholder.specs.Const.{zero32, zFactorDefault}
 use Rattle.basicthresholder.specs.declared.Graded.{Graded}
-use Rattle.ledger.specs.Statement.{accepted, InBounds, Demand3}
+use Rattle.ledger.specs.Statement.{mostReadings, accepted, Sizes, InBounds, Demand3}
 use Rattle.detection.specs.declared.Verdict.{Verdict}
 use Rattle.detection.specs.declared.Verdict.the-variants.{Quiet, Corrected, Raised, Skipped}
 use Rattle.detection.specs.declared.Outcome.{Outcome}
@@ -23,7 +23,7 @@ use Rattle.layout.specs.Chain.{decodeState}
 use Rattle.layout.specs.Readings.{decodeReading, decodeLast}
 use Rattle.c_judging.specs.Judging.{codesOk, slicesOk}
 use Rattle.demand3.specs.Calls.{thresholdOf, gradeOf, opened}
-use Rattle.demand3_over_c.specs.Calls.{Judging, Call, krcf-new, Contract, InTurn, zOf, scoreOf, toldOf, shownOf, kindIn, thresholdIn, gradeIn}
+use Rattle.demand3_over_c.specs.Calls.{Judging, Call, krcf-new, Contract, InTurn, zOf, ZUnset, scoreOf, toldOf, shownOf, kindIn, thresholdIn, gradeIn}
 use Rattle.demand3_over_c.specs.Calm.{nought, made, eleven}
 
 -- ---- a verdict in its 14 bytes
@@ -83,6 +83,10 @@ pub record Demand3OverC : Type 0 where
   pub demand-3 : (d : Float) (auto base : ℕ) (out : List ℕ) (n : ℕ) (xs : List ℕ) (cs : List Call)
       → InTurn (krcf-new d auto base out n xs ∷ cs) → InBounds (zOf cs) (toldOf cs)
       → Demand3 d (zOf cs) (toldOf cs) (shownOf cs)
+  -- Where none sets z, by the new state's own: the bounds on the readings are left.
+  pub default-z : (d : Float) (auto base : ℕ) (out : List ℕ) (n : ℕ) (xs : List ℕ) (cs : List Call)
+      → InTurn (krcf-new d auto base out n xs ∷ cs) → ZUnset cs → accepted (toldOf cs) ≤ mostReadings → Sizes (toldOf cs)
+      → Demand3 d zFactorDefault (toldOf cs) (shownOf cs)
   -- Such lists exist, in any bytes of a state: eleven calm readings are accepted, and the last has ten counted before it.
   pub met : (out : List ℕ) → length out ≡ stateLength
       → InTurn (krcf-new nought 0 1 out 0 (made out) ∷ eleven (made out)) × InBounds (zOf (eleven (made out))) (toldOf (eleven (made out))) × (accepted (toldOf (eleven (made out))) ≡ 11)

@@ -8,7 +8,8 @@ use Rattle.ledger.specs.Fractions.{Fraction, Le, fractionOf}
 use Rattle.ledger.specs.Ledger.{Ledger, blank, mean, variance, AtOrUnder, AtOrOver, spreadSquared}
 use Rattle.ledger.specs.Faithful.{after, OneOfThree, Faithful}
 use Rattle.ledger.proofs.Impostors.{in-bounds, all-zero-is-out, fixed-is-out, never-updating-is-out, raised-only-is-out}
-use Rattle.ledger.proofs.Model.{model-keeps, worked-ledger, worked-watch}
+use Rattle.ledger.proofs.Laws.{default-z}
+use Rattle.ledger.proofs.Model.{model-keeps, worked-ledger, worked-watch, default-ledger, default-watch}
 use Rattle.ledger.proofs.Order.{in-order}
 use Rattle.ledger.proofs.Schwarz.{sound, mean-squared}
 use Rattle.ledger.proofs.Sides.{some-side, not-under-at, not-under-over, not-at-over, at-or-under, under-or-at, at-or-over, over-or-at}
@@ -40,9 +41,12 @@ faithful = record {
   variance-whole = λ (d : Float) (xs : List Float). mean-squared (after d blank xs) (sound d xs);
   one-of-three = one-of-three;
   in-their-order = in-their-order;
+  default-z = default-z;
   model = model-keeps;
   worked-ledger = worked-ledger;
   worked-watch = worked-watch;
+  default-ledger = default-ledger;
+  default-watch = default-watch;
   in-bounds = in-bounds;
   all-zero = all-zero-is-out;
   fixed-threshold = fixed-is-out;

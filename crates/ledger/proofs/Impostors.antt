@@ -10,7 +10,7 @@ use lib.Ieee.{Float, round, add, sub, mul, div, lt, le, eq, ne, ofInt, ofBits}
 use lib.Ieee.Positive.{den-pos}
 use Rattle.basicthresholder.specs.declared.BasicThresholder.{BasicThresholder}
 use Rattle.basicthresholder.specs.Grades.{threshold, primaryGrade, primaryThresholdAndGrade, thresholdBy, gradeOver, isDeviationReady, countsReady}
-use Rattle.basicthresholder.specs.Updates.{freshThresholder, primaryCounted, countedOver, countedGap}
+use Rattle.basicthresholder.specs.Updates.{primaryCounted, countedOver, countedGap}
 use Rattle.deviation.specs.Statistics as Statistics
 use Rattle.deviation.specs.Statistics.{countable, next, oneMore, mean, deviation, isEmpty, positiveRoot}
 use Rattle.ieee.specs.Round.{narrow}
@@ -18,7 +18,7 @@ use Rattle.util.specs.Util.{minf32}
 use Rattle.ledger.specs.Fractions.{over, fractionOf, plusZero}
 use Rattle.ledger.specs.Ledger.{blank, factor}
 use Rattle.ledger.specs.Statement.{mostReadings, Judged, accepted, Sized, Sizes}
-use Rattle.ledger.specs.Faithful.{after, raisedOnly, one, three, half, thousand, ones, jump, dip, takes, accepts, shows, Broken, Breaks}
+use Rattle.ledger.specs.Faithful.{after, raisedOnly, one, three, half, thousand, ones, jump, dip, atThree, takes, accepts, shows, Broken, Breaks}
 
 -- ---- grades all 0, whatever its thresholds: the 1024 has to be raised
 pub all-zero-is-out : (t e : ℕ → Float) → Broken jump (shows t (λ n. plusZero) e 12)
@@ -49,7 +49,7 @@ never-updating-is-out t h = fixed-is-out (threshold t) (λ n. primaryGrade t (sc
     score (suc (suc n)) = one
 
 -- ---- updating on raised readings only, once ten are counted: the 0.5 is not raised, and the ledger's threshold goes up to 1.38
-still-one : (adjust : Bool) → threshold (takes raisedOnly (freshThresholder plusZero adjust) (ones 10 (half ∷ []))) ≡ one
+still-one : (adjust : Bool) → threshold (takes raisedOnly (atThree adjust) (ones 10 (half ∷ []))) ≡ one
 unfolding threshold thresholdBy primaryGrade gradeOver isDeviationReady countsReady primaryCounted countedOver countedGap minf32 narrow Statistics.update countable next oneMore Statistics.factor mean deviation isEmpty positiveRoot ofBits round add sub mul div lt le eq ne ofInt
 still-one adjust = refl
 
@@ -58,10 +58,10 @@ one-is-off : (g e : Float) → Judged (fractionOf three) (over 1 1) (after plusZ
 unfolding factor
 one-is-off g e h = (let i = h .not-under .1 in omega arith)
 
-pub raised-only-is-out : (adjust : Bool) → Breaks raisedOnly (freshThresholder plusZero adjust) dip
+pub raised-only-is-out : (adjust : Bool) → Breaks raisedOnly (atThree adjust) dip
 unfolding factor primaryThresholdAndGrade
 raised-only-is-out adjust h =
-    let g = primaryGrade (takes raisedOnly (freshThresholder plusZero adjust) (ones 10 (half ∷ []))) one in
+    let g = primaryGrade (takes raisedOnly (atThree adjust) (ones 10 (half ∷ []))) one in
     one-is-off g g
     (subst (λ (w : Float). Judged (fractionOf three) (over 1 1) (after plusZero blank (ones 10 (half ∷ []))) one (record { threshold = w; opening = g; ends = g })) (still-one adjust)
     (h .1 .1 .1 .1 .1 .1 .1 .1 .1 .1 .1 .0 (lit≤ tt)))

@@ -1,11 +1,15 @@
--- The thresholder of basicthresholder.rs counts as a judge's must, and a new one is new. Assumes nothing.
+-- The thresholder of basicthresholder.rs counts as a judge's must, a new one is new, and its z factor is within demand 3's bounds. Assumes nothing.
 use mathlib.Core.Path.{refl}
 use mathlib.Core.Bool.{Bool, true, false, cond}
-use lib.Ieee.{Float}
+use mathlib.Core.List.{List}
+use Prim.Native.Nat.{_≤_}
+use lib.Dec.{T}
+use lib.Ieee.{Float, lt, le, eq, ofBits}
 use Rattle.types.specs.declared.Refusal.the-variants.{Horizon}
-use Rattle.basicthresholder.specs.Const.{zFactorDefault}
+use Rattle.basicthresholder.specs.Const.{zero32, sixteen32, zFactorDefault}
 use Rattle.basicthresholder.specs.declared.BasicThresholder.{BasicThresholder}
 use Rattle.basicthresholder.specs.Updates.{freshThresholder, primaryCounted, withZFactor, done, refused, isHorizon, withScoreDifferencing, setScoreDifferencing}
+use Rattle.ledger.specs.Statement.{mostReadings, Told, accepted, Sizes, InBounds}
 use Rattle.ledger.specs.Theorem.{Counts, New}
 
 pub primary-counts : (t : BasicThresholder) (x : Float) → Counts t x (primaryCounted t x)
@@ -17,6 +21,17 @@ new-fresh d adjust = record { primary = refl; count = refl; z-factor = refl }
 
 pub new-z : (d z x : Float) (t : BasicThresholder) → New d z t → New d x (withZFactor t x)
 new-z d z x t n = record { primary = n .primary; count = n .count; z-factor = refl }
+
+z-above : T (lt zero32 zFactorDefault)
+unfolding lt ofBits
+z-above = tt
+
+z-most : T (le zFactorDefault sixteen32)
+unfolding lt le eq ofBits
+z-most = tt
+
+pub default-z : (ts : List Told) → accepted ts ≤ mostReadings → Sizes ts → InBounds zFactorDefault ts
+default-z ts h k = record { z-above = z-above; z-most = z-most; readings = h; scores = k }
 
 pub new-horizon : (d z x : Float) (t : BasicThresholder) → New d z t → New d z (setScoreDifferencing t x .thresholder)
 unfolding setScoreDifferencing

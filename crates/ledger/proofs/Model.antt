@@ -3,7 +3,7 @@ use mathlib.Core.Path.{_≡_, refl, sym, _∙_, subst}
 use mathlib.Core.Bool.{Bool, true, false, not, cond}
 use lib.Dec.{T, lit≤}
 use lib.Ieee.{eq, round, add, sub, mul, div, lt, le, ofInt, ofBits}
-use Rattle.basicthresholder.specs.Const.{zero32}
+use Rattle.basicthresholder.specs.Const.{zero32, zFactorDefault}
 use Rattle.basicthresholder.specs.declared.BasicThresholder.{BasicThresholder}
 use Rattle.basicthresholder.specs.Grades.{threshold, thresholdBy}
 use Rattle.basicthresholder.specs.Updates.{primaryCounted, freshThresholder, countedOver, countedGap}
@@ -12,7 +12,7 @@ use Rattle.deviation.specs.Statistics.{countable, next, oneMore, deviation, isE
 use Rattle.ieee.specs.Round.{narrow, sqrt, isqrt}
 use Rattle.ledger.specs.Fractions.{Fraction, over, Same, fractionOf, plusZero}
 use Rattle.ledger.specs.Ledger.{Ledger, blank, enter, factor, mean, At}
-use Rattle.ledger.specs.Faithful.{watchBy, everyScore, three, inTurn, takes, after}
+use Rattle.ledger.specs.Faithful.{watchBy, everyScore, three, elevenQuarters, inTurn, atThree, takes, after}
 use Rattle.ledger.specs.Theorem.{Counts, Laws}
 use Rattle.ledger.proofs.Laws.{primary-counts}
 
@@ -63,6 +63,15 @@ pub worked-ledger : At (fractionOf three) (after plusZero blank (inTurn 5)) (fra
 unfolding factor
 worked-ledger = (lit≤ tt, refl)
 
-pub worked-watch : (adjust : Bool) → threshold (takes everyScore (freshThresholder plusZero adjust) (inTurn 5)) ≡ three
+pub worked-watch : (adjust : Bool) → threshold (takes everyScore (atThree adjust) (inTurn 5)) ≡ three
 unfolding threshold thresholdBy primaryCounted countedOver countedGap narrow sqrt isqrt Statistics.update countable next oneMore Statistics.factor Statistics.mean deviation isEmpty positiveRoot ofBits round add sub mul div lt le eq ofInt
 worked-watch adjust = refl
+
+-- the same by a new state's own z
+pub default-ledger : At (fractionOf zFactorDefault) (after plusZero blank (inTurn 5)) (fractionOf elevenQuarters)
+unfolding factor ofBits
+default-ledger = (lit≤ tt, refl)
+
+pub default-watch : (adjust : Bool) → threshold (takes everyScore (freshThresholder plusZero adjust) (inTurn 5)) ≡ elevenQuarters
+unfolding threshold thresholdBy primaryCounted countedOver countedGap narrow sqrt isqrt Statistics.update countable next oneMore Statistics.factor Statistics.mean deviation isEmpty positiveRoot ofBits round add sub mul div lt le eq ofInt
+default-watch adjust = refl

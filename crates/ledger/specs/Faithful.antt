@@ -7,13 +7,13 @@ use Prim.Native.Nat.{ℕ, zero, suc, _≤_, _<_}
 use lib.IntN.{pos, negsuc}
 use lib.Signed.{ltZ}
 use lib.Ieee.{Float, fin, lt, eq}
-use Rattle.basicthresholder.specs.Const.{zero32}
+use Rattle.basicthresholder.specs.Const.{zero32, zFactorDefault}
 use Rattle.basicthresholder.specs.declared.BasicThresholder.{BasicThresholder}
 use Rattle.basicthresholder.specs.Grades.{threshold, primaryGrade, primaryThresholdAndGrade}
-use Rattle.basicthresholder.specs.Updates.{freshThresholder, primaryCounted}
+use Rattle.basicthresholder.specs.Updates.{freshThresholder, primaryCounted, withZFactor}
 use Rattle.ledger.specs.Fractions.{Fraction, times, dividedBy, Le, fractionOf, plusZero}
 use Rattle.ledger.specs.Ledger.{Ledger, blank, enter, mean, Under, At, Over, AtOrUnder, AtOrOver}
-use Rattle.ledger.specs.Statement.{mostReadings, Told, Shown, Demand3, accepted, Sizes, Judge, showed}
+use Rattle.ledger.specs.Statement.{mostReadings, Told, Shown, Demand3, accepted, Sizes, InBounds, Judge, showed}
 use Rattle.ledger.specs.Theorem.{Laws}
 
 -- ---- the ledger
@@ -60,7 +60,7 @@ everyScore t x = cond (eq x zero32) t (primaryCounted t x)
 abbrev pub raisedOnly : BasicThresholder → Float → BasicThresholder
 raisedOnly t x = cond (ltZ (t .count) (pos 10)) (primaryCounted t x) (cond (lt zero32 (primaryGrade t x)) (primaryCounted t x) t)
 
--- ---- lists of scores, all accepted; discount 0, z 3
+-- ---- lists of scores, all accepted; discount 0, z 3 unless said
 abbrev pub one : Float
 one = fin false 1 (pos 0)
 
@@ -72,6 +72,10 @@ three = fin false 3 (pos 0)
 
 abbrev pub half : Float
 half = fin false 1 (negsuc 0)
+
+-- 2.75
+abbrev pub elevenQuarters : Float
+elevenQuarters = fin false 11 (negsuc 1)
 
 abbrev pub thousand : Float
 thousand = fin false 1 (pos 10)
@@ -92,6 +96,10 @@ dip = ones 10 (half ∷ one ∷ [])
 abbrev pub inTurn : ℕ → List Float
 inTurn zero = []
 inTurn (suc n) = one ∷ two ∷ inTurn n
+
+-- A new thresholder, its z set to 3.
+abbrev pub atThree : Bool → BasicThresholder
+atThree adjust = withZFactor (freshThresholder plusZero adjust) three
 
 abbrev pub takes : (BasicThresholder → Float → BasicThresholder) → BasicThresholder → List Float → BasicThresholder
 takes update t [] = t
@@ -127,14 +135,19 @@ pub record Faithful : Type 0 where
   -- No fraction at or under the threshold is above one at or over it.
   pub in-their-order : (d z : Float) (xs : List Float) (y w : Fraction) → 0 < after d blank xs .n → 0 < y .den → 0 < w .den
       → AtOrUnder (fractionOf z) (after d blank xs) y → AtOrOver (fractionOf z) (after d blank xs) w → Le y w
-  -- A watch of the definitions keeps the laws, so that demand 3 holds of it; on the worked list ledger and watch both have the threshold 3.
+  -- A new state's own z factor is within the bounds on z: where none is set, those on the readings are left.
+  pub default-z : (ts : List Told) → accepted ts ≤ mostReadings → Sizes ts → InBounds zFactorDefault ts
+  -- A watch of the definitions keeps the laws, so that demand 3 holds of it. On the worked list ledger and watch both have the threshold 3 by z 3, and 2.75 by a new
+  -- state's own z.
   pub model : Laws (watchBy everyScore) (λ t. t)
   pub worked-ledger : At (fractionOf three) (after plusZero blank (inTurn 5)) (fractionOf three)
-  pub worked-watch : (adjust : Bool) → threshold (takes everyScore (freshThresholder plusZero adjust) (inTurn 5)) ≡ three
+  pub worked-watch : (adjust : Bool) → threshold (takes everyScore (atThree adjust) (inTurn 5)) ≡ three
+  pub default-ledger : At (fractionOf zFactorDefault) (after plusZero blank (inTurn 5)) (fractionOf elevenQuarters)
+  pub default-watch : (adjust : Bool) → threshold (takes everyScore (freshThresholder plusZero adjust) (inTurn 5)) ≡ elevenQuarters
   -- Each impostor breaks the statement on one list within its bounds: grades all 0, whatever its thresholds; a fixed threshold, whatever its grades; statistics
   -- never updated; updated on raised readings only.
   pub in-bounds : (accepted (accepts jump) ≤ mostReadings) × Sizes (accepts jump) × (accepted (accepts dip) ≤ mostReadings) × Sizes (accepts dip)
   pub all-zero : (thresholds ends : ℕ → Float) → Broken jump (shows thresholds (λ n. plusZero) ends 12)
   pub fixed-threshold : (c : Float) (openings ends : ℕ → Float) → Broken jump (shows (λ n. c) openings ends 12)
   pub never-updates : (t : BasicThresholder) → Breaks (λ u x. u) t jump
-  pub raised-only : (adjust : Bool) → Breaks raisedOnly (freshThresholder plusZero adjust) dip
+  pub raised-only : (adjust : Bool) → Breaks raisedOnly (atThree adjust) dip

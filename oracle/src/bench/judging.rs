@@ -14,6 +14,7 @@ use rcflib::trcf::types::{ScoringStrategy, TransformMethod};
 use super::peer::{All, Finite, Fold, Peer};
 use super::timing::{against_checked, checked_heading, pass};
 use crate::chain::{said, Handed, STATE};
+use crate::fresh;
 use crate::random::Random;
 use crate::readings::exits::{exit, FORECAST, QUIET, RAISED};
 use crate::readings::{states, verdict, Reading};
@@ -100,9 +101,7 @@ impl Row {
 
     /// The state before: auto adjust where there are neighbours to look at.
     pub fn chain(&self, random: &mut Random) -> PredictorCorrector {
-        let adjust = self.neighbours > 0;
-        let made = PredictorCorrector::new(0.01, adjust, self.size.1);
-        let mut chain = made.expect("a discount below 1");
+        let mut chain = fresh::chain(0.01, self.neighbours > 0, self.size.1);
         for _ in 0..COUNTED {
             let score = 1.0 + 0.1 * random.fraction() as f32;
             self.reading(random, score).judge(&mut chain);

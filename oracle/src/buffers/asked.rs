@@ -9,6 +9,7 @@ use rcflib::trcf::types::TransformMethod::{DIFFERENCE, NORMALIZE_DIFFERENCE};
 
 use super::{sizes, Call};
 use crate::chain::{self, Handed, ADJUST, BASE};
+use crate::fresh;
 use crate::ours::c;
 use crate::random::Random;
 use crate::readings::damage::{put, range, resize, time};
@@ -131,8 +132,7 @@ fn loud(state: Vec<u8>, reading: Vec<u8>, last: Vec<u8>) -> Handed {
 /// The Rust's chain of this base, with and without auto adjust, that takes the score for loud: under
 /// DISTANCE it has to have counted some.
 fn chain_of(h: &Handed, r: &Reading) -> PredictorCorrector {
-    let chain = PredictorCorrector::new(0.0, h.state[ADJUST] == 1, r.base);
-    let mut state = chain.expect("a discount below 1").state();
+    let mut state = fresh::chain(0.0, h.state[ADJUST] == 1, r.base).state();
     if !r.is_height() {
         let mut t = BasicThresholder::of_numbers(state.basic_thresholder);
         for k in 0..12 {

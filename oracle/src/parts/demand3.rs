@@ -8,6 +8,7 @@ use rcflib::trcf::types::{ScoringStrategy, TransformMethod};
 
 use crate::bytes::Bytes;
 use crate::chain::{self, said, Handed};
+use crate::fresh;
 use crate::ledger::Ledger;
 use crate::ours;
 use crate::random::Random;
@@ -19,7 +20,7 @@ use crate::tally::Tally;
 const READINGS: u64 = 65_536;
 
 const DISCOUNTS: [f64; 6] = [0.0, 0.01, 0.5, 1e-5, 5e-324, 1.0 - f64::EPSILON / 2.0];
-const FACTORS: [f32; 6] = [3.0, 2.5, 16.0, 0.5, 1e-45, 7.3];
+const FACTORS: [f32; 6] = [fresh::Z_FACTOR, 3.0, 16.0, 0.5, 1e-45, 7.3];
 
 /// The largest score and the least but zero.
 const HUGE: f32 = 1_073_741_824.0;
@@ -104,7 +105,10 @@ impl List {
     fn new(discount: f64, z: f32, name: &str, auto_adjust: bool) -> Self {
         let mut state = vec![0; chain::STATE];
         assert_eq!(chain::new(discount, auto_adjust as u8, 1, &mut state), 0);
-        assert_eq!(chain::set_z_factor(&mut state, z), 0);
+        // A new state's own z is not set.
+        if z != fresh::Z_FACTOR {
+            assert_eq!(chain::set_z_factor(&mut state, z), 0);
+        }
         List {
             name: format!("{name}, discount {discount:e}, z {z:e}"),
             handed: Handed::new(&state, &reading()),

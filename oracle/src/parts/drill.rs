@@ -4,7 +4,7 @@
 use rcflib::common::descriptor::Descriptor;
 use rcflib::common::deviation::Deviation;
 use rcflib::common::divector::DiVector;
-use rcflib::trcf::basicthresholder::BasicThresholder;
+use rcflib::trcf::basicthresholder::{BasicThresholder, Numbers};
 use rcflib::trcf::predictorcorrector::PredictorCorrector;
 use rcflib::trcf::types::{ScoringStrategy, TransformMethod};
 
@@ -140,15 +140,23 @@ fn graded(
     row(title, rust, single(&said), Some(ours))
 }
 
-/// The Rust's answer and ours.
+/// The Rust's answer and ours, each from a new state of its own: the z factors differ, and no row
+/// reaches them.
 fn answer(adjust: bool, at_one: bool, call: Call) -> (String, String) {
     let made = BasicThresholder::new_adjustible(0.01, adjust);
     let mut rust = made.expect("a discount below 1");
+    let mut state = [0; Numbers::SIZE];
+    assert_eq!(ours::thresholder_new(0.01, adjust as u8, &mut state), 0);
     if at_one {
         rust.set_absolute_threshold(1.0);
         rust.set_initial_threshold(1.0);
+        for set in [
+            Call::SetAbsoluteThreshold(1.0),
+            Call::SetInitialThreshold(1.0),
+        ] {
+            assert_eq!(set.ours(&mut state, &mut []), 0);
+        }
     }
-    let mut state = rust.numbers().bytes();
     let mut out = [0xa5; 8];
     assert_eq!(call.ours(&mut state, &mut out), 0);
     let shown = |bytes: &[u8]| single(&[f32::get(bytes), f32::get(&bytes[4..])]);

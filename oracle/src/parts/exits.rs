@@ -90,6 +90,7 @@ impl Text<'_> {
 
     fn state(&self) -> State {
         let discount = self.real(1, 4) as f64;
+        // With the Rust's own z of 3, as in states stored before A5.
         let fresh = BasicThresholder::new(discount).expect("a discount below 1");
         let auto_adjust = self.yes(1, 0);
         let existing = if auto_adjust { self.size(1, 2) } else { 0 };

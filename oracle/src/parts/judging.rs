@@ -7,6 +7,7 @@ use rcflib::common::descriptor::Descriptor;
 use rcflib::trcf::predictorcorrector::PredictorCorrector;
 
 use crate::chain::{self, said, state_of, verdict_bytes, Handed};
+use crate::fresh;
 use crate::random::Random;
 use crate::readings::damage::{spoil, NUMBERS};
 use crate::readings::exits::{exit, Exits, SKIPPED};
@@ -137,7 +138,7 @@ fn new(tally: &mut Tally, discount: f64, adjust: u8, base: usize, len: usize) ->
     if refusal != 0 {
         tally.compare(&(number, out.clone()), &(refusal, before), case);
     } else {
-        let rust = PredictorCorrector::new(discount, adjust == 1, base).expect("a discount");
+        let rust = fresh::chain(discount, adjust == 1, base);
         let mut bytes = vec![0; len];
         states::put(&rust.state(), base, &mut bytes);
         tally.compare(&(number, state_of(&out)), &(0, rust.state()), case);

@@ -4,6 +4,7 @@
 use rcflib::trcf::basicthresholder::{BasicThresholder, Numbers};
 
 use crate::bytes::Bytes;
+use crate::fresh;
 use crate::ours;
 use crate::random::Random;
 use crate::refusals::{refused, DISCOUNT, LENGTH, RANGE};
@@ -125,7 +126,7 @@ fn new(tally: &mut Tally, discount: f64, adjust: u8) {
     let mut out = before;
     let answer = ours::thresholder_new(discount, adjust, &mut out);
     let case = || format!("new of discount {} and {adjust}", discount.show());
-    match BasicThresholder::new_adjustible(discount, adjust == 1) {
+    match fresh::thresholder(discount, adjust == 1) {
         Ok(rust) if adjust <= 1 => {
             let ours = (answer, Numbers::get(&out));
             tally.compare(&ours, &(0, rust.numbers()), case);
@@ -189,7 +190,7 @@ fn refusals(tally: &mut Tally) {
             });
         }
     }
-    let made = BasicThresholder::new(0.5).expect("a discount below 1");
+    let made = fresh::thresholder(0.5, false).expect("a discount below 1");
     flags_and_answers(tally, &made.numbers().bytes());
 }
 

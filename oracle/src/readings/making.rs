@@ -9,6 +9,7 @@ use rcflib::trcf::types::{ScoringStrategy, TransformMethod};
 
 use super::exits::{DRIFT, FIELD, FORECAST, GRADE, NOISE, QUIET, RAISED, SKIPPED, TRIGGER};
 use super::{Reading, METHODS};
+use crate::fresh;
 use crate::random::Random;
 use crate::values;
 
@@ -112,8 +113,7 @@ impl Maker {
     }
 
     pub fn chain(&self) -> PredictorCorrector {
-        PredictorCorrector::new(self.discount, self.auto_adjust, self.base)
-            .expect("a discount below 1")
+        fresh::chain(self.discount, self.auto_adjust, self.base)
     }
 
     /// The threshold that the next score is held against.
