@@ -1,4 +1,4 @@
--- The numbers that basicthresholder.rs writes. A literal of the source is `ofBits` of its pattern; `constants` says which number each one is.
+-- The numbers that basicthresholder.rs writes, but for a new state's z. A literal of the source is `ofBits` of its pattern; `constants` says which number each one is.
 use mathlib.Core.Path.{_≡_, refl}
 use mathlib.Core.Bool.{false}
 use lib.Ieee.{Float, ofBits, round, binary32, binary64}
@@ -12,7 +12,7 @@ two64 = ofBits binary64 0x4000_0000_0000_0000
 abbrev pub rootOfTwo : Float
 rootOfTwo = ofBits binary64 0x3FF6_A09E_667F_3BCD
 
--- The defaults, by the Rust's names.
+-- The defaults, by the Rust's names; z is document 02's (A5), the Rust's is 3.
 abbrev pub elasticityDefault : Float
 elasticityDefault = ofBits binary32 0x3C23_D70A
 

@@ -30,6 +30,7 @@ const DEFAULT_LOWER_THRESHOLD: f32 = 1.0;
 
 const DEFAULT_INITIAL_THRESHOLD: f32 = 1.5;
 
+// Document 02's (A5); the Rust's is 3.
 const DEFAULT_Z_FACTOR: f32 = 2.5;
 
 const DEFAULT_FACTOR_ADJUSTMENT_THRESHOLD: f32 = 0.9;

@@ -100,7 +100,7 @@ zAfter z (detect-and-modify c ∷ cs) = zAfter z cs
 abbrev pub zOf : List Call → Float
 zOf cs = zAfter zFactorDefault cs
 
--- None sets it.
+-- No call sets it.
 abbrev pub ZUnset : List Call → Type 0
 ZUnset [] = Unit
 ZUnset (new d auto base r ∷ cs) = ZUnset cs

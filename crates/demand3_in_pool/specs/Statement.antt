@@ -49,7 +49,7 @@ zAfter z (judgment a ∷ qs) = zAfter z qs
 abbrev pub zAsked : List Ask → Float
 zAsked qs = zAfter zFactorDefault qs
 
--- None was asked for.
+-- No z factor was asked for.
 abbrev pub ZUnasked : List Ask → Type 0
 ZUnasked [] = Unit
 ZUnasked (setting (z-factor x) ∷ qs) = ⊥

@@ -96,7 +96,7 @@ zAfter z (krcf-detect-and-modify c ∷ cs) = zAfter z cs
 abbrev pub zOf : List Call → Float
 zOf cs = zAfter zFactorDefault cs
 
--- None sets it.
+-- No call sets it.
 abbrev pub ZUnset : List Call → Type 0
 ZUnset [] = Unit
 ZUnset (krcf-new d auto base out n ys ∷ cs) = ZUnset cs
