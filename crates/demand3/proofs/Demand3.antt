@@ -12,8 +12,7 @@ use Rattle.deviation.specs.Statistics.{isDiscount}
 use Rattle.basicthresholder.specs.Const.{zFactorDefault}
 use Rattle.ledger.specs.Statement.{mostReadings, Told, Shown, told, showed, accepted, Sizes, InBounds, Demand3}
 use Rattle.ledger.specs.Theorem.{New}
-use Rattle.ledger.proofs.Laws as Ledgers
-use Rattle.ledger.proofs.Laws.{new-fresh, new-z, new-horizon}
+use Rattle.ledger.proofs.Laws.{new-fresh, new-z, new-horizon, by-default}
 use Rattle.ledger.proofs.WholeList as WholeList
 use Rattle.predictorcorrector.specs.State as State
 use Rattle.predictorcorrector.specs.State.{freshState, refusedNew, setHorizon}
@@ -123,10 +122,7 @@ z-unset z (detect-and-modify c ∷ cs) u = z-unset z cs u
 
 default-z : (d : Float) (auto : Bool) (base : ℕ) (r : Updated) (cs : List Call) → InTurn (new d auto base r ∷ cs) → ZUnset cs
     → accepted (toldOf (r .state) cs) ≤ mostReadings → Sizes (toldOf (r .state) cs) → Demand3 d zFactorDefault (toldOf (r .state) cs) (shownOf (r .state) cs)
-default-z d auto base r cs k u h s =
-    let e : zOf cs ≡ zFactorDefault = z-unset zFactorDefault cs u in
-    let b = subst (λ (z : Float). InBounds z (toldOf (r .state) cs)) (sym e) (Ledgers.default-z (toldOf (r .state) cs) h s) in
-    subst (λ (z : Float). Demand3 d z (toldOf (r .state) cs) (shownOf (r .state) cs)) e (demand-3 d auto base r cs k b)
+default-z d auto base r cs k u = by-default d (zOf cs) (toldOf (r .state) cs) (shownOf (r .state) cs) (z-unset zFactorDefault cs u) (demand-3 d auto base r cs k)
 
 pub demand-3-of-calls : Demand3OfCalls
 demand-3-of-calls = record { returned = returned; demand-3 = demand-3; default-z = default-z; met = calm-met }

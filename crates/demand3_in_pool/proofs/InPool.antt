@@ -17,7 +17,7 @@ use Rattle.basicthresholder.specs.Const.{zero32, zFactorDefault}
 use Rattle.basicthresholder.specs.Updates.{done, refused, isHorizon, withScoreDifferencing, setScoreDifferencing}
 use Rattle.ledger.specs.Statement as Ledgers
 use Rattle.ledger.specs.Statement.{mostReadings, Told, Shown, Sizes, InBounds, Demand3}
-use Rattle.ledger.proofs.Laws.{default-z}
+use Rattle.ledger.proofs.Laws.{by-default}
 use Rattle.predictorcorrector.specs.State.{new, freshState, refusedNew, updated, zFactorSet, setHorizon}
 use Rattle.predictorcorrector.specs.declared.PredictorCorrector.{PredictorCorrector}
 use Rattle.predictorcorrector.specs.declared.Updated.{Updated}
@@ -292,18 +292,15 @@ module _ (xs : List ℕ) (d : ℕ) (discount : Float) (adjust base : ℕ) (ys : 
       (record { discount = f; contract = opened .contract; accepted = refl }, m .turn) bounds in
       rw (sym e, sym (m .told), sym (m .shown)) proved
 
-  by-default : (cs : List Call) → T (fits binary64 discount) → InTurn ys cs → Stays d cs → SetFirst (asks d cs) → ZUnasked (asks d cs)
+  default-z : (cs : List Call) → T (fits binary64 discount) → InTurn ys cs → Stays d cs → SetFirst (asks d cs) → ZUnasked (asks d cs)
       → Ledgers.accepted (toldIn (asks d cs) (tells d cs)) ≤ mostReadings → Sizes (toldIn (asks d cs) (tells d cs))
       → Demand3 discount zFactorDefault (toldIn (asks d cs) (tells d cs)) (shownIn (tells d cs))
-  by-default cs f t stays s u h k =
-      let e : zAsked (asks d cs) ≡ zFactorDefault = unasked zFactorDefault (asks d cs) u in
-      let told = toldIn (asks d cs) (tells d cs) in
-      let b = subst (λ (z : Float). InBounds z told) (sym e) (default-z told h k) in
-      subst (λ (z : Float). Demand3 discount z told (shownIn (tells d cs))) e (in-pool cs f t stays s b)
+  default-z cs f t stays s u =
+      by-default discount (zAsked (asks d cs)) (toldIn (asks d cs) (tells d cs)) (shownIn (tells d cs)) (unasked zFactorDefault (asks d cs) u) (in-pool cs f t stays s)
 
 pub demand-3-in-pool : Demand3InPool
 demand-3-in-pool = record {
   demand-3 = λ xs d discount adjust base ys cs f c t stays s b. in-pool xs d discount adjust base ys c cs f t stays s b;
-  default-z = λ xs d discount adjust base ys cs f c t stays s u h k. by-default xs d discount adjust base ys c cs f t stays s u h k;
+  default-z = λ xs d discount adjust base ys cs f c t stays s u. default-z xs d discount adjust base ys c cs f t stays s u;
   met = calm-met;
 }

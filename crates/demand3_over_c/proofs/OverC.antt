@@ -17,8 +17,7 @@ use Rattle.ledger.specs.Fractions.{Fraction, none, plusZero, plain, fractionOf,
 use Rattle.ledger.specs.Ledger.{Ledger, blank, enter, AtOrUnder, AtOrOver, Over}
 use Rattle.ledger.specs.Statement.{closeness, clearance, enoughScores, mostReadings, Told, Shown, Judged, Either, Agree, Demand3, counted, accepted, Sizes, InBounds}
 use Rattle.ledger.specs.Theorem.{New}
-use Rattle.ledger.proofs.Laws as Ledgers
-use Rattle.ledger.proofs.Laws.{new-z, new-horizon}
+use Rattle.ledger.proofs.Laws.{new-z, new-horizon, by-default}
 use Rattle.deviation.specs.Statistics.{isDiscount}
 use Rattle.predictorcorrector.specs.State.{new, zFactorSet, setHorizon}
 use Rattle.predictorcorrector.specs.declared.PredictorCorrector.{PredictorCorrector}
@@ -291,10 +290,7 @@ z-unset z (krcf-detect-and-modify c ∷ cs) u = z-unset z cs u
 
 default-z : (d : Float) (auto base : ℕ) (out : List ℕ) (n : ℕ) (xs : List ℕ) (cs : List Call) → InTurn (krcf-new d auto base out n xs ∷ cs) → ZUnset cs
     → accepted (toldOf cs) ≤ mostReadings → Sizes (toldOf cs) → Demand3 d zFactorDefault (toldOf cs) (shownOf cs)
-default-z d auto base out n xs cs t u h s =
-    let e : zOf cs ≡ zFactorDefault = z-unset zFactorDefault cs u in
-    let b = subst (λ (z : Float). InBounds z (toldOf cs)) (sym e) (Ledgers.default-z (toldOf cs) h s) in
-    subst (λ (z : Float). Demand3 d z (toldOf cs) (shownOf cs)) e (demand-3 d auto base out n xs cs t b)
+default-z d auto base out n xs cs t u = by-default d (zOf cs) (toldOf cs) (shownOf cs) (z-unset zFactorDefault cs u) (demand-3 d auto base out n xs cs t)
 
 pub demand-3-over-c : Demand3OverC
 demand-3-over-c = record { simulated = simulated; opens = opens-over-c; demand-3 = demand-3; default-z = default-z; met = calm-met }

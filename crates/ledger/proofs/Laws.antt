@@ -1,5 +1,5 @@
 -- The thresholder of basicthresholder.rs counts as a judge's must, a new one is new, and its z factor is within demand 3's bounds. Assumes nothing.
-use mathlib.Core.Path.{refl}
+use mathlib.Core.Path.{_≡_, refl, sym, subst}
 use mathlib.Core.Bool.{Bool, true, false, cond}
 use mathlib.Core.List.{List}
 use Prim.Native.Nat.{_≤_}
@@ -9,7 +9,7 @@ use Rattle.types.specs.declared.Refusal.the-variants.{Horizon}
 use Rattle.basicthresholder.specs.Const.{zero32, sixteen32, zFactorDefault}
 use Rattle.basicthresholder.specs.declared.BasicThresholder.{BasicThresholder}
 use Rattle.basicthresholder.specs.Updates.{freshThresholder, primaryCounted, withZFactor, done, refused, isHorizon, withScoreDifferencing, setScoreDifferencing}
-use Rattle.ledger.specs.Statement.{mostReadings, Told, accepted, Sizes, InBounds}
+use Rattle.ledger.specs.Statement.{mostReadings, Told, Shown, accepted, Sizes, InBounds, Demand3}
 use Rattle.ledger.specs.Theorem.{Counts, New}
 
 pub primary-counts : (t : BasicThresholder) (x : Float) → Counts t x (primaryCounted t x)
@@ -32,6 +32,11 @@ z-most = tt
 
 pub default-z : (ts : List Told) → accepted ts ≤ mostReadings → Sizes ts → InBounds zFactorDefault ts
 default-z ts h k = record { z-above = z-above; z-most = z-most; readings = h; scores = k }
+
+-- Demand 3 of a list whose z is a new state's: the bounds on the readings are enough.
+pub by-default : (d z : Float) (ts : List Told) (vs : List Shown) → z ≡ zFactorDefault → (InBounds z ts → Demand3 d z ts vs)
+    → accepted ts ≤ mostReadings → Sizes ts → Demand3 d zFactorDefault ts vs
+by-default d z ts vs e p h k = subst (λ (y : Float). Demand3 d y ts vs) e (p (subst (λ (y : Float). InBounds y ts) (sym e) (default-z ts h k)))
 
 pub new-horizon : (d z x : Float) (t : BasicThresholder) → New d z t → New d z (setScoreDifferencing t x .thresholder)
 unfolding setScoreDifferencing
