@@ -5,6 +5,7 @@ mod big;
 mod buffers;
 mod bytes;
 mod chain;
+mod changed;
 mod exports;
 mod fresh;
 mod ledger;
@@ -21,6 +22,7 @@ mod scans;
 mod statistics;
 mod tally;
 mod thresholders;
+mod training;
 mod values;
 mod vector_sample;
 mod vectors;
@@ -79,6 +81,7 @@ fn run(name: &str, seed: u64) -> u64 {
         bench::score_watch::write(&mut Random::new(seed)).expect("scores written");
         bench::export_watch::write(&mut Random::new(seed)).expect("an export written");
         scans::sample::write(&mut Random::new(seed)).expect("scans written");
+        bench::training_load::write().expect("a training load written");
         return 0;
     }
     let part = PARTS.iter().find(|p| p.name == name).expect("a known part");
@@ -87,14 +90,20 @@ fn run(name: &str, seed: u64) -> u64 {
     tally.report()
 }
 
-fn main() -> ExitCode {
-    let word = std::env::args().nth(1).unwrap_or_default();
-    if word == bench::score_watch::PLAIN {
-        bench::score_watch::plain().expect("sound lines");
-        return ExitCode::SUCCESS;
+/// Runs the plain program that a word names, and says whether it names one.
+fn is_plain(word: &str) -> bool {
+    match word {
+        bench::score_watch::PLAIN => bench::score_watch::plain().expect("sound lines"),
+        exports::plain::PLAIN => exports::plain::plain().expect("an export read"),
+        training::plain::PLAIN => training::plain::plain().expect("lines read"),
+        training::plain::BY_HAND => training::plain::by_hand().expect("lines read"),
+        _ => return false,
     }
-    if word == exports::plain::PLAIN {
-        exports::plain::plain().expect("an export read");
+    true
+}
+
+fn main() -> ExitCode {
+    if is_plain(&std::env::args().nth(1).unwrap_or_default()) {
         return ExitCode::SUCCESS;
     }
     let wanted = match wanted() {

@@ -20,17 +20,17 @@ digitOf b =
     (cond (leb (code "A") b && leb b (code "F")) (b - (code "A" - 10))
     (cond (leb (code "a") b && leb b (code "f")) (b - (code "a" - 10)) 16))
 
-unfoldable pub isDigit : ℕ → Bool
-isDigit b = ltb (digitOf b) 16
+-- Whether a byte, and whether all bytes, are digits of the base; and the number that digits write in it behind the number n.
+unfoldable pub isDigit : ℕ → ℕ → Bool
+isDigit base b = ltb (digitOf b) base
 
-unfoldable pub allDigits : List ℕ → Bool
-allDigits [] = true
-allDigits (b ∷ bs) = isDigit b && allDigits bs
+unfoldable pub allDigits : ℕ → List ℕ → Bool
+allDigits base [] = true
+allDigits base (b ∷ bs) = isDigit base b && allDigits base bs
 
--- The number that digits write behind the number n.
-unfoldable pub number : ℕ → List ℕ → ℕ
-number n [] = n
-number n (b ∷ bs) = number (n * 16 + digitOf b) bs
+unfoldable pub number : ℕ → ℕ → List ℕ → ℕ
+number base n [] = n
+number base n (b ∷ bs) = number base (n * base + digitOf b) bs
 
 -- A finite score; anything else is a fault.
 unfoldable pub finiteOnly : Float → Line
@@ -39,7 +39,7 @@ finiteOnly x = cond (finite x) (Score x) Fault
 -- What the line with the number n holds: eight digits are the bits of a score. From line 65,537 on every line is a fault.
 unfoldable pub readLine : ℕ → List ℕ → Line
 readLine n line =
-    cond (leb n 65536 && (eqb (length line) 8 && allDigits line)) (finiteOnly (ofBits binary32 (number 0 line))) Fault
+    cond (leb n 65536 && (eqb (length line) 8 && allDigits 16 line)) (finiteOnly (ofBits binary32 (number 16 0 line))) Fault
 
 -- The lines of what follows the bytes `line` of a line. A line ends at a line end; the last one may lack that, and a line end that ends the input starts none.
 unfoldable pub linesFrom : List ℕ → List ℕ → List (List ℕ)

@@ -37,7 +37,7 @@ pub struct Fed {
 }
 
 // The value of a hexadecimal digit of either case; 16 for any other byte.
-fn digit(b: u8) -> u64
+pub fn digit(b: u8) -> u64
     ensures { λ r. ⌜ r ≡ Output.digitOf b ⌝ ∗ ⌜ r ≤ 16 ⌝ }
 {
     if b < 48 {

@@ -8,6 +8,7 @@ mod pool;
 mod scans;
 pub mod score_watch;
 mod timing;
+pub mod training_load;
 
 use crate::random::Random;
 
@@ -19,4 +20,5 @@ pub fn run(random: &mut Random) {
     scans::run(random);
     score_watch::run(random).expect("both score watches run");
     export_watch::run(random).expect("both export watches run");
+    training_load::run(random).expect("the training loads run");
 }

@@ -1,4 +1,4 @@
-//! Random exports: sound ones, ones with a faulty row and ones with bytes changed anywhere.
+//! Random exports: sound ones and ones with a faulty row.
 
 use crate::random::Random;
 
@@ -287,21 +287,4 @@ pub fn every_fault(random: &mut Random) -> Vec<(Vec<u8>, String)> {
         made.push(export.faulty(error));
     }
     made
-}
-
-/// Changes, adds or removes some bytes, or cuts the rest off.
-pub fn change(bytes: &mut Vec<u8>, random: &mut Random) {
-    for _ in 0..1 + random.below(3) {
-        let at = random.below(1 + bytes.len() as u64) as usize;
-        let byte = match random.below(3) {
-            0 => random.word() as u8,
-            _ => random.of(b"\"\"\",,\r\n.0 1x\0\xff"),
-        };
-        match random.below(8) {
-            0 => bytes.truncate(at),
-            1 | 2 if at < bytes.len() => drop(bytes.remove(at)),
-            3..=5 if at < bytes.len() => bytes[at] = byte,
-            _ => bytes.insert(at, byte),
-        }
-    }
 }

@@ -5,7 +5,8 @@ use std::fs;
 use std::path::PathBuf;
 use std::process::Command;
 
-use crate::exports::making::{change, every_fault, Export};
+use crate::changed::change;
+use crate::exports::making::{every_fault, Export};
 use crate::exports::plain;
 use crate::process::once;
 use crate::random::Random;
@@ -17,6 +18,9 @@ const CASES: &str = "crates/watch_cases";
 const SOUND: u64 = 300;
 const FAULTS: u64 = 8;
 const CHANGED: u64 = 1_500;
+
+/// Bytes that changed exports get.
+const BYTES: &[u8] = b"\"\"\",,\r\n.0 1x\0\xff";
 
 /// How often each way to end has to come up among the changed exports.
 const LEAST: u64 = 100;
@@ -114,7 +118,7 @@ fn random_ones(both: &mut Both, random: &mut Random) {
     (both.counts, both.nines, both.tens) = (0, 0, 0);
     for _ in 0..CHANGED {
         let mut bytes = Export::sound(random.below(30), random).bytes;
-        change(&mut bytes, random);
+        change(&mut bytes, BYTES, random);
         both.print("changed", &bytes);
     }
     let ends = [both.counts, both.nines, both.tens];

@@ -18,6 +18,7 @@ mod root;
 mod scans;
 mod standin;
 mod thresholder;
+mod training;
 mod util;
 pub mod vectors;
 
@@ -56,6 +57,7 @@ pub const PARTS: &[Part] = &[
     part("asked", buffers::asked),
     part("demand3", demand3::compare),
     part("exports", exports::compare),
+    part("training", training::compare),
     part("scans", scans::compare),
     part("pool", pool::compare),
 ];

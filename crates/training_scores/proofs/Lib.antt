@@ -1,0 +1,2 @@
+mod Product
+pub mod Exactness
