@@ -11,7 +11,7 @@ struct Taken {
     bytes: usize,
 }
 
-fn taken(case: &[u8]) -> Taken {
+fn take(case: &[u8]) -> Taken {
     let mut run = training_lines::begin();
     let mut i = 0usize;
     while i < case.len() {
@@ -39,7 +39,7 @@ fn show_printed(run: Run) {
 }
 
 fn show(case: &[u8]) {
-    let end = taken(case);
+    let end = take(case);
     let run = end.run;
     io::print_decimal(STDOUT_FILENO, end.bytes as u64);
     io::write_all(STDOUT_FILENO, b" of ");
