@@ -251,7 +251,7 @@ fn a_ward_restarted_again_and_again() {
     }
 }
 
-/// A ward after its month, two of whose drawers have an anomaly and one a z factor of 3.
+/// A ward after its month, three of whose drawers have an anomaly and one a z factor of 3.
 fn stored_site() -> Vec<u8> {
     let mut ward = Ward::new().unwrap();
     ward.site.set_z_factor(1, 3.0).unwrap();

@@ -1,4 +1,4 @@
--- The numbers that basicthresholder.rs writes, but for a new state's z. A literal of the source is `ofBits` of its pattern; `constants` says which number each one is.
+-- The numbers that basicthresholder.rs writes, but for a new state's z. A literal of the source is `ofBits` of its pattern; `constants` and `defaults` say which number each one is.
 use mathlib.Core.Path.{_≡_, refl}
 use mathlib.Core.Bool.{false}
 use lib.Ieee.{Float, ofBits, round, binary32, binary64}

@@ -21,7 +21,7 @@ use Rattle.predictorcorrector.specs.Lists.{listCountable, firstCountable}
 use Rattle.predictorcorrector.specs.declared.PredictorCorrector.{PredictorCorrector}
 use Rattle.detection.specs.Judging as Exits
 use Rattle.detection.specs.Judged.{outcome, outcomeOf, stateAfter}
-use Rattle.demand3.specs.Calls.{new, JudgedInTurn, InTurn, Made, zOf, toldOf}
+use Rattle.demand3.specs.Calls.{new, JudgedInTurn, InTurn, Made, zOf, ZUnset, toldOf}
 use Rattle.demand3.specs.Calm.{nought, one, judging, judgings, made, eleven}
 
 kept : (n : ℕ) (s : PredictorCorrector) → JudgedInTurn s (judgings n s)
@@ -51,9 +51,10 @@ unfolding answerOf rangeOk sizesOk lengthsOf lengthsOk dimension pointsOk rowsOk
     primaryThresholdAndGrade threshold thresholdBy primaryGrade gradeOver isDeviationReady countsReady minf32
 all-accepted = refl
 
-pub calm-met : InTurn (new nought false 1 made ∷ eleven) × InBounds (zOf eleven) (toldOf (made .state) eleven) × (accepted (toldOf (made .state) eleven) ≡ 11)
+pub calm-met : InTurn (new nought false 1 made ∷ eleven) × ZUnset eleven × InBounds (zOf eleven) (toldOf (made .state) eleven) × (accepted (toldOf (made .state) eleven) ≡ 11)
 calm-met = (
   (made-is, kept 11 (made .state)),
+  tt,
   default-z (toldOf (made .state) eleven) (subst (λ (n : ℕ). n ≤ mostReadings) (sym all-accepted) (lit≤ tt)) (sizes 11 (made .state)),
   all-accepted,
 )

@@ -62,4 +62,4 @@ pub record Demand3OfCalls : Type 0 where
       → InTurn (new d auto base r ∷ cs) → ZUnset cs → accepted (toldOf (r .state) cs) ≤ mostReadings → Sizes (toldOf (r .state) cs)
       → Demand3 d zFactorDefault (toldOf (r .state) cs) (shownOf (r .state) cs)
   -- Such lists exist: the entry checks accept eleven calm readings, and the last has ten counted before it.
-  pub met : InTurn (new nought false 1 made ∷ eleven) × InBounds (zOf eleven) (toldOf (made .state) eleven) × (accepted (toldOf (made .state) eleven) ≡ 11)
+  pub met : InTurn (new nought false 1 made ∷ eleven) × ZUnset eleven × InBounds (zOf eleven) (toldOf (made .state) eleven) × (accepted (toldOf (made .state) eleven) ≡ 11)

@@ -30,7 +30,7 @@ use Rattle.pool_laws.proofs.Frames.{wrote-kept, wrote-records}
 use Rattle.pool_laws.proofs.Alone.{is-there, judged-there}
 use Rattle.pool_laws.proofs.Theorems.{pool-rules}
 use Rattle.demand3_in_pool.specs.Calm.{nought, asked, reply, calm, next, calms, pool, eleven}
-use Rattle.demand3_in_pool.specs.Statement.{Judgments, SetFirst, zAfter, zAsked, toldIn}
+use Rattle.demand3_in_pool.specs.Statement.{Judgments, SetFirst, zAfter, zAsked, ZUnasked, toldIn}
 
 -- ---- one calm reading in a pool that holds drawer 1
 module _ (xs : List ℕ) (h : Holds xs 1) where
@@ -61,6 +61,11 @@ judgments : (k : ℕ) (xs : List ℕ) → Judgments (asks 1 (calms k xs))
 unfolding calms
 judgments zero xs = tt
 judgments (suc k) xs = ((λ (e : length reading ≡ readingLength). tt), judgments k (next xs))
+
+unasked : (k : ℕ) (xs : List ℕ) → ZUnasked (asks 1 (calms k xs))
+unfolding calms
+unasked zero xs = tt
+unasked (suc k) xs = unasked k (next xs)
 
 set-first : (qs : List Ask) → Judgments qs → SetFirst qs
 set-first [] j = tt
@@ -101,7 +106,7 @@ zeros-long : length zeros ≡ stateLength
 zeros-long = length-replicate {A = ℕ} stateLength 0
 
 over-c : OverC.InTurn (OverC.krcf-new nought 0 1 zeros 0 (made zeros) ∷ Calm.eleven (made zeros))
-    × InBounds (OverC.zOf (Calm.eleven (made zeros))) (OverC.toldOf (Calm.eleven (made zeros))) × (accepted (OverC.toldOf (Calm.eleven (made zeros))) ≡ 11)
+    × OverC.ZUnset (Calm.eleven (made zeros)) × InBounds (OverC.zOf (Calm.eleven (made zeros))) (OverC.toldOf (Calm.eleven (made zeros))) × (accepted (OverC.toldOf (Calm.eleven (made zeros))) ≡ 11)
 over-c = demand-3-over-c .met zeros zeros-long
 
 -- ---- the opening
@@ -127,7 +132,7 @@ state-is =
 
 -- ---- the statement
 pub calm-met : T (fits binary64 nought) × Contract laidOut (opens 1 nought 0 1 0 pool) × InTurn pool eleven × Stays 1 eleven × SetFirst (asks 1 eleven)
-    × InBounds (zAsked (asks 1 eleven)) (toldIn (asks 1 eleven) (tells 1 eleven)) × (accepted (toldIn (asks 1 eleven) (tells 1 eleven)) ≡ 11)
+    × ZUnasked (asks 1 eleven) × InBounds (zAsked (asks 1 eleven)) (toldIn (asks 1 eleven) (tells 1 eleven)) × (accepted (toldIn (asks 1 eleven) (tells 1 eleven)) ≡ 11)
 calm-met =
     let t : OverC.toldOf (Calm.eleven (made zeros)) ≡ toldIn (asks 1 eleven) (tells 1 eleven) =
     ap (λ (l : List ℕ). OverC.toldOf (Calm.eleven l)) (sym state-is) ∙ told 11 pool holds in
@@ -137,6 +142,7 @@ calm-met =
       in-turn 11 pool holds,
       stays 11 pool,
       set-first (asks 1 eleven) (judgments 11 pool),
-      rw (sym z, sym t) (over-c .1),
-      ap accepted (sym t) ∙ over-c .2,
+      unasked 11 pool,
+      rw (sym z, sym t) (over-c .2),
+      ap accepted (sym t) ∙ over-c .3,
     )

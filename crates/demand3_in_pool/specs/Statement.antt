@@ -87,4 +87,4 @@ pub record Demand3InPool : Type 0 where
       → Demand3 discount zFactorDefault (toldIn (asks d cs) (tells d cs)) (shownIn (tells d cs))
   -- Such lists exist: in an empty pool drawer 1 is opened, and eleven calm readings are accepted in it; the last has ten counted before it.
   pub met : T (fits binary64 nought) × Contract laidOut (opens 1 nought 0 1 0 pool) × InTurn pool eleven × Stays 1 eleven × SetFirst (asks 1 eleven)
-      × InBounds (zAsked (asks 1 eleven)) (toldIn (asks 1 eleven) (tells 1 eleven)) × (accepted (toldIn (asks 1 eleven) (tells 1 eleven)) ≡ 11)
+      × ZUnasked (asks 1 eleven) × InBounds (zAsked (asks 1 eleven)) (toldIn (asks 1 eleven) (tells 1 eleven)) × (accepted (toldIn (asks 1 eleven) (tells 1 eleven)) ≡ 11)

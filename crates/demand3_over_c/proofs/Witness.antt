@@ -40,7 +40,7 @@ use Rattle.layout.specs.Readings.{readingCodesOk, lastCodesOk, decodeReading, d
 use Rattle.verdict_bytes.specs.Bytes.{changesState, stored, stateLeft}
 use Rattle.c_chain.specs.States.{chainMade}
 use Rattle.c_judging.specs.Judging.{codesOk, slicesOk, stateOver}
-use Rattle.demand3_over_c.specs.Calls.{krcf-new, JudgedInTurn, InTurn, Made, zOf, toldOf}
+use Rattle.demand3_over_c.specs.Calls.{krcf-new, JudgedInTurn, InTurn, Made, zOf, ZUnset, toldOf}
 use Rattle.demand3_over_c.specs.Calm.{nought, one, reading, last, said, judging, judgings, made, eleven}
 use Rattle.demand3.specs.Calm.{buffers}
 use Rattle.demand3_over_c.proofs.Held.{after-fits}
@@ -147,12 +147,13 @@ sizes zero xs = tt
 sizes (suc n) xs = ((λ h. inr (subst Sized (sym score-one) sized-one)), sizes n (judging xs .state′))
 
 pub calm-met : (out : List ℕ) → length out ≡ stateLength
-    → InTurn (krcf-new nought 0 1 out 0 (made out) ∷ eleven (made out)) × InBounds (zOf (eleven (made out))) (toldOf (eleven (made out))) × (accepted (toldOf (eleven (made out))) ≡ 11)
+    → InTurn (krcf-new nought 0 1 out 0 (made out) ∷ eleven (made out)) × ZUnset (eleven (made out)) × InBounds (zOf (eleven (made out))) (toldOf (eleven (made out))) × (accepted (toldOf (eleven (made out))) ≡ 11)
 calm-met out h =
     let m = made-is out h in
     let xs = made out in
     let many : accepted (toldOf (eleven xs)) ≡ 11 = accepted-in-turn 11 xs (new nought false 1 .state) (new-holds nought false 1 0 out xs none-fits (m .contract) .1) eleven-done in (
       (m, in-turn 11 xs),
+      tt,
       default-z (toldOf (eleven xs)) (subst (λ (n : ℕ). n ≤ mostReadings) (sym many) (lit≤ tt)) (sizes 11 xs),
       many,
     )

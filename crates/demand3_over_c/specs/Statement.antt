@@ -89,4 +89,4 @@ pub record Demand3OverC : Type 0 where
       → Demand3 d zFactorDefault (toldOf cs) (shownOf cs)
   -- Such lists exist, in any bytes of a state: eleven calm readings are accepted, and the last has ten counted before it.
   pub met : (out : List ℕ) → length out ≡ stateLength
-      → InTurn (krcf-new nought 0 1 out 0 (made out) ∷ eleven (made out)) × InBounds (zOf (eleven (made out))) (toldOf (eleven (made out))) × (accepted (toldOf (eleven (made out))) ≡ 11)
+      → InTurn (krcf-new nought 0 1 out 0 (made out) ∷ eleven (made out)) × ZUnset (eleven (made out)) × InBounds (zOf (eleven (made out))) (toldOf (eleven (made out))) × (accepted (toldOf (eleven (made out))) ≡ 11)
