@@ -1,4 +1,3 @@
 mod Printed
 mod Bounds
-mod Counting
 pub mod Demand3

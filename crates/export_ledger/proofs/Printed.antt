@@ -16,7 +16,8 @@ use Rattle.score_rows.specs.Text.{header, row}
 use Rattle.watched_rows.specs.Deciding.{isWatched, goesOn, firstNumber}
 use Rattle.export_rows.specs.declared.Watch.{Watch}
 use Rattle.export_rows.specs.Output.{watchOf, unwatched, judgedAt, rows, output}
-use Rattle.export_ledger.specs.Statement.{judgedFrom, judged, lines, End, Counts, Full, Bad, endLine}
+use Rattle.watch_ledger.specs.Statement.{lines}
+use Rattle.export_ledger.specs.Statement.{judgedFrom, judged, End, Counts, Full, Bad, endLine}
 
 -- What is printed of the rows from number n on, so many of the drawer's being judged still.
 pub record Printed (n : ℕ) (w : Watch) (most : ℕ) (rs : List Row) : Type 0 where

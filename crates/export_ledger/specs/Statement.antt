@@ -1,24 +1,19 @@
 -- "The ledger comparison covers CSV-fed drawers, every score read being of its sizes": demand 3's statement for every input of the export watch, without a premise on it.
 use mathlib.Core.Path.{_≡_}
-use mathlib.Core.Bool.{false, cond}
+use mathlib.Core.Bool.{cond}
 use mathlib.Core.List.{List, [], _∷_, _++_}
 use Prim.Native.Nat.{ℕ, zero, suc, _+_}
-use lib.Ieee.{Float, ofBits, binary64}
+use lib.Ieee.{ofBits, binary64}
 use Rattle.types.specs.declared.Refusal.{Refusal}
-use Rattle.basicthresholder.specs.declared.BasicThresholder.{BasicThresholder}
 use Rattle.csv_rows.specs.declared.Row.{Row}
 use Rattle.csv_rows.specs.declared.Row.the-variants.{Nothing, Header, Sound, Faulty}
 use Rattle.csv_rows.specs.Rows.{readingsOf}
-use Rattle.score_rows.specs.Watching.{settings, three32, shown, counted}
-use Rattle.score_rows.specs.Text.{header, row, badLine, badRow, counts}
+use Rattle.score_rows.specs.Watching.{settings, three32}
+use Rattle.score_rows.specs.Text.{header, badLine, badRow, counts}
 use Rattle.watched_rows.specs.Deciding.{isWatched, firstNumber}
 use Rattle.export_rows.specs.Output.{output}
-use Rattle.ledger.specs.Statement.{Judge, told, showed, mostReadings, Demand3}
-
--- A row that is judged: its number in the input, and its score.
-pub record Reading : Type 0 where
-  pub number : ℕ
-  pub score : Float
+use Rattle.ledger.specs.Statement.{told, showed, mostReadings, Demand3}
+use Rattle.watch_ledger.specs.Statement.{Reading, watch, lines}
 
 -- The rows of the watched drawer that are judged, of the rows from number n on: at most so many, and none behind a faulty row. (`Nothing` is no row.) The drawer is 0 before the first row below
 -- the header, whose drawer is the watched one.
@@ -36,22 +31,6 @@ judgedFrom n drawer (suc most) (Sound e ∷ rest) =
 
 unfoldable pub judged : List ℕ → List Reading
 judged input = judgedFrom firstNumber 0 mostReadings (readingsOf input)
-
--- The export watch as a judge: no reading is refused, and a row prints its threshold and its grade, which is the opening grade and the one that the reading ends with.
-abbrev pub watch : Judge
-watch = record {
-  State = BasicThresholder;
-  Reading = Reading;
-  refused = λ s r. false;
-  score = λ r. r .score;
-  next = λ s r. counted s (r .score);
-  shown = λ s r. record { threshold = shown s (r .score) .threshold; opening = shown s (r .score) .grade; ends = shown s (r .score) .grade };
-}
-
--- The lines of judged rows: each with its number, and what the watch shows of its score.
-unfoldable pub lines : BasicThresholder → List Reading → List ℕ
-lines s [] = []
-lines s (r ∷ rs) = row (r .number) (shown s (r .score)) ++ lines (counted s (r .score)) rs
 
 -- How an output ends: with the counts, with the line of the drawer's 65,537th sound row, or with that of a faulty row. The line of a judged row begins with a digit and these
 -- with a letter, so that no such line can hide among them.

@@ -26,14 +26,14 @@ pub fn wrapping_mul_u64(a: u64, b: u64) -> u64
 }
 
 // The state behind a state.
-pub fn next(state: u64) -> u64
+fn next(state: u64) -> u64
     ensures { λ r. ⌜ r ≡ Recurrence.next state ⌝ }
 {
     std::num::wrapping_add_u64(wrapping_mul_u64(state, MULTIPLIER), INCREMENT)
 }
 
 // The top 24 bits over 2^24, which every `f32` of that size holds exactly.
-pub fn score(state: u64) -> f32
+fn score(state: u64) -> f32
     ensures { λ r. ⌜ r ≡ Recurrence.score state ⌝ }
 {
     let top = state / 0x100_0000_0000;

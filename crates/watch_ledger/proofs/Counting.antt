@@ -20,7 +20,7 @@ use Rattle.basicthresholder.specs.declared.BasicThresholder.{BasicThresholder}
 use Rattle.basicthresholder.specs.Updates.{countedGap, countedOver, primaryCounted, countsOk, updated, updatePrimary}
 use Rattle.score_rows.specs.Watching.{settings, counted}
 use Rattle.ledger.specs.Statement.{Judge, Told, Shown, told, showed}
-use Rattle.export_ledger.specs.Statement.{Reading, watch}
+use Rattle.watch_ledger.specs.Statement.{Reading, watch}
 
 -- The judge that counts every score but zeros.
 abbrev pub steady : Judge

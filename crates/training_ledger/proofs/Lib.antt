@@ -1,0 +1,5 @@
+mod Scores
+mod Bounds
+mod Lines
+mod Printed
+pub mod Theorems

@@ -1,0 +1,4 @@
+mod Counting
+mod Bounds
+pub mod Sizes
+pub mod Demand3
