@@ -10,10 +10,10 @@ use lib.ListN.{length}
 use borrow.Author.Tests.{ltb-true, eqb-true}
 use Rattle.score_rows.specs.Feeding as Feeding
 use Rattle.score_rows.proofs.Feeding.{fed-append, still-fed}
-use Rattle.score_lines.specs.Output.{digitOf, isDigit}
+use Rattle.score_lines.specs.Output.{isDigit}
 use Rattle.training_lines.specs.declared.Run.{Run}
 use Rattle.training_lines.specs.declared.Run.the-variants.{Seed, Count, Both, Bad}
-use Rattle.training_lines.specs.Feeding.{begin, pushed, seedStep, countStep, step, isOver, fed, closing, NoMore}
+use Rattle.training_lines.specs.Feeding.{begin, seedStep, countStep, step, isOver, fed, closing, NoMore}
 use Rattle.training_lines.proofs.Whole.{whole}
 
 still : (run : Run) (b : ℕ) → isOver run ≡ true → step run b ≡ run

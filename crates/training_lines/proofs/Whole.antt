@@ -1,18 +1,16 @@
 -- A run that is fed its input prints `output` of it. Assumes nothing.
-use mathlib.Core.Path.{_≡_, refl, sym, ap, _∙_}
+use mathlib.Core.Path.{_≡_, refl, ap, _∙_}
 use mathlib.Core.Bool.{Bool, true, false, cond, _&&_}
 use mathlib.Core.List.{List, [], _∷_}
-use Prim.Native.Nat.{ℕ, _+_, _^_, _≤_, _<_}
+use Prim.Native.Nat.{ℕ, _+_}
 use native.Mathlib.Omega.{arith}
 use lib.Dec.{leb, ltb, eqb}
 use lib.ListN.{length}
 use borrow.Author.Tests.{ne-eqb, le-leb, lt-leb}
 use Rattle.score_rows.specs.Text.{badLine}
-use Rattle.score_rows.specs.Feeding as Feeding
 use Rattle.score_rows.proofs.Feeding.{still-fed}
-use Rattle.score_lines.specs.Output.{digitOf, isDigit, allDigits, number, linesFrom}
+use Rattle.score_lines.specs.Output.{digitOf, isDigit, number, linesFrom}
 use Rattle.score_lines.proofs.Numbers.{Good, Faulty, long, odd, and-no, nothing-yet}
-use Rattle.training_lines.specs.declared.Run.{Run}
 use Rattle.training_lines.specs.declared.Run.the-variants.{Seed, Count, Both, Bad}
 use Rattle.training_lines.specs.Output.{isSeed, seedOf, isCount, countOf, load, behindSeed, printed, output}
 use Rattle.training_lines.specs.Feeding.{begin, pushed, seedStep, countStep, step, fed, asked, closing, Whole}

@@ -5,7 +5,6 @@
 
 use std::error::Error;
 use std::fs;
-use std::path::Path;
 use std::process::Command;
 
 use crate::process::once;
@@ -28,16 +27,19 @@ pub fn write() -> Result<(), Box<dyn Error>> {
     Ok(())
 }
 
-/// The best times of ours and of both plain ones, in ns.
-fn best(own: &Path, input: &Path) -> Result<[f64; 3], Box<dyn Error>> {
+/// The best times for so many lines, of ours and of both plain ones, in ns.
+fn best(seed: u64, lines: u32) -> Result<[f64; 3], Box<dyn Error>> {
+    let own = std::env::current_exe()?;
+    let input = own.with_file_name("training");
+    fs::write(&input, format!("{seed:016x}\n{lines}\n"))?;
     let plain = |word: &str| {
-        let mut program = Command::new(own);
+        let mut program = Command::new(&own);
         program.arg(word);
-        once(program, input)
+        once(program, &input)
     };
     let mut best = [f64::INFINITY; 3];
     for _ in 0..ROUNDS {
-        let ours = once(Command::new("target/bin/training_load"), input)?;
+        let ours = once(Command::new("target/bin/training_load"), &input)?;
         let runs = [ours, plain(PLAIN)?, plain(BY_HAND)?];
         let same = runs.iter().all(|run| run.0 == runs[0].0);
         assert!(same, "the training loads print the same");
@@ -48,26 +50,25 @@ fn best(own: &Path, input: &Path) -> Result<[f64; 3], Box<dyn Error>> {
     Ok(best)
 }
 
+fn show(what: &str, places: usize, [ours, rust, hand]: [f64; 3]) {
+    println!(
+        "training load, {what}, best of {ROUNDS}: ours {ours:.places$}, rust {rust:.places$}, by hand {hand:.places$}"
+    );
+}
+
 pub fn run(random: &mut Random) -> Result<(), Box<dyn Error>> {
-    let own = std::env::current_exe()?;
-    let input = own.with_file_name("training");
     let seed = random.word();
-    fs::write(&input, format!("{seed:016x}\n{LINES}\n"))?;
-    let [a, b, c] = best(&own, &input)?;
-    let rate = |ns: f64| LINES as f64 / ns * 1e9;
+    let all = best(seed, LINES)?;
+    let none = best(seed, 0)?;
+    let lines = LINES as f64;
+    show("lines a second", 0, all.map(|ns| lines / ns * 1e9));
     println!(
-        "training load, lines a second, best of {ROUNDS}: ours {:.0}, rust {:.0}, by hand {:.0}; time ours : rust {:.2}, ours : by hand {:.2}",
-        rate(a),
-        rate(b),
-        rate(c),
-        a / b,
-        a / c
+        "training load, time ours : rust {:.2}, ours : by hand {:.2}",
+        all[0] / all[1],
+        all[0] / all[2]
     );
-    fs::write(&input, format!("{seed:016x}\n0\n"))?;
-    let none = best(&own, &input)?.map(|ns| ns / 1e3);
-    println!(
-        "training load, no lines, us: ours {:.0}, rust {:.0}, by hand {:.0}",
-        none[0], none[1], none[2]
-    );
+    show("us without a line", 0, none.map(|ns| ns / 1e3));
+    let more = std::array::from_fn(|k| (all[k] - none[k]) / lines);
+    show("ns a line beyond that", 1, more);
     Ok(())
 }
