@@ -1,4 +1,4 @@
 mod InLine
 pub mod Whole
-mod Taken
+pub mod Taken
 pub mod Load

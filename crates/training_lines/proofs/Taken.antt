@@ -30,7 +30,7 @@ lineEnds (Count seed count digits) = 1
 lineEnds (Both seed count) = 0
 lineEnds (Bad line) = 0
 
-abbrev bytesLeft : Run → ℕ
+abbrev pub bytesLeft : Run → ℕ
 bytesLeft (Seed seed digits) = suc (22 - digits)
 bytesLeft (Count seed count digits) = suc (5 - digits)
 bytesLeft (Both seed count) = 0
@@ -43,7 +43,7 @@ none-over (Count seed count digits) h = absurd (omega arith)
 none-over (Both seed count) h = refl
 none-over (Bad line) h = refl
 
-no-bytes : (run : Run) → bytesLeft run ≤ 0 → isOver run ≡ true
+pub no-bytes : (run : Run) → bytesLeft run ≤ 0 → isOver run ≡ true
 unfolding isOver
 no-bytes (Seed seed digits) h = absurd (omega arith)
 no-bytes (Count seed count digits) h = absurd (omega arith)
@@ -75,7 +75,7 @@ first-true : (t u : Bool) → t && u ≡ true → t ≡ true
 first-true true u e = refl
 first-true false u e = e
 
-byte-taken : (run : Run) (b : ℕ) → bytesLeft (step run b) ≤ bytesLeft run - 1
+pub byte-taken : (run : Run) (b : ℕ) → bytesLeft (step run b) ≤ bytesLeft run - 1
 unfolding step seedStep countStep
 byte-taken (Seed seed digits) b =
     pick bytesLeft (eqb b 10) _ _ (suc (22 - digits) - 1) (λ _. pick bytesLeft (eqb digits 16) _ _ (suc (22 - digits) - 1) (λ e. omega (arith, eqb-true digits 16 e)) (omega arith))

@@ -6,6 +6,9 @@ use libc::STDOUT_FILENO;
 use training_lines::MOST_BYTES;
 use training_lines::ROOM;
 use training_lines::Run;
+ghost use mathlib.Core.Path.{_≡_};
+ghost use mathlib.Core.Bool.{true};
+ghost use Rattle.training_lines.specs.Feeding.{isOver};
 
 // What a read came to.
 enum Turn {
@@ -33,13 +36,20 @@ fn read_byte() -> Turn {
     Turn::Byte(input[0])
 }
 
-// The bytes up to the one that settles it, which is the last of `MOST_BYTES` at the latest.
+// A run that needs no more.
+fn settled(run: Run) -> Lines
+    requires { ⌜ isOver run ≡ true ⌝ }
+{
+    Lines::Read(run)
+}
+
+// The bytes up to the one that settles it, or the end of the input. `MOST_BYTES` of them settle it: the check asks for that.
 fn read_lines() -> Lines {
     let mut run = training_lines::begin();
     let mut left = MOST_BYTES;
     while left > 0 {
         if training_lines::is_over(run) {
-            return Lines::Read(run);
+            return settled(run);
         }
         let turn = read_byte();
         match turn {
@@ -55,7 +65,7 @@ fn read_lines() -> Lines {
         }
         left -= 1;
     }
-    Lines::Read(run)
+    settled(run)
 }
 
 fn print(run: Run) {
