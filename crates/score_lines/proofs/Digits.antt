@@ -30,7 +30,7 @@ module _ (line : List ℕ) (good : Good 16 8 line) where
   behind : number 16 1 line ≡ 16 ^ length line + number 16 0 line
   behind = number-split 1 0 line ∙ ap (λ (m : ℕ). m + number 16 0 line) (one-mul (16 ^ length line))
 
-  pub part-room : length line < 8 → number 16 1 line < 0x1_0000_0000
+  part-room : length line < 8 → number 16 1 line < 0x1_0000_0000
   part-room h =
       let p : 16 ^ length line ≤ 16 ^ 7 = pow-le-pow-right {n = 16} (omega arith) {i = length line} {j = 7} (omega arith) in
       omega (arith, p, behind, below line good)
@@ -41,7 +41,7 @@ module _ (line : List ℕ) (good : Good 16 8 line) where
   pub part-begun : 0 < length line → 16 ≤ number 16 1 line
   part-begun h = let p : 16 ^ 1 ≤ 16 ^ length line = pow-le-pow-right {n = 16} (omega arith) {i = 1} {j = length line} (omega arith) in omega (arith, p, behind)
 
-  pub part-full : length line ≡ 8 → (number 16 1 line ≡ 0x1_0000_0000 + number 16 0 line) × (number 16 0 line < 0x1_0000_0000)
+  part-full : length line ≡ 8 → (number 16 1 line ≡ 0x1_0000_0000 + number 16 0 line) × (number 16 0 line < 0x1_0000_0000)
   part-full e = let p : 16 ^ length line ≡ 0x1_0000_0000 = ap (λ (k : ℕ). 16 ^ k) e in (omega (arith, p, behind), omega (arith, p, below line good))
 
   few-lines : (m : ℕ) (t : Bool) → ltb m 65536 ≡ t → leb (m + 1) 65536 ≡ t

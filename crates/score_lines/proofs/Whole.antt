@@ -94,7 +94,7 @@ last-line a line s q r good =
     ∙ whole-line [] nothing-left (a ∷ line) s q r good
 
 -- A faulty line is bad, whatever follows.
-either : {A B : Type 0} (f : A → B) (t : Bool) (x y : A) (z : B) → f x ≡ z → f y ≡ z → f (cond t x y) ≡ z
+pub either : {A B : Type 0} (f : A → B) (t : Bool) (x y : A) (z : B) → f x ≡ z → f y ≡ z → f (cond t x y) ≡ z
 either f true x y z e h = e
 either f false x y z e h = h
 

@@ -15,6 +15,7 @@ use Rattle.training_ledger.specs.Statement.{numbered, OfScoreWatch, Trai
 use Rattle.training_ledger.proofs.Scores.{sizes, all-sound, as-many}
 use Rattle.training_ledger.proofs.Bounds.{in-bounds, numbered-length, numbered-sized}
 use Rattle.training_ledger.proofs.Printed.{printed-from}
+use Rattle.training_ledger.proofs.Inputs.{of-inputs}
 
 of-score-watch : (seed count : ℕ) → count ≤ 65536 → OfScoreWatch seed count
 unfolding output load
@@ -32,6 +33,7 @@ of-score-watch seed count h =
 
 pub training-ledger : TrainingLedger
 training-ledger = record {
+  of-inputs = of-inputs;
   sizes = λ state h. sizes state (omega arith);
   in-bounds = λ seed count h. in-bounds seed count (omega arith);
   of-score-watch = λ seed count h. of-score-watch seed count (omega arith);

@@ -13,11 +13,11 @@ use Rattle.ledger.specs.Statement.{Told, told, showed, mostReadings, Sized, InB
 use Rattle.predictorcorrector.specs.declared.Updated.{Updated}
 use Rattle.demand3.specs.Calls.{Call, new, InTurn, zOf, toldOf, shownOf}
 use Rattle.score_rows.specs.Watching.{settings, three32}
-use Rattle.score_rows.specs.Text.{header, counts}
+use Rattle.score_rows.specs.Text.{header, badLine, counts}
 use Rattle.score_lines.specs.Output as ScoreWatch
 use Rattle.watch_ledger.specs.Statement.{Reading, watch, lines}
 use Rattle.training_scores.specs.Recurrence.{score, scores}
-use Rattle.training_lines.specs.Output.{load}
+use Rattle.training_lines.specs.Output.{load, output}
 
 -- A score that is not zero: at least 2 ^ -24, below 1, and so of the ledger's sizes.
 pub record Positive (x : Float) : Type 0 where
@@ -43,7 +43,16 @@ pub record OfScoreWatch (seed count : ℕ) : Type 0 where
   pub printed : ScoreWatch.output (load seed count) ≡ header ++ (lines settings (numbered 1 (scores seed count)) ++ counts quiet raised)
   pub agree : Demand3 (ofBits binary64 0) three32 (told watch settings (numbered 1 (scores seed count))) (showed watch settings (numbered 1 (scores seed count)))
 
+-- A load of at most so many lines as demand 3 has readings.
+pub record Loaded (text : List ℕ) : Type 0 where
+  pub seed : ℕ
+  pub count : ℕ
+  pub most : count ≤ mostReadings
+  pub printed : text ≡ load seed count
+
 pub record TrainingLedger : Type 0 where
+  -- Whatever the input, it prints a bad line or such a load.
+  pub of-inputs : (input : List ℕ) → (output input ≡ badLine 1) ⊎ ((output input ≡ badLine 2) ⊎ Loaded (output input))
   pub sizes : (state : ℕ) → state < 2 ^ 64 → (score state ≡ plusZero) ⊎ Positive (score state)
   -- Whoever is told the load's scores, refused or not, is within demand 3's bounds on readings.
   pub in-bounds : (seed count : ℕ) → count ≤ mostReadings → (z : Float) → T (lt zero32 z) → T (le z sixteen32)

@@ -12,6 +12,7 @@ use Rattle.score_rows.specs.Feeding as Feeding
 use Rattle.score_rows.proofs.Feeding.{still-fed}
 use Rattle.score_lines.specs.Output.{digitOf, isDigit, number, linesFrom}
 use Rattle.score_lines.proofs.Numbers.{Good, Faulty, Pushed, more, spoilt, push-one, faulty-snoc, number-snoc, below}
+use Rattle.score_lines.proofs.Whole.{either}
 use Rattle.training_lines.specs.declared.Run.{Run}
 use Rattle.training_lines.specs.declared.Run.the-variants.{Bad}
 use Rattle.training_lines.specs.Feeding.{pushed, step, fed, closing}
@@ -22,15 +23,11 @@ unfolding step closing
 bad-closing line bs = ap closing (still-fed step (Bad line) bs (λ b. refl))
 
 -- The number of a line that fits 64 bits does not wrap.
-pub no-wrap : (base most : ℕ) → 0 < base → base ^ most ≤ 2 ^ 64 → (line : List ℕ) (b : ℕ) → Good base most (line ++ (b ∷ []))
+no-wrap : (base most : ℕ) → 0 < base → base ^ most ≤ 2 ^ 64 → (line : List ℕ) (b : ℕ) → Good base most (line ++ (b ∷ []))
     → pushed (number base 0 line) base (digitOf b) ≡ number base 0 (line ++ (b ∷ []))
 no-wrap base most p room line b good =
     let l : base ^ length (line ++ (b ∷ [])) ≤ 2 ^ 64 = le-trans (pow-le-pow-right {n = base} p (good .short)) room in
     ap (λ (n : ℕ). n % 2 ^ 64) (sym (number-snoc base 0 line b)) ∙ mod-eq-of-lt (lt-of-lt-of-le (below (line ++ (b ∷ [])) good) l)
-
-either : {A B : Type 0} (f : A → B) (t : Bool) (x y : A) (z : B) → f x ≡ z → f y ≡ z → f (cond t x y) ≡ z
-either f true x y z e h = e
-either f false x y z e h = h
 
 -- The line's base and most digits, the run in it, its number where it is bad, and what is due for a list of lines that begins with it.
 module _ (base most : ℕ) (inLine : ℕ → ℕ → Run) (bad : ℕ) (due : List (List ℕ) → List ℕ)

@@ -32,14 +32,14 @@ pub load-none : (seed : ℕ) → load seed 0 ≡ []
 unfolding load scores lines
 load-none seed = refl
 
-pub load-last : (seed n : ℕ) → load seed (suc n) ≡ load seed n ++ scoreLine (score (next (after seed n)))
+load-last : (seed n : ℕ) → load seed (suc n) ≡ load seed n ++ scoreLine (score (next (after seed n)))
 unfolding load scores lines after
 load-last seed zero = append-nil (scoreLine (score (next seed)))
 load-last seed (suc n) =
     ap (λ (l : List ℕ). scoreLine (score (next seed)) ++ l) (load-last (next seed) n)
     ∙ sym (append-assoc (scoreLine (score (next seed))) (load (next seed) n) (scoreLine (score (next (after (next seed) n)))))
 
-pub load-length : (seed n : ℕ) → length (load seed n) ≡ 9 * n
+load-length : (seed n : ℕ) → length (load seed n) ≡ 9 * n
 load-length seed zero = ap length (load-none seed)
 load-length seed (suc n) = ap length (load-last seed n) ∙ simp (length-append, line-length) (omega (arith, load-length seed n))
 

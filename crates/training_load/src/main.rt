@@ -43,7 +43,7 @@ fn settled(run: Run) -> Lines
     Lines::Read(run)
 }
 
-// The bytes up to the one that settles it, or the end of the input. `MOST_BYTES` of them settle it: the check asks for that.
+// The bytes up to the one with which the run is over, or the end of the input. With `MOST_BYTES` of them it is over: `settled` asks for that.
 fn read_lines() -> Lines {
     let mut run = training_lines::begin();
     let mut left = MOST_BYTES;

@@ -14,7 +14,7 @@ use lib.Ieee.Scale.{round-same}
 use Rattle.training_scores.specs.Recurrence.{top, score}
 use Rattle.training_scores.specs.Exact.{ExactScores}
 
-pub top-small : (state : ℕ) → state < 2 ^ 64 → top state < 2 ^ 24
+top-small : (state : ℕ) → state < 2 ^ 64 → top state < 2 ^ 24
 unfolding top
 top-small state h = div-lt-iff-lt-mul {k = 2 ^ 40} {x = state} {y = 2 ^ 24} (omega arith) .1 h
 

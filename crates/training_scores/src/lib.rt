@@ -32,7 +32,7 @@ fn next(state: u64) -> u64
     std::num::wrapping_add_u64(wrapping_mul_u64(state, MULTIPLIER), INCREMENT)
 }
 
-// The top 24 bits over 2^24, which every `f32` of that size holds exactly.
+// The top 24 bits over 2^24, a fraction that an `f32` holds exactly.
 fn score(state: u64) -> f32
     ensures { λ r. ⌜ r ≡ Recurrence.score state ⌝ }
 {
