@@ -9,6 +9,7 @@ use training_lines::Run;
 ghost use mathlib.Core.Path.{_≡_};
 ghost use mathlib.Core.Bool.{true};
 ghost use Rattle.training_lines.specs.Feeding.{isOver};
+ghost use Rattle.training_load.specs.declared.Lines.the-variants as Variants;
 
 // What a read came to.
 enum Turn {
@@ -39,6 +40,7 @@ fn read_byte() -> Turn {
 // A run that needs no more.
 fn settled(run: Run) -> Lines
     requires { ⌜ isOver run ≡ true ⌝ }
+    ensures { λ r. ⌜ r ≡ Variants.Read run ⌝ }
 {
     Lines::Read(run)
 }
