@@ -146,13 +146,13 @@ passed-over c (Rows.Sound x) going e =
 pub text-length : (n : ℕ) (l : Line) → length (Taking.text n l) ≤ longest
 unfolding Taking.text
 text-length n Lines.Nothing = omega arith
-text-length n (Lines.Shown g) = row-length n g
+text-length n (Lines.Shown k) = row-length n k
 text-length n Lines.Full = bad-line-length n
 text-length n (Lines.Faulty why) = bad-row-length n why
 
 pub total-length : (c : Course) → length (totalSaid c) ≤ longest
 unfolding totalSaid
-total-length c = cond-length (Taking.isOpen (c .ending)) longest (counts (c .watch .quiet) (c .watch .raised)) [] (counts-length (c .watch .quiet) (c .watch .raised)) (omega arith)
+total-length c = cond-length (Taking.isOpen (c .ending)) longest (counts (c .watch .counts)) [] (counts-length (c .watch .counts)) (omega arith)
 
 -- Reading on moves on.
 next-from : (bs : List ℕ) (s : Scan) (i : ℕ) → i ≤ readOn s i bs .next

@@ -48,7 +48,7 @@ printed run bs = Feeding.printed step said run bs
 
 -- The counts, unless the run is over.
 unfoldable pub totalSaid : Course → List ℕ
-totalSaid c = cond (Taking.isOpen (c .ending)) (counts (c .watch .quiet) (c .watch .raised)) []
+totalSaid c = cond (Taking.isOpen (c .ending)) (counts (c .watch .counts)) []
 
 -- The end of the input: a last row without a line end, then the counts.
 unfoldable pub closed : Run → Run

@@ -26,12 +26,12 @@ pub struct Fed {
 
 // Writes what the row with that number prints over `out` from the place `at`, and answers the place behind it.
 fn write_line(out: &mut [u8], at: usize, number: u64, line: Line) -> usize
-    requires { ⌜ at + 55 ≤ length (now out) ⌝ }
+    requires { ⌜ at + 84 ≤ length (now out) ⌝ }
     ensures { λ r. ⌜ Steps.Put (now (out .entry)) at (Taking.text number line) r (now (out .exit)) ⌝ }
 {
     match line {
         Line::Nothing => at,
-        Line::Shown(shown) => score_rows::write_row(out, at, number, shown),
+        Line::Shown(kind) => score_rows::write_row(out, at, number, kind),
         Line::Full => score_rows::write_bad_line(out, at, number),
         Line::Faulty(why) => score_rows::write_bad_row(out, at, number, why),
     }
@@ -39,7 +39,7 @@ fn write_line(out: &mut [u8], at: usize, number: u64, line: Line) -> usize
 
 // A part of the input, row by row. Most rows are other drawers', so what these do stands apart.
 fn read(run: Run, input: &[u8], out: &mut [u8]) -> Fed
-    requires { ⌜ 55 * length (now input) ≤ length (now out) ⌝ }
+    requires { ⌜ 84 * length (now input) ≤ length (now out) ⌝ }
     ensures { λ r. ⌜ r .run ≡ Feeding.fed run (now (input .entry)) ⌝ ∗ ⌜ Steps.Put (now (out .entry)) 0 (Feeding.printed run (now (input .entry))) (r .written) (now (out .exit)) ⌝ }
 {
     let mut scan = run.scan;
@@ -74,19 +74,18 @@ fn read(run: Run, input: &[u8], out: &mut [u8]) -> Fed
 
 // The counts, unless the run is over.
 fn total(course: Course, out: &mut [u8], at: usize) -> usize
-    requires { ⌜ at + 55 ≤ length (now out) ⌝ }
+    requires { ⌜ at + 84 ≤ length (now out) ⌝ }
     ensures { λ r. ⌜ Steps.Put (now (out .entry)) at (Feeding.totalSaid course) r (now (out .exit)) ⌝ }
 {
     if export_rows::is_open(course) {
-        let watch = course.watch;
-        return score_rows::write_counts(out, at, watch.quiet as u64, watch.raised as u64);
+        return score_rows::write_counts(out, at, course.watch.counts);
     }
     at
 }
 
 // The end of the input: a last row without a line end is judged, then the counts.
 fn close(run: Run, out: &mut [u8]) -> Fed
-    requires { ⌜ 110 ≤ length (now out) ⌝ }
+    requires { ⌜ 168 ≤ length (now out) ⌝ }
     ensures { λ r. ⌜ r .run ≡ Feeding.closed run ⌝ ∗ ⌜ Steps.Put (now (out .entry)) 0 (Feeding.closing run) (r .written) (now (out .exit)) ⌝ }
 {
     let course = run.course;

@@ -1,14 +1,15 @@
 -- The ledger's theorem for the export watch. Assumes nothing.
+use mathlib.Core.Path.{refl}
+use native.Mathlib.Omega.{arith}
 use Rattle.csv_rows.specs.Rows.{readingsOf}
 use Rattle.csv_rows.proofs.Sizes.{sized-scores}
 use Rattle.watch_ledger.proofs.Demand3 as Watch
-use Rattle.export_ledger.specs.Statement.{judged, Demand3OfExports}
-use Rattle.export_ledger.proofs.Printed.{whole}
+use Rattle.export_rows.specs.Output.{sheet, output}
+use Rattle.export_ledger.specs.Statement.{Demand3OfExports}
 use Rattle.export_ledger.proofs.Bounds.{fits-from}
 
 pub demand-3 : Demand3OfExports
-unfolding judged
+unfolding sheet output
 demand-3 input =
-    let p = whole input in
-    let f = fits-from (readingsOf input) 1 0 65536 (sized-scores input) in
-    record { end = p .0; printed = p .1; agree = Watch.demand-3 (judged input) (f .short) (f .sized) }
+    let f = fits-from (readingsOf input) 1 0 0 (omega arith) (sized-scores input) in
+    record { printed = refl; agree = Watch.demand-3 (sheet input .readings) (omega (arith, f .short)) (f .sized) }

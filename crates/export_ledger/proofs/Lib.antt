@@ -1,3 +1,2 @@
-mod Printed
 mod Bounds
 pub mod Demand3

@@ -5,7 +5,11 @@ use mathlib.Core.List.{List, []}
 use Rattle.csv_rows.specs.declared.Entry.{Entry}
 use Rattle.csv_rows.specs.declared.Row.{Row}
 use Rattle.csv_rows.specs.declared.Row.the-variants as Rows
-use Rattle.score_rows.specs.Watching.{shown}
+use Rattle.basicthresholder.specs.declared.BasicThresholder.{BasicThresholder}
+use Rattle.score_rows.specs.declared.Kind.{Kind}
+use Rattle.score_rows.specs.declared.Counts.{Counts}
+use Rattle.score_rows.specs.Watching.{settings, kindOf, counted}
+use Rattle.score_rows.specs.Counting.{lines, noLines, oneMore}
 use Rattle.score_rows.specs.Text.{row, badLine, badRow}
 use Rattle.watched_rows.specs.Deciding.{isWatched, goesOn, firstNumber, nextNumber}
 use Rattle.export_rows.specs.declared.Watch.{Watch}
@@ -15,7 +19,17 @@ use Rattle.export_rows.specs.declared.Course.{Course}
 use Rattle.export_rows.specs.declared.Line.{Line}
 use Rattle.export_rows.specs.declared.Line.the-variants as Lines
 use Rattle.export_rows.specs.declared.Taken.{Taken}
-use Rattle.export_rows.specs.Output.{unwatched, judgedAt}
+
+abbrev pub watchOf : BasicThresholder → ℕ → Counts → Watch
+watchOf s drawer c = record { thresholder = s; drawer = drawer; counts = c }
+
+-- Before the first row: no drawer has the number 0.
+unfoldable pub unwatched : Watch
+unwatched = watchOf settings 0 noLines
+
+-- The watch with one more row of its drawer, of that kind.
+unfoldable pub withRow : Watch → Entry → Kind → Watch
+withRow w e k = watchOf (counted (w .thresholder) (e .score)) (e .drawer) (oneMore (w .counts) k)
 
 abbrev pub courseOf : Watch → ℕ → Ending → Course
 courseOf watch row ending = record { watch = watch; row = row; ending = ending }
@@ -48,13 +62,13 @@ isPassedOver drawer Rows.Header = false
 isPassedOver drawer (Rows.Sound e) = not (isWatched drawer (e .drawer))
 isPassedOver drawer (Rows.Faulty why) = false
 
--- A sound row: judged where it is the watched drawer's, else passed over.
+-- A sound row: judged or skipped where it is the watched drawer's, else passed over.
 unfoldable pub sound : Course → Entry → Taken
 sound c e =
     cond (isWatched (c .watch .drawer) (e .drawer))
-    (cond (goesOn (c .watch .quiet) (c .watch .raised))
-    (let g = shown (c .watch .thresholder) (e .score) in
-    takenOf (passed c (judgedAt (c .watch) e (g .grade))) (Lines.Shown g))
+    (cond (goesOn (lines (c .watch .counts)))
+    (let k = kindOf (c .watch .thresholder) (e .score) in
+    takenOf (passed c (withRow (c .watch) e k)) (Lines.Shown k))
     (takenOf (ended c Endings.Full) Lines.Full))
     (takenOf (passed c (c .watch)) Lines.Nothing)
 
@@ -76,6 +90,6 @@ totalled c = cond (isOpen (c .ending)) (ended c Endings.Counted) c
 -- What the row with the number n prints.
 unfoldable pub text : ℕ → Line → List ℕ
 text n Lines.Nothing = []
-text n (Lines.Shown g) = row n g
+text n (Lines.Shown k) = row n k
 text n Lines.Full = badLine n
 text n (Lines.Faulty why) = badRow n why

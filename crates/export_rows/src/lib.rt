@@ -1,20 +1,20 @@
 // The export watch row by row: what a row of a cabinet's export does to the run, and what it prints. Bytes are read below, in `csv_rows`, and written above.
 use basicthresholder::BasicThresholder;
-use basicthresholder::Graded;
 use csv_rows::Entry;
 use csv_rows::Row;
+use score_rows::Counts;
+use score_rows::Kind;
 use types::Refusal;
 ghost use mathlib.Core.Path.{_≡_};
-ghost use Prim.Native.Nat.{_+_, _<_};
-ghost use Rattle.export_rows.specs.Output as Output;
+ghost use Prim.Native.Nat.{_<_};
+ghost use Rattle.score_rows.specs.Counting as Counting;
 ghost use Rattle.export_rows.specs.Taking as Taking;
 
-// What a run knows of the drawer that it watches: its number, or 0 before the first row; its statistics; how many of its rows were quiet and raised.
+// What a run knows of the drawer that it watches: its number, or 0 before the first row; its statistics; how many of its rows were of each kind.
 pub struct Watch {
     pub thresholder: BasicThresholder,
     pub drawer: u32,
-    pub quiet: u32,
-    pub raised: u32,
+    pub counts: Counts,
 }
 
 // How a run stands: it goes on; a row was faulty; the drawer has too many rows; the input ended and the counts were given.
@@ -35,7 +35,7 @@ pub struct Course {
 // What a row prints, its number apart.
 pub enum Line {
     Nothing,
-    Shown(Graded),
+    Shown(Kind),
     Full,
     Faulty(Refusal),
 }
@@ -54,8 +54,7 @@ pub fn begin() -> Course
         watch: Watch {
             thresholder: score_rows::settings(),
             drawer: 0,
-            quiet: 0,
-            raised: 0,
+            counts: score_rows::no_lines(),
         },
         row: watched_rows::first_number(),
         ending: Ending::Open,
@@ -110,39 +109,29 @@ pub fn is_passed_over(drawer: u32, row: Row) -> bool
     }
 }
 
-// The watch after a row of its drawer that shows that grade.
-fn judged(watch: Watch, entry: Entry, grade: f32) -> Watch
-    requires { ⌜ watch .quiet + watch .raised < 65536 ⌝ }
-    ensures { λ r. ⌜ r ≡ Output.judgedAt watch entry grade ⌝ }
+// The watch after a row of its drawer, of that kind.
+fn with_row(watch: Watch, entry: Entry, kind: Kind) -> Watch
+    requires { ⌜ Counting.lines (watch .counts) < 65536 ⌝ }
+    ensures { λ r. ⌜ r ≡ Taking.withRow watch entry kind ⌝ }
 {
-    let thresholder = score_rows::counted(watch.thresholder, entry.score);
-    if grade == 0.0 {
-        return Watch {
-            thresholder,
-            drawer: entry.drawer,
-            quiet: watch.quiet + 1,
-            raised: watch.raised,
-        };
-    }
     Watch {
-        thresholder,
+        thresholder: score_rows::counted(watch.thresholder, entry.score),
         drawer: entry.drawer,
-        quiet: watch.quiet,
-        raised: watch.raised + 1,
+        counts: score_rows::with_line(watch.counts, kind),
     }
 }
 
-// A sound row: judged where it is the watched drawer's, else passed over.
+// A sound row: judged or skipped where it is the watched drawer's, else passed over.
 fn sound(course: Course, entry: Entry) -> Taken
     ensures { λ r. ⌜ r ≡ Taking.sound course entry ⌝ }
 {
     let watch = course.watch;
     if watched_rows::is_watched(watch.drawer, entry.drawer) {
-        if watched_rows::goes_on(watch.quiet, watch.raised) {
-            let shown = score_rows::shown(watch.thresholder, entry.score);
+        if watched_rows::goes_on(score_rows::lines(watch.counts)) {
+            let kind = score_rows::kind_of(watch.thresholder, entry.score);
             return Taken {
-                course: passed(course, judged(watch, entry, shown.grade)),
-                line: Line::Shown(shown),
+                course: passed(course, with_row(watch, entry, kind)),
+                line: Line::Shown(kind),
             };
         }
         return Taken {

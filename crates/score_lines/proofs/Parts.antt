@@ -13,6 +13,7 @@ use Rattle.score_lines.specs.declared.Line.{Line}
 use Rattle.score_lines.specs.declared.Line.the-variants.{Score, Fault}
 use Rattle.score_lines.specs.declared.Run.{Run}
 use Rattle.score_lines.specs.declared.Fed.{Fed}
+use Rattle.score_rows.specs.Counting.{lines}
 use Rattle.score_rows.specs.Text.{badLine, counts, longest}
 use Rattle.score_lines.specs.Feeding.{runOf, lineNumber, pushed, lineOf, ended, lineEnded, lineSaid, saidBy, taken, takenSaid, step, said, totalSaid, Prints}
 use Rattle.score_rows.specs.Steps.{Put}
@@ -36,7 +37,7 @@ said-by-length run (Score x) = row-length (lineNumber run) _
 
 pub line-said-length : (run : Run) → length (lineSaid run) ≤ longest
 unfolding lineSaid
-line-said-length run = said-by-length run (lineOf (run .quiet + run .raised) (run .part))
+line-said-length run = said-by-length run (lineOf (lines (run .counts)) (run .part))
 
 pub said-length : (run : Run) (b : ℕ) → length (said run b) ≤ longest
 unfolding said takenSaid
@@ -47,7 +48,7 @@ said-length run b =
 
 pub total-length : (run : Run) → length (totalSaid run) ≤ longest
 unfolding totalSaid
-total-length run = cond-length (run .over) longest [] (counts (run .quiet) (run .raised)) (omega arith) (counts-length (run .quiet) (run .raised))
+total-length run = cond-length (run .over) longest [] (counts (run .counts)) (omega arith) (counts-length (run .counts))
 
 -- A byte: a line end, a byte that makes the line malformed, a digit.
 module _ (run : Run) (b : ℕ) (going : run .over ≡ false) where
@@ -68,7 +69,7 @@ module _ (run : Run) (b : ℕ) (going : run .over ≡ false) where
     unfolding said takenSaid
     bad-said h = simp (going, ne-eqb b 10 inside, eq-eqb (pushed (run .part) b) 0 h)
 
-    pub digit-step : (pushed (run .part) b ≡ 0 → ⊥) → step run b ≡ runOf (run .thresholder) (run .quiet) (run .raised) (pushed (run .part) b) (run .over)
+    pub digit-step : (pushed (run .part) b ≡ 0 → ⊥) → step run b ≡ runOf (run .thresholder) (run .counts) (pushed (run .part) b) (run .over)
     unfolding step taken
     digit-step h = simp (going, ne-eqb b 10 inside, ne-eqb (pushed (run .part) b) 0 h)
 

@@ -2,18 +2,24 @@
 use mathlib.Core.Path.{_≡_, refl, sym, ap, ap₂, _∙_}
 use mathlib.Core.Bool.{Bool, true, false, cond}
 use mathlib.Core.List.{List, [], _∷_, _++_, append-nil}
-use Prim.Native.Nat.{ℕ, _+_, _≤_}
+use Prim.Native.Nat.{ℕ, suc, _+_, _≤_}
 use native.Mathlib.Omega.{arith}
 use lib.Dec.{eqb}
+use lib.ListN.{length}
 use borrow.Author.Tests.{ne-eqb, eqb-true, eqb-false}
 use Rattle.basicthresholder.specs.declared.BasicThresholder.{BasicThresholder}
 use Rattle.score_lines.specs.declared.Line.{Line}
 use Rattle.score_lines.specs.declared.Line.the-variants.{Score, Fault}
 use Rattle.score_lines.specs.declared.Run.{Run}
-use Rattle.score_rows.specs.Watching.{settings, shown, counted, isQuiet}
+use Rattle.score_rows.specs.declared.Counts.{Counts}
+use Rattle.score_rows.specs.Watching.{settings, kindOf, counted}
+use Rattle.score_rows.specs.Counting.{lines, noLines, oneMore}
 use Rattle.score_rows.specs.Text.{header, row, badLine}
-use Rattle.score_lines.specs.Output.{number, linesFrom, byLine, rows, output}
-use Rattle.score_lines.specs.Feeding.{runOf, begin, pushed, lineOf, judged, ended, endedBy, saidBy, lineEnded, lineSaid, step, said, totalSaid, closing, Whole}
+use Rattle.score_rows.specs.Sheet.{AllRead, Bad, ends, first, lastLine}
+use Rattle.score_rows.proofs.Sheet as Sheets
+use Rattle.score_rows.proofs.Sheet.{one-line-more, behind, behind-ends, behind-first, behind-header}
+use Rattle.score_lines.specs.Output.{number, readLine, linesFrom, byLine, sheetFrom, sheet, output}
+use Rattle.score_lines.specs.Feeding.{runOf, begin, pushed, lineOf, withScore, ended, endedBy, saidBy, lineEnded, lineSaid, step, said, totalSaid, closing, Whole, AddUp}
 use Rattle.score_rows.specs.Feeding as Feeding
 use Rattle.score_rows.specs.Feeding.{joined}
 use Rattle.score_rows.proofs.Feeding as Feeds
@@ -32,131 +38,149 @@ coming-over : (run : Run) (bs : List ℕ) → coming (ended run) bs ≡ []
 unfolding ended closing
 coming-over run bs = Feeds.still-coming step said closing (ended run) bs (over-step (ended run) refl) (over-said (ended run) refl) refl
 
--- What `rows` makes of a line, by what it holds.
-abbrev rowsBy : Line → BasicThresholder → ℕ → ℕ → List (List ℕ) → List ℕ
-rowsBy l s q r rest =
-    byLine l (badLine (q + r + 1))
-    (λ x.
-    let g = shown s x in
-    row (q + r + 1) g ++ rows (q + r + 1 + 1) (counted s x) (cond (isQuiet (g .grade)) (q + 1) q) (cond (isQuiet (g .grade)) r (r + 1)) rest)
+-- What is due of the lines from number n on, from a run with the statistics s and the counts c.
+abbrev due : ℕ → BasicThresholder → Counts → List (List ℕ) → List ℕ
+due n s c ls = behind s c (sheetFrom n ls)
+
+-- By what a line holds.
+abbrev dueBy : Line → ℕ → BasicThresholder → Counts → List (List ℕ) → List ℕ
+dueBy l n s c rest = behind s c (byLine l (ends (Bad n)) (λ x. first n x (sheetFrom (n + 1) rest)))
 
 -- Lines that are still to come, from a run between two lines.
 abbrev Between : List ℕ → Type 0
-Between bs = (s : BasicThresholder) (q r : ℕ) → coming (runOf s q r 1 false) bs ≡ rows (q + r + 1) s q r (linesFrom [] bs)
+Between bs = (s : BasicThresholder) (c : Counts) → coming (runOf s c 1 false) bs ≡ due (lines c + 1) s c (linesFrom [] bs)
 
 module _ (bs : List ℕ) (later : Between bs) where
-  after-score : (s : BasicThresholder) (q r : ℕ) (t : Bool)
-      → coming (cond t (runOf s (q + 1) r 1 false) (runOf s q (r + 1) 1 false)) bs ≡ rows (q + r + 1 + 1) s (cond t (q + 1) q) (cond t r (r + 1)) (linesFrom [] bs)
-  after-score s q r true = later s (q + 1) r ∙ ap (λ (n : ℕ). rows n s (q + 1) r (linesFrom [] bs)) (omega arith)
-  after-score s q r false = later s q (r + 1) ∙ ap (λ (n : ℕ). rows n s q (r + 1) (linesFrom [] bs)) (omega arith)
-
-  by-line : (s : BasicThresholder) (q r part : ℕ) (l : Line)
-      → saidBy (runOf s q r part false) l ++ coming (endedBy (runOf s q r part false) l) bs ≡ rowsBy l s q r (linesFrom [] bs)
-  unfolding saidBy endedBy byLine judged
-  by-line s q r part Fault = ap (λ (l : List ℕ). badLine (q + r + 1) ++ l) (coming-over (runOf s q r part false) bs) ∙ append-nil (badLine (q + r + 1))
-  by-line s q r part (Score x) =
-      ap (λ (l : List ℕ). row (q + r + 1) (shown s x) ++ l) (after-score (counted s x) q r (isQuiet (shown s x .grade)))
+  by-line : (s : BasicThresholder) (c : Counts) (part : ℕ) (l : Line)
+      → saidBy (runOf s c part false) l ++ coming (endedBy (runOf s c part false) l) bs ≡ dueBy l (lines c + 1) s c (linesFrom [] bs)
+  unfolding saidBy endedBy byLine withScore lastLine
+  by-line s c part Fault =
+      ap (λ (l : List ℕ). badLine (lines c + 1) ++ l) (coming-over (runOf s c part false) bs)
+      ∙ append-nil (badLine (lines c + 1)) ∙ sym (behind-ends s c (Bad (lines c + 1)))
+  by-line s c part (Score x) =
+      let k = kindOf s x in
+      ap (λ (l : List ℕ). row (lines c + 1) k ++ l)
+      (later (counted s x) (oneMore c k) ∙ ap (λ (n : ℕ). due (n + 1) (counted s x) (oneMore c k) (linesFrom [] bs)) (one-line-more c k))
+      ∙ sym (behind-first s c (lines c + 1) x (sheetFrom (lines c + 1 + 1) (linesFrom [] bs)))
 
   -- A line that ends here.
-  whole-line : (line : List ℕ) (s : BasicThresholder) (q r : ℕ) → Good 16 8 line
-      → lineSaid (runOf s q r (number 16 1 line) false) ++ coming (lineEnded (runOf s q r (number 16 1 line) false)) bs ≡ rows (q + r + 1) s q r (line ∷ linesFrom [] bs)
-  unfolding lineSaid lineEnded rows
-  whole-line line s q r good =
-      by-line s q r (number 16 1 line) (lineOf (q + r) (number 16 1 line)) ∙ ap (λ (l : Line). rowsBy l s q r (linesFrom [] bs)) (sym (read line good (q + r)))
+  whole-line : (line : List ℕ) (s : BasicThresholder) (c : Counts) → Good 16 8 line
+      → lineSaid (runOf s c (number 16 1 line) false) ++ coming (lineEnded (runOf s c (number 16 1 line) false)) bs ≡ due (lines c + 1) s c (line ∷ linesFrom [] bs)
+  unfolding lineSaid lineEnded sheetFrom
+  whole-line line s c good =
+      by-line s c (number 16 1 line) (lineOf (lines c) (number 16 1 line))
+      ∙ ap (λ (l : Line). dueBy l (lines c + 1) s c (linesFrom [] bs)) (sym (read line good (lines c)))
 
 -- The end of the input.
-last-total : (s : BasicThresholder) (q r part : ℕ) (l : Line) → totalSaid (endedBy (runOf s q r part false) l) ≡ coming (endedBy (runOf s q r part false) l) []
-unfolding endedBy judged ended totalSaid Feeds.coming closing Feeding.fed Feeding.printed
-last-total s q r part Fault = refl
-last-total s q r part (Score x) = pick (isQuiet (shown s x .grade))
-  where
-    pick : (t : Bool) → totalSaid (cond t (runOf (counted s x) (q + 1) r 1 false) (runOf (counted s x) q (r + 1) 1 false))
-        ≡ coming (cond t (runOf (counted s x) (q + 1) r 1 false) (runOf (counted s x) q (r + 1) 1 false)) []
-    pick true = refl
-    pick false = refl
+last-total : (s : BasicThresholder) (c : Counts) (part : ℕ) (l : Line) → totalSaid (endedBy (runOf s c part false) l) ≡ coming (endedBy (runOf s c part false) l) []
+unfolding endedBy withScore ended totalSaid Feeds.coming closing Feeding.fed Feeding.printed
+last-total s c part Fault = refl
+last-total s c part (Score x) = refl
 
 nothing-left : Between []
-unfolding Feeds.coming closing totalSaid Feeding.fed Feeding.printed linesFrom rows
-nothing-left s q r = refl
+unfolding Feeds.coming closing totalSaid Feeding.fed Feeding.printed linesFrom sheetFrom lastLine
+nothing-left s c = sym (behind-ends s c AllRead)
 
-last-open : (s : BasicThresholder) (q r part : ℕ) → 16 ≤ part
-    → coming (runOf s q r part false) [] ≡ lineSaid (runOf s q r part false) ++ totalSaid (lineEnded (runOf s q r part false))
+last-open : (s : BasicThresholder) (c : Counts) (part : ℕ) → 16 ≤ part
+    → coming (runOf s c part false) [] ≡ lineSaid (runOf s c part false) ++ totalSaid (lineEnded (runOf s c part false))
 unfolding Feeds.coming closing Feeding.fed Feeding.printed
-last-open s q r part h = simp (ne-eqb part 1 (λ e. omega arith))
+last-open s c part h = simp (ne-eqb part 1 (λ e. omega arith))
 
-last-line : (a : ℕ) (line : List ℕ) (s : BasicThresholder) (q r : ℕ) → Good 16 8 (a ∷ line)
-    → coming (runOf s q r (number 16 1 (a ∷ line)) false) [] ≡ rows (q + r + 1) s q r ((a ∷ line) ∷ linesFrom [] [])
+last-line : (a : ℕ) (line : List ℕ) (s : BasicThresholder) (c : Counts) → Good 16 8 (a ∷ line)
+    → coming (runOf s c (number 16 1 (a ∷ line)) false) [] ≡ due (lines c + 1) s c ((a ∷ line) ∷ linesFrom [] [])
 unfolding lineEnded
-last-line a line s q r good =
+last-line a line s c good =
     let part = number 16 1 (a ∷ line) in
-    last-open s q r part (part-begun (a ∷ line) good (omega arith))
-    ∙ ap (λ (l : List ℕ). lineSaid (runOf s q r part false) ++ l) (last-total s q r part (lineOf (q + r) part))
-    ∙ whole-line [] nothing-left (a ∷ line) s q r good
+    last-open s c part (part-begun (a ∷ line) good (omega arith))
+    ∙ ap (λ (l : List ℕ). lineSaid (runOf s c part false) ++ l) (last-total s c part (lineOf (lines c) part))
+    ∙ whole-line [] nothing-left (a ∷ line) s c good
 
 -- A faulty line is bad, whatever follows.
 pub either : {A B : Type 0} (f : A → B) (t : Bool) (x y : A) (z : B) → f x ≡ z → f y ≡ z → f (cond t x y) ≡ z
 either f true x y z e h = e
 either f false x y z e h = h
 
-faulty-line : (bs : List ℕ) (a : ℕ) (line : List ℕ) (n : ℕ) (s : BasicThresholder) (q r : ℕ) → Faulty 16 8 (a ∷ line) → rows n s q r (linesFrom (a ∷ line) bs) ≡ badLine n
-unfolding linesFrom rows byLine
-faulty-line [] a line n s q r f = simp (read-faulty n (a ∷ line) f)
-faulty-line (b ∷ bs) a line n s q r f =
-    either (rows n s q r) (eqb b 10) ((a ∷ line) ∷ linesFrom [] bs) (linesFrom ((a ∷ line) ++ (b ∷ [])) bs) (badLine n)
-    (simp (read-faulty n (a ∷ line) f))
-    (faulty-line bs a (line ++ (b ∷ [])) n s q r (faulty-snoc (a ∷ line) b f))
+bad-line : (s : BasicThresholder) (c : Counts) (n : ℕ) (line : List ℕ) (rest : List (List ℕ)) → Faulty 16 8 line → due n s c (line ∷ rest) ≡ badLine n
+unfolding sheetFrom byLine lastLine
+bad-line s c n line rest f = ap (λ (l : Line). dueBy l n s c rest) (read-faulty n line f) ∙ behind-ends s c (Bad n)
 
-snoc-faulty : (bs line : List ℕ) (b n : ℕ) (s : BasicThresholder) (q r : ℕ) → Faulty 16 8 (line ++ (b ∷ [])) → rows n s q r (linesFrom (line ++ (b ∷ [])) bs) ≡ badLine n
-snoc-faulty bs [] b n s q r f = faulty-line bs b [] n s q r f
-snoc-faulty bs (a ∷ line) b n s q r f = faulty-line bs a (line ++ (b ∷ [])) n s q r f
+faulty-line : (bs : List ℕ) (a : ℕ) (line : List ℕ) (n : ℕ) (s : BasicThresholder) (c : Counts) → Faulty 16 8 (a ∷ line) → due n s c (linesFrom (a ∷ line) bs) ≡ badLine n
+unfolding linesFrom
+faulty-line [] a line n s c f = bad-line s c n (a ∷ line) [] f
+faulty-line (b ∷ bs) a line n s c f =
+    either (due n s c) (eqb b 10) ((a ∷ line) ∷ linesFrom [] bs) (linesFrom ((a ∷ line) ++ (b ∷ [])) bs) (badLine n)
+    (bad-line s c n (a ∷ line) (linesFrom [] bs) f)
+    (faulty-line bs a (line ++ (b ∷ [])) n s c (faulty-snoc (a ∷ line) b f))
+
+snoc-faulty : (bs line : List ℕ) (b n : ℕ) (s : BasicThresholder) (c : Counts) → Faulty 16 8 (line ++ (b ∷ [])) → due n s c (linesFrom (line ++ (b ∷ [])) bs) ≡ badLine n
+snoc-faulty bs [] b n s c f = faulty-line bs b [] n s c f
+snoc-faulty bs (a ∷ line) b n s c f = faulty-line bs a (line ++ (b ∷ [])) n s c f
 
 -- A byte inside a line, the rest of the input settled for a line that is still good.
-module _ (bs line : List ℕ) (b : ℕ) (s : BasicThresholder) (q r : ℕ) (good : Good 16 8 line) (inside : b ≡ 10 → ⊥) where
+module _ (bs line : List ℕ) (b : ℕ) (s : BasicThresholder) (c : Counts) (good : Good 16 8 line) (inside : b ≡ 10 → ⊥) where
   abbrev here : Run
-  here = runOf s q r (number 16 1 line) false
+  here = runOf s c (number 16 1 line) false
 
-  inner : (Good 16 8 (line ++ (b ∷ [])) → coming (runOf s q r (number 16 1 (line ++ (b ∷ []))) false) bs ≡ rows (q + r + 1) s q r (linesFrom (line ++ (b ∷ [])) bs))
-      → Pushed 16 8 line b → coming here (b ∷ bs) ≡ rows (q + r + 1) s q r (linesFrom (line ++ (b ∷ [])) bs)
+  inner : (Good 16 8 (line ++ (b ∷ [])) → coming (runOf s c (number 16 1 (line ++ (b ∷ []))) false) bs ≡ due (lines c + 1) s c (linesFrom (line ++ (b ∷ [])) bs))
+      → Pushed 16 8 line b → coming here (b ∷ bs) ≡ due (lines c + 1) s c (linesFrom (line ++ (b ∷ [])) bs)
   inner rest (more g t d) =
       let e = pushed-more line b good t d in
       let nonzero : pushed (number 16 1 line) b ≡ 0 → ⊥ = λ z. omega (arith, part-positive (line ++ (b ∷ [])) g, e, z) in
       coming-step here b bs
-      ∙ ap₂ (λ (l : List ℕ) (x : Run). l ++ coming x bs) (digit-said here b refl inside nonzero) (digit-step here b refl inside nonzero ∙ ap (λ (p : ℕ). runOf s q r p false) e)
+      ∙ ap₂ (λ (l : List ℕ) (x : Run). l ++ coming x bs) (digit-said here b refl inside nonzero) (digit-step here b refl inside nonzero ∙ ap (λ (p : ℕ). runOf s c p false) e)
       ∙ rest g
   inner rest (spoilt f t) =
       let e = pushed-spoilt line b good t in
       coming-step here b bs
       ∙ ap₂ (λ (l : List ℕ) (x : Run). l ++ coming x bs) (bad-said here b refl inside e) (bad-step here b refl inside e)
-      ∙ ap (λ (l : List ℕ). badLine (q + r + 1) ++ l) (coming-over here bs)
-      ∙ append-nil (badLine (q + r + 1))
-      ∙ sym (snoc-faulty bs line b (q + r + 1) s q r f)
+      ∙ ap (λ (l : List ℕ). badLine (lines c + 1) ++ l) (coming-over here bs)
+      ∙ append-nil (badLine (lines c + 1))
+      ∙ sym (snoc-faulty bs line b (lines c + 1) s c f)
 
 -- A byte that ends a line.
-line-end : (bs line : List ℕ) (s : BasicThresholder) (q r : ℕ) → Good 16 8 line → Between bs
-    → coming (runOf s q r (number 16 1 line) false) (10 ∷ bs) ≡ rows (q + r + 1) s q r (line ∷ linesFrom [] bs)
-line-end bs line s q r good later =
-    let run = runOf s q r (number 16 1 line) false in
+line-end : (bs line : List ℕ) (s : BasicThresholder) (c : Counts) → Good 16 8 line → Between bs
+    → coming (runOf s c (number 16 1 line) false) (10 ∷ bs) ≡ due (lines c + 1) s c (line ∷ linesFrom [] bs)
+line-end bs line s c good later =
+    let run = runOf s c (number 16 1 line) false in
     coming-step run 10 bs
     ∙ ap₂ (λ (l : List ℕ) (x : Run). l ++ coming x bs) (line-said run 10 refl refl) (line-step run 10 refl refl)
-    ∙ whole-line bs later line s q r good
+    ∙ whole-line bs later line s c good
 
 -- By the byte: is it a line end?
-by-byte : (t : Bool) (bs line : List ℕ) (b : ℕ) (s : BasicThresholder) (q r : ℕ) → eqb b 10 ≡ t → Good 16 8 line → Between bs
-    → (Good 16 8 (line ++ (b ∷ [])) → coming (runOf s q r (number 16 1 (line ++ (b ∷ []))) false) bs ≡ rows (q + r + 1) s q r (linesFrom (line ++ (b ∷ [])) bs))
-    → coming (runOf s q r (number 16 1 line) false) (b ∷ bs) ≡ rows (q + r + 1) s q r (cond t (line ∷ linesFrom [] bs) (linesFrom (line ++ (b ∷ [])) bs))
-by-byte true bs line b s q r e good later rest =
-    ap (λ (x : ℕ). coming (runOf s q r (number 16 1 line) false) (x ∷ bs)) (eqb-true b 10 e) ∙ line-end bs line s q r good later
-by-byte false bs line b s q r e good later rest = inner bs line b s q r good (eqb-false b 10 e) rest (push-one 16 8 line b good)
+by-byte : (t : Bool) (bs line : List ℕ) (b : ℕ) (s : BasicThresholder) (c : Counts) → eqb b 10 ≡ t → Good 16 8 line → Between bs
+    → (Good 16 8 (line ++ (b ∷ [])) → coming (runOf s c (number 16 1 (line ++ (b ∷ []))) false) bs ≡ due (lines c + 1) s c (linesFrom (line ++ (b ∷ [])) bs))
+    → coming (runOf s c (number 16 1 line) false) (b ∷ bs) ≡ due (lines c + 1) s c (cond t (line ∷ linesFrom [] bs) (linesFrom (line ++ (b ∷ [])) bs))
+by-byte true bs line b s c e good later rest =
+    ap (λ (x : ℕ). coming (runOf s c (number 16 1 line) false) (x ∷ bs)) (eqb-true b 10 e) ∙ line-end bs line s c good later
+by-byte false bs line b s c e good later rest = inner bs line b s c good (eqb-false b 10 e) rest (push-one 16 8 line b good)
 
 -- A run in a line of good digits prints what is due for the lines from this one on.
-follows : (bs line : List ℕ) (s : BasicThresholder) (q r : ℕ) → Good 16 8 line → coming (runOf s q r (number 16 1 line) false) bs ≡ rows (q + r + 1) s q r (linesFrom line bs)
+follows : (bs line : List ℕ) (s : BasicThresholder) (c : Counts) → Good 16 8 line → coming (runOf s c (number 16 1 line) false) bs ≡ due (lines c + 1) s c (linesFrom line bs)
 unfolding linesFrom number
-follows [] [] s q r good = nothing-left s q r
-follows [] (a ∷ line) s q r good = last-line a line s q r good
-follows (b ∷ bs) line s q r good =
-    by-byte (eqb b 10) bs line b s q r refl good (λ s′ q′ r′. follows bs [] s′ q′ r′ (nothing-yet 16 8)) (λ g. follows bs (line ++ (b ∷ [])) s q r g)
+follows [] [] s c good = nothing-left s c
+follows [] (a ∷ line) s c good = last-line a line s c good
+follows (b ∷ bs) line s c good =
+    by-byte (eqb b 10) bs line b s c refl good (λ s′ c′. follows bs [] s′ c′ (nothing-yet 16 8)) (λ g. follows bs (line ++ (b ∷ [])) s c g)
 
 -- The whole: however the input is cut, header, parts and end together print its output.
 pub whole : Whole
-unfolding output begin number
-whole parts = ap (λ (l : List ℕ). header ++ l) (Feeds.in-one step said closing begin parts ∙ follows (joined parts) [] settings 0 0 (nothing-yet 16 8))
+unfolding output sheet begin number lines noLines
+whole parts =
+    ap (λ (l : List ℕ). header ++ l) (Feeds.in-one step said closing begin parts ∙ follows (joined parts) [] settings noLines (nothing-yet 16 8))
+    ∙ behind-header (sheet (joined parts))
+
+-- An input that is read to its end has a row for each line.
+all-lines : (ls : List (List ℕ)) (n : ℕ) → sheetFrom n ls .end ≡ AllRead → length (sheetFrom n ls .readings) ≡ length ls
+unfolding sheetFrom byLine
+all-lines [] n e = refl
+all-lines (line ∷ rest) n e = go (readLine n line) (λ h. all-lines rest (n + 1) h) e
+  where
+    go : (l : Line) → (sheetFrom (n + 1) rest .end ≡ AllRead → length (sheetFrom (n + 1) rest .readings) ≡ length rest)
+        → byLine l (ends (Bad n)) (λ x. first n x (sheetFrom (n + 1) rest)) .end ≡ AllRead
+        → length (byLine l (ends (Bad n)) (λ x. first n x (sheetFrom (n + 1) rest)) .readings) ≡ suc (length rest)
+    go Fault later e = absurd (let z : _≡_ {A = ℕ} 0 1 = cc in omega arith)
+    go (Score x) later e = ap suc (later e)
+
+pub add-up : AddUp
+unfolding sheet
+add-up input e = Sheets.add-up settings (sheet input .readings) ∙ all-lines (linesFrom [] input) 1 e

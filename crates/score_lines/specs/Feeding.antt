@@ -12,21 +12,24 @@ use Rattle.score_lines.specs.declared.Line.{Line}
 use Rattle.score_lines.specs.declared.Line.the-variants.{Score, Fault}
 use Rattle.score_lines.specs.declared.Run.{Run}
 use Rattle.score_lines.specs.declared.Fed.{Fed}
-use Rattle.score_rows.specs.Watching.{settings, shown, counted, isQuiet}
+use Rattle.score_rows.specs.declared.Counts.{Counts}
+use Rattle.score_rows.specs.Watching.{settings, kindOf, counted}
+use Rattle.score_rows.specs.Counting.{lines, noLines, oneMore, tally}
 use Rattle.score_rows.specs.Text.{header, row, badLine, counts}
+use Rattle.score_rows.specs.Sheet.{AllRead, kinds}
 use Rattle.score_rows.specs.Feeding as Feeding
-use Rattle.score_lines.specs.Output.{digitOf, finiteOnly, output}
+use Rattle.score_lines.specs.Output.{digitOf, finiteOnly, linesFrom, sheet, output}
 
-abbrev pub runOf : BasicThresholder → ℕ → ℕ → ℕ → Bool → Run
-runOf s quiet raised part over = record { thresholder = s; quiet = quiet; raised = raised; part = part; over = over }
+abbrev pub runOf : BasicThresholder → Counts → ℕ → Bool → Run
+runOf s c part over = record { thresholder = s; counts = c; part = part; over = over }
 
 -- A run that has read nothing.
 unfoldable pub begin : Run
-begin = runOf settings 0 0 1 false
+begin = runOf settings noLines 1 false
 
--- The number of the line under way.
+-- The number of the line under way: skipped lines are numbered as judged ones are.
 abbrev pub lineNumber : Run → ℕ
-lineNumber run = run .quiet + run .raised + 1
+lineNumber run = lines (run .counts) + 1
 
 -- The line under way with one more byte; 0 where that makes it malformed.
 unfoldable pub pushed : ℕ → ℕ → ℕ
@@ -34,35 +37,34 @@ pushed part b = cond (ltb part 0x1_0000_0000 && ltb (digitOf b) 16) (part * 16 +
 
 -- What a line with these digits behind a leading 1 holds, with so many lines before it.
 unfoldable pub lineOf : ℕ → ℕ → Line
-lineOf lines part =
-    cond (ltb lines 65536 && (leb 0x1_0000_0000 part && ltb part 0x2_0000_0000)) (finiteOnly (ofBits binary32 (part - 0x1_0000_0000))) Fault
+lineOf before part =
+    cond (ltb before 65536 && (leb 0x1_0000_0000 part && ltb part 0x2_0000_0000)) (finiteOnly (ofBits binary32 (part - 0x1_0000_0000))) Fault
 
 -- The run after a sound line, and after a bad one.
-unfoldable pub judged : Run → BasicThresholder → Float → Run
-judged run s grade =
-    cond (isQuiet grade) (runOf s (run .quiet + 1) (run .raised) 1 false) (runOf s (run .quiet) (run .raised + 1) 1 false)
+unfoldable pub withScore : Run → Float → Run
+withScore run x = runOf (counted (run .thresholder) x) (oneMore (run .counts) (kindOf (run .thresholder) x)) 1 false
 
 unfoldable pub ended : Run → Run
-ended run = runOf (run .thresholder) (run .quiet) (run .raised) (run .part) true
+ended run = runOf (run .thresholder) (run .counts) (run .part) true
 
 -- The end of the line under way: the run after it and what it prints.
 unfoldable pub endedBy : Run → Line → Run
 endedBy run Fault = ended run
-endedBy run (Score x) = judged run (counted (run .thresholder) x) (shown (run .thresholder) x .grade)
+endedBy run (Score x) = withScore run x
 
 unfoldable pub saidBy : Run → Line → List ℕ
 saidBy run Fault = badLine (lineNumber run)
-saidBy run (Score x) = row (lineNumber run) (shown (run .thresholder) x)
+saidBy run (Score x) = row (lineNumber run) (kindOf (run .thresholder) x)
 
 unfoldable pub lineEnded : Run → Run
-lineEnded run = endedBy run (lineOf (run .quiet + run .raised) (run .part))
+lineEnded run = endedBy run (lineOf (lines (run .counts)) (run .part))
 
 unfoldable pub lineSaid : Run → List ℕ
-lineSaid run = saidBy run (lineOf (run .quiet + run .raised) (run .part))
+lineSaid run = saidBy run (lineOf (lines (run .counts)) (run .part))
 
 -- The line under way with one more byte that is no line end; a byte that makes it malformed ends the run.
 unfoldable pub taken : Run → ℕ → Run
-taken run part = cond (eqb part 0) (ended run) (runOf (run .thresholder) (run .quiet) (run .raised) part (run .over))
+taken run part = cond (eqb part 0) (ended run) (runOf (run .thresholder) (run .counts) part (run .over))
 
 unfoldable pub takenSaid : Run → ℕ → List ℕ
 takenSaid run part = cond (eqb part 0) (badLine (lineNumber run)) []
@@ -86,7 +88,7 @@ unfoldable pub totalRun : Run → Run
 totalRun run = cond (run .over) run (ended run)
 
 unfoldable pub totalSaid : Run → List ℕ
-totalSaid run = cond (run .over) [] (counts (run .quiet) (run .raised))
+totalSaid run = cond (run .over) [] (counts (run .counts))
 
 -- The end of the input: a last line without a line end, then the counts.
 unfoldable pub closed : Run → Run
@@ -98,6 +100,10 @@ closing run = cond (run .over) [] (cond (eqb (run .part) 1) (totalSaid run) (lin
 -- The whole: however the input is cut, header, parts and end together print its output.
 abbrev pub Whole : Type 0
 Whole = (parts : List (List ℕ)) → header ++ Feeding.inParts step said closing begin parts ≡ output (Feeding.joined parts)
+
+-- "The three counts add up to the lines judged or skipped", which are all lines of an input that is read to its end.
+abbrev pub AddUp : Type 0
+AddUp = (input : List ℕ) → sheet input .end ≡ AllRead → lines (tally (kinds settings (sheet input .readings))) ≡ length (linesFrom [] input)
 
 -- A call that leaves the run `next` and prints `text` at the front of the buffer. What is behind it stays.
 pub record Prints (next : Run) (text out : List ℕ) (r : Fed) (after : List ℕ) : Type 0 where

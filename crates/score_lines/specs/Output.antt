@@ -7,9 +7,7 @@ use lib.Dec.{leb, ltb, eqb}
 use lib.ListN.{length}
 use lib.Ieee.{Float, ofBits, binary32}
 use lib.Ieee.Scale.{finite}
-use Rattle.basicthresholder.specs.declared.BasicThresholder.{BasicThresholder}
-use Rattle.score_rows.specs.Watching.{settings, shown, counted, isQuiet}
-use Rattle.score_rows.specs.Text.{header, row, badLine, counts}
+use Rattle.score_rows.specs.Sheet.{Sheet, AllRead, Bad, ends, first, text}
 use Rattle.score_lines.specs.declared.Line.{Line}
 use Rattle.score_lines.specs.declared.Line.the-variants.{Score, Fault}
 
@@ -52,15 +50,14 @@ unfoldable pub byLine : {A : Type 0} → Line → A → (Float → A) → A
 byLine Fault bad good = bad
 byLine (Score x) bad good = good x
 
--- A row for each line from number n on, the counts behind the last; a bad line ends the run without counts.
-unfoldable pub rows : ℕ → BasicThresholder → ℕ → ℕ → List (List ℕ) → List ℕ
-rows n s quiet raised [] = counts quiet raised
-rows n s quiet raised (line ∷ rest) =
-    byLine (readLine n line) (badLine n)
-    (λ x.
-    let g = shown s x in
-    row n g ++ rows (n + 1) (counted s x) (cond (isQuiet (g .grade)) (quiet + 1) quiet) (cond (isQuiet (g .grade)) raised (raised + 1)) rest)
+-- The lines from number n on: a row for each, up to a bad one, which ends the run without counts.
+unfoldable pub sheetFrom : ℕ → List (List ℕ) → Sheet
+sheetFrom n [] = ends AllRead
+sheetFrom n (line ∷ rest) = byLine (readLine n line) (ends (Bad n)) (λ x. first n x (sheetFrom (n + 1) rest))
+
+unfoldable pub sheet : List ℕ → Sheet
+sheet input = sheetFrom 1 (linesFrom [] input)
 
 -- The whole output.
 unfoldable pub output : List ℕ → List ℕ
-output input = header ++ rows 1 settings 0 0 (linesFrom [] input)
+output input = text (sheet input)

@@ -1,6 +1,7 @@
 // The score watch on bytes: lines of eight hexadecimal digits in, rows of thresholds and grades out. A run is fed its input in parts, cut anywhere, and
 // hands back what it prints; a program above has only to read and to write.
 use basicthresholder::BasicThresholder;
+use score_rows::Counts;
 use score_rows::PART;
 use score_rows::ROOM;
 ghost use mathlib.Core.Path.{_≡_};
@@ -24,8 +25,7 @@ pub enum Line {
 // A run is over once it has met a bad line.
 pub struct Run {
     pub thresholder: BasicThresholder,
-    pub quiet: u32,
-    pub raised: u32,
+    pub counts: Counts,
     pub part: u64,
     pub over: bool,
 }
@@ -76,10 +76,10 @@ fn pushed(part: u64, b: u8) -> u64
 }
 
 // What the line holds that `part` has the digits of, with so many lines before it.
-fn line_of(lines: u64, part: u64) -> Line
-    ensures { λ r. ⌜ r ≡ Feeding.lineOf lines part ⌝ }
+fn line_of(before: u64, part: u64) -> Line
+    ensures { λ r. ⌜ r ≡ Feeding.lineOf before part ⌝ }
 {
-    if lines < MOST_LINES {
+    if before < MOST_LINES {
         if 0x1_0000_0000 <= part {
             if part < 0x2_0000_0000 {
                 return finite_only(ieee::f32_from_bits((part - 0x1_0000_0000) as u32));
@@ -100,29 +100,6 @@ fn finite_only(score: f32) -> Line
     Line::Fault
 }
 
-// The run after a sound line of that grade.
-fn judged(run: Run, thresholder: BasicThresholder, grade: f32) -> Run
-    requires { ⌜ run .quiet + run .raised < 65536 ⌝ }
-    ensures { λ r. ⌜ r ≡ Feeding.judged run thresholder grade ⌝ }
-{
-    if grade == 0.0 {
-        return Run {
-            thresholder,
-            quiet: run.quiet + 1,
-            raised: run.raised,
-            part: 1,
-            over: false,
-        };
-    }
-    Run {
-        thresholder,
-        quiet: run.quiet,
-        raised: run.raised + 1,
-        part: 1,
-        over: false,
-    }
-}
-
 // The run after a bad line.
 fn ended(run: Run) -> Run
     ensures { λ r. ⌜ r ≡ Feeding.ended run ⌝ }
@@ -134,23 +111,27 @@ fn ended(run: Run) -> Run
 
 // The end of the line under way: its row, or that it is bad.
 fn end_line(run: Run, out: &mut [u8], at: usize) -> Fed
-    requires { ⌜ at + 55 ≤ length (now out) ⌝ }
+    requires { ⌜ at + 84 ≤ length (now out) ⌝ }
     ensures { λ r. ⌜ r .run ≡ Feeding.lineEnded run ⌝ ∗ ⌜ Steps.Put (now (out .entry)) at (Feeding.lineSaid run) (r .written) (now (out .exit)) ⌝ }
 {
-    let lines = run.quiet as u64 + run.raised as u64;
-    let line = line_of(lines, run.part);
+    let before = score_rows::lines(run.counts);
+    let line = line_of(before, run.part);
     match line {
         Line::Score(score) => {
-            let next = score_rows::counted(run.thresholder, score);
-            let seen = score_rows::shown(run.thresholder, score);
-            let end = score_rows::write_row(out, at, lines + 1, seen);
+            let kind = score_rows::kind_of(run.thresholder, score);
+            let end = score_rows::write_row(out, at, before + 1, kind);
             Fed {
-                run: judged(run, next, seen.grade),
+                run: Run {
+                    thresholder: score_rows::counted(run.thresholder, score),
+                    counts: score_rows::with_line(run.counts, kind),
+                    part: 1,
+                    over: false,
+                },
                 written: end,
             }
         }
         Line::Fault => {
-            let end = score_rows::write_bad_line(out, at, lines + 1);
+            let end = score_rows::write_bad_line(out, at, before + 1);
             Fed {
                 run: ended(run),
                 written: end,
@@ -161,13 +142,13 @@ fn end_line(run: Run, out: &mut [u8], at: usize) -> Fed
 
 // The counts, unless the run is over.
 fn total(run: Run, out: &mut [u8], at: usize) -> Fed
-    requires { ⌜ at + 55 ≤ length (now out) ⌝ }
+    requires { ⌜ at + 84 ≤ length (now out) ⌝ }
     ensures { λ r. ⌜ r .run ≡ Feeding.totalRun run ⌝ ∗ ⌜ Steps.Put (now (out .entry)) at (Feeding.totalSaid run) (r .written) (now (out .exit)) ⌝ }
 {
     if run.over {
         return Fed { run, written: at };
     }
-    let end = score_rows::write_counts(out, at, run.quiet as u64, run.raised as u64);
+    let end = score_rows::write_counts(out, at, run.counts);
     Fed {
         run: ended(run),
         written: end,
@@ -176,7 +157,7 @@ fn total(run: Run, out: &mut [u8], at: usize) -> Fed
 
 // The bytes of a part of the input, one by one.
 fn read(run: Run, input: &[u8], out: &mut [u8]) -> Fed
-    requires { ⌜ 55 * length (now input) ≤ length (now out) ⌝ }
+    requires { ⌜ 84 * length (now input) ≤ length (now out) ⌝ }
     ensures { λ r. ⌜ r .run ≡ Feeding.fed run (now (input .entry)) ⌝ ∗ ⌜ Steps.Put (now (out .entry)) 0 (Feeding.printed run (now (input .entry))) (r .written) (now (out .exit)) ⌝ }
 {
     let mut state = run;
@@ -199,11 +180,7 @@ fn read(run: Run, input: &[u8], out: &mut [u8]) -> Fed
         }
         let part = pushed(state.part, b);
         if part == 0 {
-            let end = score_rows::write_bad_line(
-                out,
-                to,
-                state.quiet as u64 + state.raised as u64 + 1,
-            );
+            let end = score_rows::write_bad_line(out, to, score_rows::lines(state.counts) + 1);
             return Fed {
                 run: ended(state),
                 written: end,
@@ -220,7 +197,7 @@ fn read(run: Run, input: &[u8], out: &mut [u8]) -> Fed
 
 // The end of the input: a last line without a line end is judged, then the counts.
 fn close(run: Run, out: &mut [u8]) -> Fed
-    requires { ⌜ 110 ≤ length (now out) ⌝ }
+    requires { ⌜ 168 ≤ length (now out) ⌝ }
     ensures { λ r. ⌜ r .run ≡ Feeding.closed run ⌝ ∗ ⌜ Steps.Put (now (out .entry)) 0 (Feeding.closing run) (r .written) (now (out .exit)) ⌝ }
 {
     if run.over {
@@ -239,8 +216,7 @@ pub fn begin() -> Run
 {
     Run {
         thresholder: score_rows::settings(),
-        quiet: 0,
-        raised: 0,
+        counts: score_rows::no_lines(),
         part: 1,
         over: false,
     }
@@ -264,8 +240,8 @@ pub fn finish(run: Run, out: &mut [u8; ROOM]) -> Fed
     close(run, out)
 }
 
-// However the input is cut, the header and what `feed` and `finish` print are together the output of the whole input. Nothing calls it: the check asks
-// for its proof.
+// However the input is cut, the header and what `feed` and `finish` print are together the output of the whole input, whose counts add up to its lines. Nothing
+// calls it: the check asks for its proof.
 fn whole_run()
-    ensures { λ _. ⌜ Feeding.Whole ⌝ }
+    ensures { λ _. ⌜ Feeding.Whole ⌝ ∗ ⌜ Feeding.AddUp ⌝ }
 {}

@@ -15,7 +15,10 @@ use Rattle.io.specs.Digits.{glyph, digits, Fewest}
 use Rattle.types.specs.Refusals as Refusals
 use Rattle.types.specs.declared.Refusal.{Refusal}
 use Rattle.basicthresholder.specs.declared.Graded.{Graded}
-use Rattle.score_rows.specs.Text.{decimalBy, decimal, bits, row, bad, badLine, badRow, counts, longest, hasRoom, Written}
+use Rattle.score_rows.specs.declared.Kind.{Kind}
+use Rattle.score_rows.specs.declared.Kind.the-variants.{Skipped, Quiet, Raised}
+use Rattle.score_rows.specs.declared.Counts.{Counts}
+use Rattle.score_rows.specs.Text.{decimalBy, decimal, bits, graded, shown, row, bad, badLine, badRow, counts, longest, hasRoom, Written}
 use Rattle.score_rows.specs.Steps.{Put}
 
 -- all of ys over xs from the place `at`, and then zs behind them
@@ -146,9 +149,19 @@ with-room {xs} {ys} {after} {at} w h =
     record { place = simp r at (w .place); bytes = simp r at (w .bytes) }
 
 -- No line is longer than the longest.
-pub row-length : (n : ℕ) (g : Graded) → length (row n g) ≤ longest
+pub graded-length : (g : Graded) → length (graded g) ≡ 17
+unfolding graded
+graded-length g = simp (length-append, bits-length)
+
+pub shown-length : (k : Kind) → length (shown k) ≤ 17
+unfolding shown
+shown-length Skipped = omega arith
+shown-length (Quiet g) = omega (arith, graded-length g)
+shown-length (Raised g) = omega (arith, graded-length g)
+
+pub row-length : (n : ℕ) (k : Kind) → length (row n k) ≤ longest
 unfolding row
-row-length n g = simp (length-append, bits-length) (omega (arith, decimal-length n))
+row-length n k = simp length-append (omega (arith, decimal-length n, shown-length k))
 
 pub bad-length : (n : ℕ) → length (bad n) ≤ 29
 unfolding bad
@@ -162,6 +175,6 @@ pub bad-row-length : (n : ℕ) (why : Refusal) → length (badRow n why) ≤ lon
 unfolding badRow
 bad-row-length n why = simp length-append (omega (arith, bad-length n, decimal-length (Refusals.number why)))
 
-pub counts-length : (a b : ℕ) → length (counts a b) ≤ longest
+pub counts-length : (c : Counts) → length (counts c) ≤ longest
 unfolding counts
-counts-length a b = simp length-append (omega (arith, decimal-length a, decimal-length b))
+counts-length c = simp length-append (omega (arith, decimal-length (c .quiet), decimal-length (c .raised), decimal-length (c .skipped)))

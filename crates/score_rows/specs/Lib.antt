@@ -1,4 +1,6 @@
 pub mod Watching
+pub mod Counting
 pub mod Text
+pub mod Sheet
 pub mod Feeding
 pub mod Steps

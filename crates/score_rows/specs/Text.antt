@@ -13,6 +13,9 @@ use Rattle.io.specs.Digits.{glyph, digits}
 use Rattle.types.specs.Refusals as Refusals
 use Rattle.types.specs.declared.Refusal.{Refusal}
 use Rattle.basicthresholder.specs.declared.Graded.{Graded}
+use Rattle.score_rows.specs.declared.Kind.{Kind}
+use Rattle.score_rows.specs.declared.Kind.the-variants.{Skipped, Quiet, Raised}
+use Rattle.score_rows.specs.declared.Counts.{Counts}
 
 -- The bytes of a text.
 abbrev pub bytes : String → List ℕ
@@ -35,8 +38,17 @@ bits x = digits 16 8 (toBits binary32 x)
 unfoldable pub header : List ℕ
 header = bytes "line threshold grade\n"
 
-unfoldable pub row : ℕ → Graded → List ℕ
-row n g = decimal n ++ (bytes " " ++ (bits (g .threshold) ++ (bytes " " ++ (bits (g .grade) ++ bytes "\n"))))
+-- What a row shows behind its number: threshold and grade, or two dashes where the score is skipped.
+unfoldable pub graded : Graded → List ℕ
+graded g = bits (g .threshold) ++ (bytes " " ++ bits (g .grade))
+
+unfoldable pub shown : Kind → List ℕ
+shown Skipped = bytes "- -"
+shown (Quiet g) = graded g
+shown (Raised g) = graded g
+
+unfoldable pub row : ℕ → Kind → List ℕ
+row n k = decimal n ++ (bytes " " ++ (shown k ++ bytes "\n"))
 
 -- A bad line by its number, and with the error of a row.
 unfoldable pub bad : ℕ → List ℕ
@@ -48,13 +60,14 @@ badLine n = bad n ++ bytes "\n"
 unfoldable pub badRow : ℕ → Refusal → List ℕ
 badRow n why = bad n ++ (bytes " " ++ (decimal (Refusals.number why) ++ bytes "\n"))
 
-unfoldable pub counts : ℕ → ℕ → List ℕ
-counts quiet raised = bytes "quiet " ++ (decimal quiet ++ (bytes " raised " ++ (decimal raised ++ bytes "\n")))
+unfoldable pub counts : Counts → List ℕ
+counts c =
+    bytes "quiet " ++ (decimal (c .quiet) ++ (bytes " raised " ++ (decimal (c .raised) ++ (bytes " skipped " ++ (decimal (c .skipped) ++ bytes "\n")))))
 
 -- A text is written over `out` from the place `at` where that leaves room for the longest line (counts of twenty digits each), else nothing is. `end` is the place
 -- behind it.
 abbrev pub longest : ℕ
-longest = 55
+longest = 84
 
 abbrev pub hasRoom : List ℕ → ℕ → Bool
 hasRoom out at = leb (at + longest) (length out)

@@ -1,26 +1,44 @@
-// What the score watch and the export watch share: the settings of a run, what a row shows of a score, and the lines that are printed.
+// What the score watch and the export watch share: the settings of a run, what a score comes to and is counted as, and the lines that are printed.
 use basicthresholder::BasicThresholder;
 use basicthresholder::Graded;
 use types::Refusal;
 ghost use mathlib.Core.Path.{_≡_};
 ghost use mathlib.Core.List.{[], _∷_};
-ghost use Prim.Native.Nat.{_+_, _≤_, _<_};
+ghost use Prim.Native.Nat.{_+_, _^_, _≤_, _<_};
 ghost use lib.Dec.{leb};
 ghost use lib.ListN.{length};
 ghost use Rattle.score_rows.specs.Watching as Watching;
+ghost use Rattle.score_rows.specs.Counting as Counting;
 ghost use Rattle.score_rows.specs.Text as Text;
+ghost use Rattle.score_rows.specs.Sheet as Sheet;
 ghost use Rattle.score_rows.specs.Steps as Steps;
 
 // A part of a run's input, and room for what it prints: that of the longest line for each byte of it, since a byte can end a line.
 pub const PART: usize = 8192;
 
-pub const ROOM: usize = 450560;
+pub const ROOM: usize = 688128;
 
-const LONGEST: usize = 55;
+const LONGEST: usize = 84;
 
 const LINE_END: u8 = b'\n';
 
+const MOST_LINES: u64 = 65536;
+
 const Z_FACTOR: f32 = 3.0;
+
+// What a score comes to: skipped, or judged, with threshold and opening grade.
+pub enum Kind {
+    Skipped,
+    Quiet(Graded),
+    Raised(Graded),
+}
+
+// How many lines of a run were of each kind.
+pub struct Counts {
+    pub quiet: u32,
+    pub raised: u32,
+    pub skipped: u32,
+}
 
 // The thresholder of a run that has read nothing.
 pub fn settings() -> BasicThresholder
@@ -29,17 +47,18 @@ pub fn settings() -> BasicThresholder
     BasicThresholder::default().set_z_factor(Z_FACTOR)
 }
 
-// What a row shows: threshold and opening grade before the score is counted.
-pub fn shown(thresholder: BasicThresholder, score: f32) -> Graded
-    ensures { λ r. ⌜ r ≡ Watching.shown thresholder score ⌝ }
+// What a score comes to, by the statistics before it is counted: zero is skipped, grade 0 is quiet.
+pub fn kind_of(thresholder: BasicThresholder, score: f32) -> Kind
+    ensures { λ r. ⌜ r ≡ Watching.kindOf thresholder score ⌝ }
 {
     if score == 0.0 {
-        return Graded {
-            threshold: 0.0,
-            grade: 0.0,
-        };
+        return Kind::Skipped;
     }
-    thresholder.primary_threshold_and_grade(score)
+    let graded = thresholder.primary_threshold_and_grade(score);
+    if graded.grade == 0.0 {
+        return Kind::Quiet(graded);
+    }
+    Kind::Raised(graded)
 }
 
 // The statistics with the score; a zero score is not counted.
@@ -51,6 +70,45 @@ pub fn counted(thresholder: BasicThresholder, x: f32) -> BasicThresholder
     }
     let after = thresholder.update_primary(ieee::widen(x));
     after.thresholder
+}
+
+// The counts before the first line.
+pub fn no_lines() -> Counts
+    ensures { λ r. ⌜ r ≡ Counting.noLines ⌝ }
+{
+    Counts {
+        quiet: 0,
+        raised: 0,
+        skipped: 0,
+    }
+}
+
+// The lines judged or skipped.
+pub fn lines(counts: Counts) -> u64
+    ensures { λ r. ⌜ r ≡ Counting.lines counts ⌝ ∗ ⌜ r < 2 ^ 34 ⌝ }
+{
+    counts.quiet as u64 + counts.raised as u64 + counts.skipped as u64
+}
+
+// The counts with one more line of that kind; those of 65,536 lines, which are all that a run can have, stay as they are.
+pub fn with_line(counts: Counts, kind: Kind) -> Counts
+    ensures { λ r. ⌜ r ≡ Counting.withLine counts kind ⌝ }
+{
+    let mut after = counts;
+    if lines(counts) < MOST_LINES {
+        match kind {
+            Kind::Skipped => {
+                after.skipped += 1;
+            }
+            Kind::Quiet(_) => {
+                after.quiet += 1;
+            }
+            Kind::Raised(_) => {
+                after.raised += 1;
+            }
+        }
+    }
+    after
 }
 
 // "line threshold grade" and a line end: what a run prints first.
@@ -101,16 +159,34 @@ fn put_bits(out: &mut [u8], at: usize, x: f32) -> usize
     put_all(out, at, &text[..k])
 }
 
-fn put_row(out: &mut [u8], at: usize, number: u64, shown: Graded) -> usize
-    requires { ⌜ at + 55 ≤ length (now out) ⌝ }
-    ensures { λ r. ⌜ Steps.Put (now (out .entry)) at (Text.row number shown) r (now (out .exit)) ⌝ }
+fn put_graded(out: &mut [u8], at: usize, graded: Graded) -> usize
+    requires { ⌜ at + 17 ≤ length (now out) ⌝ }
+    ensures { λ r. ⌜ Steps.Put (now (out .entry)) at (Text.graded graded) r (now (out .exit)) ⌝ }
+{
+    let a = put_bits(out, at, graded.threshold);
+    let b = put(out, a, b' ');
+    put_bits(out, b, graded.grade)
+}
+
+fn put_shown(out: &mut [u8], at: usize, kind: Kind) -> usize
+    requires { ⌜ at + 17 ≤ length (now out) ⌝ }
+    ensures { λ r. ⌜ Steps.Put (now (out .entry)) at (Text.shown kind) r (now (out .exit)) ⌝ }
+{
+    match kind {
+        Kind::Skipped => put_all(out, at, b"- -"),
+        Kind::Quiet(graded) => put_graded(out, at, graded),
+        Kind::Raised(graded) => put_graded(out, at, graded),
+    }
+}
+
+fn put_row(out: &mut [u8], at: usize, number: u64, kind: Kind) -> usize
+    requires { ⌜ at + 84 ≤ length (now out) ⌝ }
+    ensures { λ r. ⌜ Steps.Put (now (out .entry)) at (Text.row number kind) r (now (out .exit)) ⌝ }
 {
     let a = put_decimal(out, at, number);
     let b = put(out, a, b' ');
-    let c = put_bits(out, b, shown.threshold);
-    let d = put(out, c, b' ');
-    let e = put_bits(out, d, shown.grade);
-    put(out, e, LINE_END)
+    let c = put_shown(out, b, kind);
+    put(out, c, LINE_END)
 }
 
 // "bad line " and the number: how either kind of bad line begins.
@@ -123,7 +199,7 @@ fn put_bad(out: &mut [u8], at: usize, number: u64) -> usize
 }
 
 fn put_bad_row(out: &mut [u8], at: usize, number: u64, why: Refusal) -> usize
-    requires { ⌜ at + 55 ≤ length (now out) ⌝ }
+    requires { ⌜ at + 84 ≤ length (now out) ⌝ }
     ensures { λ r. ⌜ Steps.Put (now (out .entry)) at (Text.badRow number why) r (now (out .exit)) ⌝ }
 {
     let a = put_bad(out, at, number);
@@ -132,20 +208,22 @@ fn put_bad_row(out: &mut [u8], at: usize, number: u64, why: Refusal) -> usize
     put(out, c, LINE_END)
 }
 
-fn put_counts(out: &mut [u8], at: usize, quiet: u64, raised: u64) -> usize
-    requires { ⌜ at + 55 ≤ length (now out) ⌝ }
-    ensures { λ r. ⌜ Steps.Put (now (out .entry)) at (Text.counts quiet raised) r (now (out .exit)) ⌝ }
+fn put_counts(out: &mut [u8], at: usize, counts: Counts) -> usize
+    requires { ⌜ at + 84 ≤ length (now out) ⌝ }
+    ensures { λ r. ⌜ Steps.Put (now (out .entry)) at (Text.counts counts) r (now (out .exit)) ⌝ }
 {
     let a = put_all(out, at, b"quiet ");
-    let b = put_decimal(out, a, quiet);
+    let b = put_decimal(out, a, counts.quiet as u64);
     let c = put_all(out, b, b" raised ");
-    let d = put_decimal(out, c, raised);
-    put(out, d, LINE_END)
+    let d = put_decimal(out, c, counts.raised as u64);
+    let e = put_all(out, d, b" skipped ");
+    let f = put_decimal(out, e, counts.skipped as u64);
+    put(out, f, LINE_END)
 }
 
 // Whether the longest line fits from there on.
 fn has_room(length: usize, at: usize) -> bool
-    ensures { λ r. ⌜ r ≡ leb (at + 55) length ⌝ }
+    ensures { λ r. ⌜ r ≡ leb (at + 84) length ⌝ }
 {
     if at <= length {
         return LONGEST <= length - at;
@@ -155,11 +233,11 @@ fn has_room(length: usize, at: usize) -> bool
 
 // Each of these writes its line over `out` from the place `at` and answers the place behind it; without room for the longest line it writes nothing
 // and answers `at`.
-pub fn write_row(out: &mut [u8], at: usize, number: u64, shown: Graded) -> usize
-    ensures { λ r. ⌜ Text.Written (now (out .entry)) at (Text.row number shown) r (now (out .exit)) ⌝ }
+pub fn write_row(out: &mut [u8], at: usize, number: u64, kind: Kind) -> usize
+    ensures { λ r. ⌜ Text.Written (now (out .entry)) at (Text.row number kind) r (now (out .exit)) ⌝ }
 {
     if has_room(out.len(), at) {
-        return put_row(out, at, number, shown);
+        return put_row(out, at, number, kind);
     }
     at
 }
@@ -183,11 +261,16 @@ pub fn write_bad_row(out: &mut [u8], at: usize, number: u64, why: Refusal) -> us
     at
 }
 
-pub fn write_counts(out: &mut [u8], at: usize, quiet: u64, raised: u64) -> usize
-    ensures { λ r. ⌜ Text.Written (now (out .entry)) at (Text.counts quiet raised) r (now (out .exit)) ⌝ }
+pub fn write_counts(out: &mut [u8], at: usize, counts: Counts) -> usize
+    ensures { λ r. ⌜ Text.Written (now (out .entry)) at (Text.counts counts) r (now (out .exit)) ⌝ }
 {
     if has_room(out.len(), at) {
-        return put_counts(out, at, quiet, raised);
+        return put_counts(out, at, counts);
     }
     at
 }
+
+// The three counts of a sheet add up to its lines. Nothing calls it: the check asks for its proof.
+fn counts_add_up()
+    ensures { λ _. ⌜ Sheet.AddUp ⌝ }
+{}

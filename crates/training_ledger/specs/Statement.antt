@@ -4,7 +4,7 @@ use Prim.Native.Nat.{ℕ, _+_, _^_, _≤_, _<_}
 use mathlib.Core.Path.{_≡_}
 use mathlib.Core.Bool.{Bool}
 use mathlib.Core.Logic.{_⊎_}
-use mathlib.Core.List.{List, [], _∷_, _++_}
+use mathlib.Core.List.{List, [], _∷_}
 use lib.Dec.{T}
 use lib.Ieee.{Float, ofBits, binary64, lt, le}
 use Rattle.basicthresholder.specs.Const.{zero32, sixteen32}
@@ -13,9 +13,11 @@ use Rattle.ledger.specs.Statement.{Told, told, showed, mostReadings, Sized, InB
 use Rattle.predictorcorrector.specs.declared.Updated.{Updated}
 use Rattle.demand3.specs.Calls.{Call, new, InTurn, zOf, toldOf, shownOf}
 use Rattle.score_rows.specs.Watching.{settings, three32}
-use Rattle.score_rows.specs.Text.{header, badLine, counts}
+use Rattle.score_rows.specs.Counting.{tally, lines}
+use Rattle.score_rows.specs.Text.{badLine}
+use Rattle.score_rows.specs.Sheet.{Reading, Sheet, AllRead, kinds, text}
 use Rattle.score_lines.specs.Output as ScoreWatch
-use Rattle.watch_ledger.specs.Statement.{Reading, watch, lines}
+use Rattle.watch_ledger.specs.Statement.{watch}
 use Rattle.training_scores.specs.Recurrence.{score, scores}
 use Rattle.training_lines.specs.Output.{load, output}
 
@@ -35,13 +37,14 @@ unfoldable pub numbered : ℕ → List Float → List Reading
 numbered n [] = []
 numbered n (x ∷ xs) = record { number = n; score = x } ∷ numbered (n + 1) xs
 
--- The score watch, fed with the load: a line for each score, then the counts, which add up to the count; and what these lines show agrees with the ledger.
+-- The score watch, fed with the load: the sheet has a line for each score, then the counts, which add up to the count; and what these lines show agrees with the ledger.
+abbrev pub sheetOf : ℕ → ℕ → Sheet
+sheetOf seed count = record { readings = numbered 1 (scores seed count); end = AllRead }
+
 pub record OfScoreWatch (seed count : ℕ) : Type 0 where
-  pub quiet : ℕ
-  pub raised : ℕ
-  pub all : quiet + raised ≡ count
-  pub printed : ScoreWatch.output (load seed count) ≡ header ++ (lines settings (numbered 1 (scores seed count)) ++ counts quiet raised)
-  pub agree : Demand3 (ofBits binary64 0) three32 (told watch settings (numbered 1 (scores seed count))) (showed watch settings (numbered 1 (scores seed count)))
+  pub printed : ScoreWatch.output (load seed count) ≡ text (sheetOf seed count)
+  pub all : lines (tally (kinds settings (sheetOf seed count .readings))) ≡ count
+  pub agree : Demand3 (ofBits binary64 0) three32 (told watch settings (sheetOf seed count .readings)) (showed watch settings (sheetOf seed count .readings))
 
 -- A load of at most so many lines as demand 3 has readings.
 pub record Loaded (text : List ℕ) : Type 0 where

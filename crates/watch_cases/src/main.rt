@@ -1,6 +1,7 @@
 // Runs the libraries of both watches on stored cases. Standard input names them, for each a line with the file of its input and one with the file of its
-// output. The input's name tells what is read: `.in` scores, `.csv` an export; `.lines` scores behind 65,536 lines, `.rows` and `.zeros` an export behind
-// 65,536 rows of its drawer, `.million` one behind a million rows of another drawer. Every case is run once for each place at which its input can be cut in two.
+// output. The input's name tells what is read: `.in` scores, `.csv` an export; `.lines` and `.skips` scores behind 65,536 lines, judged or skipped, `.rows` and
+// `.zeros` an export behind 65,536 rows of its drawer, judged or skipped, `.million` one behind a million rows of another drawer. Every case is run once for
+// each place at which its input can be cut in two.
 use libc::STDIN_FILENO;
 use libc::STDOUT_FILENO;
 use score_rows::PART;
@@ -38,6 +39,18 @@ struct Tally {
     differ: u64,
 }
 
+// 65,536 lines of scores, 256 a part.
+fn lines(block: [u8; 36]) -> Lead {
+    Lead {
+        is_export: false,
+        is_seen: false,
+        head: 0,
+        block,
+        length: 2304,
+        parts: 256,
+    }
+}
+
 // 65,536 rows of an export, 512 a part.
 fn rows(block: [u8; 36]) -> Lead {
     Lead {
@@ -53,14 +66,8 @@ fn rows(block: [u8; 36]) -> Lead {
 // By the letter behind the dot of the input's name; `.in` and `.csv` have nothing before them.
 fn lead_of(kind: u8) -> Lead {
     match kind {
-        b'l' => Lead {
-            is_export: false,
-            is_seen: false,
-            head: 0,
-            block: *b"3f800000\n3f800000\n3f800000\n3f800000\n",
-            length: 2304,
-            parts: 256,
-        },
+        b'l' => lines(*b"3f800000\n3f800000\n3f800000\n3f800000\n"),
+        b's' => lines(*b"00000000\n00000000\n00000000\n00000000\n"),
         b'r' => rows(*b"1,1,1\n1,1,1\n1,1,1\n1,1,1\n1,1,1\n1,1,1\n"),
         b'z' => rows(*b"1,1,0\n1,1,0\n1,1,0\n1,1,0\n1,1,0\n1,1,0\n"),
         b'm' => Lead {

@@ -4,8 +4,9 @@ use Prim.Native.Nat.{_≤_}
 use native.Mathlib.Omega.{arith}
 use lib.ListN.{length}
 use Rattle.basicthresholder.specs.declared.BasicThresholder.{BasicThresholder}
+use Rattle.score_rows.specs.Sheet.{Reading}
 use Rattle.ledger.specs.Statement.{told, accepted, Sizes}
-use Rattle.watch_ledger.specs.Statement.{Reading, watch, AllSized}
+use Rattle.watch_ledger.specs.Statement.{watch, AllSized}
 
 pub few : (rs : List Reading) (s : BasicThresholder) → accepted (told watch s rs) ≤ length rs
 few [] s = omega arith

@@ -19,8 +19,9 @@ use Rattle.basicthresholder.specs.Const.{zero32}
 use Rattle.basicthresholder.specs.declared.BasicThresholder.{BasicThresholder}
 use Rattle.basicthresholder.specs.Updates.{countedGap, countedOver, primaryCounted, countsOk, updated, updatePrimary}
 use Rattle.score_rows.specs.Watching.{settings, counted}
+use Rattle.score_rows.specs.Sheet.{Reading}
 use Rattle.ledger.specs.Statement.{Judge, Told, Shown, told, showed}
-use Rattle.watch_ledger.specs.Statement.{Reading, watch}
+use Rattle.watch_ledger.specs.Statement.{watch}
 
 -- The judge that counts every score but zeros.
 abbrev pub steady : Judge

@@ -1,5 +1,5 @@
 -- The ledger's theorem for a watch of scores. Assumes nothing.
-use mathlib.Core.Path.{_≡_, refl, sym, ap, subst, subst₂}
+use mathlib.Core.Path.{_≡_, refl, sym, ap, _∙_, subst, subst₂}
 use mathlib.Core.Bool.{Bool, true, false, not, cond}
 use native.Mathlib.Omega.{arith}
 use lib.Dec.{T}
@@ -10,12 +10,14 @@ use Rattle.basicthresholder.specs.declared.BasicThresholder.{BasicThresholder}
 use Rattle.basicthresholder.specs.declared.Graded.{Graded}
 use Rattle.basicthresholder.specs.Grades.{primaryThresholdAndGrade}
 use Rattle.basicthresholder.specs.Updates.{primaryCounted}
-use Rattle.score_rows.specs.Watching.{settings, three32, shown}
+use Rattle.score_rows.specs.declared.Kind.{Kind}
+use Rattle.score_rows.specs.declared.Kind.the-variants.{Skipped, Quiet, Raised}
+use Rattle.score_rows.specs.Watching.{settings, three32, byGrade, kindOf}
 use Rattle.ledger.specs.Theorem.{Laws, Counts, New}
 use Rattle.ledger.proofs.Laws.{primary-counts, new-fresh, new-z}
 use Rattle.ledger.proofs.WholeList as WholeList
 use Rattle.ledger.specs.Statement.{InBounds, Demand3}
-use Rattle.watch_ledger.specs.Statement.{Demand3OfScores}
+use Rattle.watch_ledger.specs.Statement.{shownAt, Demand3OfScores}
 use Rattle.watch_ledger.proofs.Counting.{steady, few-settings, same-told, same-showed}
 use Rattle.watch_ledger.proofs.Bounds.{few, sized}
 
@@ -30,9 +32,33 @@ cond-false : {A : Type 0} (b : Bool) (x y : A) → T (not b) → cond b x y ≡ 
 cond-false true x y t = absurd t
 cond-false false x y t = refl
 
-shows : (s : BasicThresholder) (x : Float) → T (not (eq x zero32)) → shown s x ≡ primaryThresholdAndGrade s x
-unfolding shown
-shows s x z = cond-false (eq x zero32) _ (primaryThresholdAndGrade s x) z
+-- A score that is not zero is judged, and shows its threshold and its grade.
+judged : (s : BasicThresholder) (x : Float) → T (not (eq x zero32)) → kindOf s x ≡ byGrade (primaryThresholdAndGrade s x)
+unfolding kindOf
+judged s x z = cond-false (eq x zero32) Skipped (byGrade (primaryThresholdAndGrade s x)) z
+
+module _ (g : Graded) where
+  either-way : {A : Type 0} (f : Kind → A) (y : A) → f (Quiet g) ≡ y → f (Raised g) ≡ y → f (byGrade g) ≡ y
+  unfolding byGrade
+  either-way f y a b = go (eq (g .grade) zero32)
+    where
+      go : (t : Bool) → f (cond t (Quiet g) (Raised g)) ≡ y
+      go true = a
+      go false = b
+
+  shows-threshold : shownAt (byGrade g) .threshold ≡ g .threshold
+  unfolding shownAt
+  shows-threshold = either-way (λ k. shownAt k .threshold) (g .threshold) refl refl
+
+  shows-grade : shownAt (byGrade g) .opening ≡ g .grade
+  unfolding shownAt
+  shows-grade = either-way (λ k. shownAt k .opening) (g .grade) refl refl
+
+ends-quiet : (k : Kind) → shownAt k .opening ≡ zero32 → shownAt k .ends ≡ zero32
+unfolding shownAt
+ends-quiet Skipped e = refl
+ends-quiet (Quiet g) e = refl
+ends-quiet (Raised g) e = e
 
 -- The steady judge keeps the ledger's laws, and the settings are those of a new thresholder.
 keeps : Laws steady (λ s. s)
@@ -40,9 +66,9 @@ keeps = record {
   refused-keeps = λ s r h. absurd h;
   zero-keeps = λ s r h z. cond-true (eq (r .score) zero32) s (primaryCounted s (r .score)) z;
   counts = λ s r h z. subst (λ (u : BasicThresholder). Counts s (r .score) u) (sym (cond-false (eq (r .score) zero32) s (primaryCounted s (r .score)) z)) (primary-counts s (r .score));
-  opens-threshold = λ s r h z. ap (λ (g : Graded). g .threshold) (shows s (r .score) z);
-  opens-grade = λ s r h z. ap (λ (g : Graded). g .grade) (shows s (r .score) z);
-  ends = λ s r h z e. e;
+  opens-threshold = λ s r h z. ap (λ (k : Kind). shownAt k .threshold) (judged s (r .score) z) ∙ shows-threshold (primaryThresholdAndGrade s (r .score));
+  opens-grade = λ s r h z. ap (λ (k : Kind). shownAt k .opening) (judged s (r .score) z) ∙ shows-grade (primaryThresholdAndGrade s (r .score));
+  ends = λ s r h z e. ends-quiet (kindOf s (r .score)) e;
 }
 
 new-settings : New zero64 three32 settings

@@ -2,23 +2,28 @@
 -- Definitions only.
 use mathlib.Core.Logic.{_⊎_}
 use mathlib.Core.Bool.{false}
-use mathlib.Core.List.{List, [], _∷_, _++_}
-use Prim.Native.Nat.{ℕ, _≤_}
+use mathlib.Core.List.{List, [], _∷_}
+use Prim.Native.Nat.{_≤_}
 use lib.Dec.{T}
 use lib.ListN.{length}
 use lib.Ieee.{Float, ofBits, binary64, eq}
+use Rattle.basicthresholder.specs.Const.{zero32}
 use Rattle.basicthresholder.specs.declared.BasicThresholder.{BasicThresholder}
-use Rattle.score_rows.specs.Watching.{settings, three32, shown, counted}
-use Rattle.score_rows.specs.Text.{row}
+use Rattle.score_rows.specs.declared.Kind.{Kind}
+use Rattle.score_rows.specs.declared.Kind.the-variants.{Skipped, Quiet, Raised}
+use Rattle.score_rows.specs.Watching.{settings, three32, kindOf, counted}
+use Rattle.score_rows.specs.Sheet.{Reading}
 use Rattle.ledger.specs.Fractions.{plusZero}
-use Rattle.ledger.specs.Statement.{Judge, told, showed, mostReadings, Sized, Demand3}
+use Rattle.ledger.specs.Statement.{Judge, Shown, told, showed, mostReadings, Sized, Demand3}
 
--- A line that is judged: its number in the input, and its score.
-pub record Reading : Type 0 where
-  pub number : ℕ
-  pub score : Float
+-- What a watch of scores shows at a line. A grade is the opening grade and, where it is raised, the one that the reading ends with. (A skipped line shows nothing, and the ledger asks for
+-- nothing there.)
+unfoldable pub shownAt : Kind → Shown
+shownAt Skipped = record { threshold = zero32; opening = zero32; ends = zero32 }
+shownAt (Quiet g) = record { threshold = g .threshold; opening = g .grade; ends = zero32 }
+shownAt (Raised g) = record { threshold = g .threshold; opening = g .grade; ends = g .grade }
 
--- A watch of scores as a judge: no reading is refused, and a line prints its threshold and its grade, which is the opening grade and the one that the reading ends with.
+-- A watch of scores as a judge: no reading is refused.
 abbrev pub watch : Judge
 watch = record {
   State = BasicThresholder;
@@ -26,13 +31,8 @@ watch = record {
   refused = λ s r. false;
   score = λ r. r .score;
   next = λ s r. counted s (r .score);
-  shown = λ s r. record { threshold = shown s (r .score) .threshold; opening = shown s (r .score) .grade; ends = shown s (r .score) .grade };
+  shown = λ s r. shownAt (kindOf s (r .score));
 }
-
--- What is printed of judged lines: each with its number, and what the watch shows of its score.
-unfoldable pub lines : BasicThresholder → List Reading → List ℕ
-lines s [] = []
-lines s (r ∷ rs) = row (r .number) (shown s (r .score)) ++ lines (counted s (r .score)) rs
 
 -- Each score is zero or of the ledger's sizes.
 abbrev pub ZeroOrSized : Float → Type 0

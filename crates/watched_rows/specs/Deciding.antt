@@ -8,8 +8,8 @@ unfoldable pub isWatched : ℕ → ℕ → Bool
 isWatched watched drawer = eqb watched 0 || eqb watched drawer
 
 -- Fewer than 65,536 sound rows of the drawer have been read: its "65,537th sound row" ends the run.
-unfoldable pub goesOn : ℕ → ℕ → Bool
-goesOn quiet raised = ltb (quiet + raised) 65536
+unfoldable pub goesOn : ℕ → Bool
+goesOn rows = ltb rows 65536
 
 -- "Numbered by row with the header as row 1".
 abbrev pub firstNumber : ℕ

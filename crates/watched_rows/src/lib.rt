@@ -15,11 +15,10 @@ pub fn is_watched(watched: u32, drawer: u32) -> bool
     (watched == 0) | (watched == drawer)
 }
 
-// Whether a drawer with so many quiet and raised rows may have one more.
-pub fn goes_on(quiet: u32, raised: u32) -> bool
-    ensures { λ r. ⌜ r ≡ Deciding.goesOn quiet raised ⌝ }
+// Whether a drawer with so many rows may have one more.
+pub fn goes_on(rows: u64) -> bool
+    ensures { λ r. ⌜ r ≡ Deciding.goesOn rows ⌝ }
 {
-    let rows = quiet as u64 + raised as u64;
     rows < MOST_ROWS
 }
 

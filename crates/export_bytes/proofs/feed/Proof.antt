@@ -16,7 +16,7 @@ slice-aggregate-read c =
 read-requires : tie.Need-read-requires
 read-requires c κs =
     let l : length (now (c .before .before .before .before .args .input)) ≡ 8192 = search needs in
-    let o : length (now (c .before .before .before .before .args .out)) ≡ 450560 = search needs in
+    let o : length (now (c .before .before .before .before .args .out)) ≡ 688128 = search needs in
     omega (arith, length-take-le (c .before .before .before .before .args .n) (now (c .before .before .before .before .args .input)) (omega (arith, c .before .before .if1 .taken)))
 
 returns : tie.Need-returns

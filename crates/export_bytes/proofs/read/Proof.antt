@@ -22,7 +22,7 @@ use Rattle.export_bytes.proofs.read.Tie as tie
 
 abbrev Inv-loop : tie.InvT-loop
 Inv-loop input out₀ scan₀ course₀ i₀ to₀ out scan course i to =
-    (length out ≡ length out₀) × (runOf scan course ≡ fed (runOf scan₀ course₀) (take i input)) × (to ≤ 55 * i) × Put out₀ 0 (printed (runOf scan₀ course₀) (take i input)) to out
+    (length out ≡ length out₀) × (runOf scan course ≡ fed (runOf scan₀ course₀) (take i input)) × (to ≤ 84 * i) × Put out₀ 0 (printed (runOf scan₀ course₀) (take i input)) to out
 
 abbrev μ-loop : tie.MeasureT-loop
 μ-loop input out₀ scan₀ course₀ i₀ to₀ out scan course i to = length input - i

@@ -10,12 +10,6 @@ use Rattle.export_bytes.proofs.total.Tie as tie
 is-open-requires : tie.Need-is-open-requires
 is-open-requires c κs = search needs
 
-cast-write-counts : tie.Need-cast-write-counts
-cast-write-counts c = search needs
-
-cast-write-counts-2 : tie.Need-cast-write-counts-2
-cast-write-counts-2 c = search needs
-
 write-counts-requires : tie.Need-write-counts-requires
 write-counts-requires c κs = search needs
 
@@ -24,7 +18,7 @@ same-length c = search needs
 
 returns : tie.Need-returns
 unfolding totalSaid
-returns c = simp (sym (c .before .before .before .before .before .before .before .before .is-open .ensures) ∙ c .before .before .before .before .before .before .before .if1 .taken) (with-room (c .before .before .write-counts .ensures) (c .before .before .before .before .before .before .before .before .before .before .pre))
+returns c = simp (sym (c .before .before .before .before .before .is-open .ensures) ∙ c .before .before .before .before .if1 .taken) (with-room (c .before .before .write-counts .ensures) (c .before .before .before .before .before .before .before .pre))
 
 returns-2 : tie.Need-returns-2
 unfolding totalSaid
@@ -32,12 +26,4 @@ returns-2 c = simp (sym (c .before .is-open .ensures) ∙ c .if1 .left) (put-non
 
 pub total-spec : {M : Type 1} → statement M
 total-spec =
-    tie.close
-    (tie.spec
-    is-open-requires
-    cast-write-counts
-    cast-write-counts-2
-    write-counts-requires
-    same-length
-    returns
-    returns-2)
+    tie.close (tie.spec is-open-requires write-counts-requires same-length returns returns-2)

@@ -1,4 +1,4 @@
-use mathlib.Core.Path.{sym, _∙_}
+use mathlib.Core.Path.{sym, ap, _∙_}
 use borrow.Author.Tests.{ltb-true}
 use Rattle.watched_rows.specs.Deciding.{goesOn}
 use Rattle.export_rows.specs.Taking.{sound}
@@ -9,29 +9,32 @@ use Rattle.export_rows.proofs.sound.Tie as tie
 is-watched-requires : tie.Need-is-watched-requires
 is-watched-requires c κs = search needs
 
+lines-requires : tie.Need-lines-requires
+lines-requires c κs = search needs
+
 goes-on-requires : tie.Need-goes-on-requires
 goes-on-requires c κs = search needs
 
-shown-requires : tie.Need-shown-requires
-shown-requires c κs = search needs
+kind-of-requires : tie.Need-kind-of-requires
+kind-of-requires c κs = search needs
 
-judged-requires : tie.Need-judged-requires
+with-row-requires : tie.Need-with-row-requires
 unfolding goesOn
-judged-requires c κs = ltb-true _ _ (sym (c .before .before .goes-on .ensures) ∙ c .before .if2 .taken)
+with-row-requires c κs = ltb-true _ _ (ap goesOn (sym (c .before .before .before .lines .ensures .0)) ∙ sym (c .before .before .goes-on .ensures) ∙ c .before .if2 .taken)
 
 passed-requires : tie.Need-passed-requires
 passed-requires c κs = search needs
 
 returns : tie.Need-returns
 unfolding sound
-returns c = simp (sym (c .before .before .before .before .before .before .is-watched .ensures) ∙ c .before .before .before .before .before .if1 .taken, sym (c .before .before .before .before .goes-on .ensures) ∙ c .before .before .before .if2 .taken, sym (c .before .before .shown .ensures), sym (c .before .judged .ensures), c .passed .ensures)
+returns c = simp (sym (c .before .before .before .before .before .before .before .is-watched .ensures) ∙ c .before .before .before .before .before .before .if1 .taken, sym (c .before .before .before .before .before .lines .ensures .0), sym (c .before .before .before .before .goes-on .ensures) ∙ c .before .before .before .if2 .taken, sym (c .before .before .kind-of .ensures), sym (c .before .with-row .ensures), c .passed .ensures)
 
 ended-requires : tie.Need-ended-requires
 ended-requires c κs = search needs
 
 returns-2 : tie.Need-returns-2
 unfolding sound
-returns-2 c = simp (sym (c .before .before .before .before .is-watched .ensures) ∙ c .before .before .before .if1 .taken, sym (c .before .before .goes-on .ensures) ∙ c .before .if2 .left, c .ended .ensures)
+returns-2 c = simp (sym (c .before .before .before .before .before .is-watched .ensures) ∙ c .before .before .before .before .if1 .taken, sym (c .before .before .before .lines .ensures .0), sym (c .before .before .goes-on .ensures) ∙ c .before .if2 .left, c .ended .ensures)
 
 passed-requires-2 : tie.Need-passed-requires-2
 passed-requires-2 c κs = search needs
@@ -45,9 +48,10 @@ sound-spec =
     tie.close
     (tie.spec
     is-watched-requires
+    lines-requires
     goes-on-requires
-    shown-requires
-    judged-requires
+    kind-of-requires
+    with-row-requires
     passed-requires
     returns
     ended-requires

@@ -1,19 +1,19 @@
-use mathlib.Core.Path.{_∙_, sym}
+use Prim.Native.Nat.{ℕ}
+use mathlib.Core.Bool.{false}
+use mathlib.Core.Path.{sym, ap, ap₂, _∙_}
+use Rattle.basicthresholder.specs.declared.BasicThresholder.{BasicThresholder}
+use Rattle.score_rows.specs.declared.Counts.{Counts}
+use Rattle.score_rows.specs.Counting.{oneMore}
 use Rattle.score_rows.proofs.Bytes.{with-room}
-use borrow.Author.Needs.{needs}
+use Rattle.score_rows.proofs.Sheet.{still-few}
 use Rattle.score_lines.proofs.Reading.{few}
-use Rattle.score_lines.specs.Feeding.{lineEnded, lineSaid, endedBy, saidBy}
+use Rattle.score_lines.specs.Feeding.{runOf, lineOf, withScore, lineEnded, lineSaid, endedBy, saidBy}
+use borrow.Author.Needs.{needs}
 use Rattle.score_lines.proofs.end_line.Statement.{statement}
 use Rattle.score_lines.proofs.end_line.Tie as tie
 
-cast-lines : tie.Need-cast-lines
-cast-lines c = search needs
-
-cast-lines-2 : tie.Need-cast-lines-2
-cast-lines-2 c = search needs
-
-add-lines : tie.Need-add-lines
-add-lines c = search needs
+lines-requires : tie.Need-lines-requires
+lines-requires c κs = search needs
 
 line-of-requires : tie.Need-line-of-requires
 line-of-requires c κs = search needs
@@ -21,11 +21,8 @@ line-of-requires c κs = search needs
 enum-known-line : tie.Need-enum-known-line
 enum-known-line c = search needs
 
-counted-requires : tie.Need-counted-requires
-counted-requires c κs = search needs
-
-shown-requires : tie.Need-shown-requires
-shown-requires c κs = search needs
+kind-of-requires : tie.Need-kind-of-requires
+kind-of-requires c κs = search needs
 
 add-write-row : tie.Need-add-write-row
 add-write-row c = search needs
@@ -33,8 +30,11 @@ add-write-row c = search needs
 write-row-requires : tie.Need-write-row-requires
 write-row-requires c κs = search needs
 
-judged-requires : tie.Need-judged-requires
-judged-requires c κs = few _ (c .before .before .before .before .before .before .before .before .before .before .before .before .before .args .run .part) _ (sym (c .before .before .before .before .before .before .before .before .before .line-of .ensures) ∙ c .before .before .before .before .before .before .before .line .given .1)
+counted-requires : tie.Need-counted-requires
+counted-requires c κs = search needs
+
+with-line-requires : tie.Need-with-line-requires
+with-line-requires c κs = search needs
 
 enum-told : tie.Need-enum-told
 enum-told c = search needs
@@ -52,10 +52,13 @@ same-length : tie.Need-same-length
 same-length c = search needs
 
 returns : tie.Need-returns
-unfolding lineEnded lineSaid endedBy saidBy
+unfolding lineEnded lineSaid endedBy saidBy withScore
 returns c =
-    let q = sym (c .before .before .before .before .before .before .before .before .before .before .line-of .ensures) ∙ c .before .before .before .before .before .before .before .before .line .given .1 in
-    (rw (q, sym (c .before .before .before .before .before .shown .ensures), sym (c .before .before .before .before .before .before .counted .ensures)) (c .judged .ensures), rw (q, sym (c .before .before .before .before .before .shown .ensures)) (with-room (c .before .before .before .write-row .ensures) (c .before .before .before .before .before .before .before .before .before .before .before .before .before .before .pre)))
+    let q = ap (λ (n : ℕ). lineOf n (c .before .before .before .before .before .before .before .before .before .before .before .before .before .args .run .part)) (sym (c .before .before .before .before .before .before .before .before .before .before .before .lines .ensures .0)) ∙ sym (c .before .before .before .before .before .before .before .before .before .before .line-of .ensures) ∙ c .before .before .before .before .before .before .before .before .line .given .1 in
+    let more = c .with-line .ensures ∙ still-few _ _ (few _ (c .before .before .before .before .before .before .before .before .before .before .before .before .before .args .run .part) _ q) ∙ ap (oneMore (c .before .before .before .before .before .before .before .before .before .before .before .before .before .args .run .counts)) (c .before .before .before .before .before .before .kind-of .ensures) in (
+      rw q (ap₂ (λ (s : BasicThresholder) (k : Counts). runOf s k 1 false) (c .before .counted .ensures) more),
+      rw (q, sym (c .before .before .before .before .before .before .kind-of .ensures), sym (c .before .before .before .before .before .before .before .before .before .before .before .lines .ensures .0)) (with-room (c .before .before .before .before .write-row .ensures) (c .before .before .before .before .before .before .before .before .before .before .before .before .before .pre)),
+    )
 
 same-length-2 : tie.Need-same-length-2
 same-length-2 c = search needs
@@ -63,23 +66,21 @@ same-length-2 c = search needs
 returns-2 : tie.Need-returns-2
 unfolding lineEnded lineSaid endedBy saidBy
 returns-2 c =
-    let q = sym (c .before .before .before .before .before .before .before .line-of .ensures) ∙ c .before .before .before .before .before .enum-told .given .1 in
-    (rw q (c .ended .ensures), rw q (with-room (c .before .before .before .write-bad-line .ensures) (c .before .before .before .before .before .before .before .before .before .before .before .pre)))
+    let q = ap (λ (n : ℕ). lineOf n (c .before .before .before .before .before .before .before .before .before .before .args .run .part)) (sym (c .before .before .before .before .before .before .before .before .lines .ensures .0)) ∙ sym (c .before .before .before .before .before .before .before .line-of .ensures) ∙ c .before .before .before .before .before .enum-told .given .1 in
+    (rw q (c .ended .ensures), rw (q, sym (c .before .before .before .before .before .before .before .before .lines .ensures .0)) (with-room (c .before .before .before .write-bad-line .ensures) (c .before .before .before .before .before .before .before .before .before .before .pre)))
 
 pub end-line-spec : {M : Type 1} → statement M
 end-line-spec =
     tie.close
     (tie.spec
-    cast-lines
-    cast-lines-2
-    add-lines
+    lines-requires
     line-of-requires
     enum-known-line
-    counted-requires
-    shown-requires
+    kind-of-requires
     add-write-row
     write-row-requires
-    judged-requires
+    counted-requires
+    with-line-requires
     enum-told
     add-write-bad-line
     write-bad-line-requires

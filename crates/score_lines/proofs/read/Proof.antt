@@ -19,7 +19,7 @@ use Rattle.score_lines.proofs.read.Tie as tie
 
 abbrev Inv-loop : tie.InvT-loop
 Inv-loop input out₀ state₀ i₀ to₀ out state i to =
-    (i ≤ length input) × (length out ≡ length out₀) × (state ≡ fed state₀ (take i input)) × (to ≤ 55 * i) × Put out₀ 0 (printed state₀ (take i input)) to out
+    (i ≤ length input) × (length out ≡ length out₀) × (state ≡ fed state₀ (take i input)) × (to ≤ 84 * i) × Put out₀ 0 (printed state₀ (take i input)) to out
 
 abbrev μ-loop : tie.MeasureT-loop
 μ-loop input out₀ state₀ i₀ to₀ out state i to = length input - i
@@ -73,17 +73,11 @@ loop-again c =
 pushed-requires : tie.Need-pushed-requires Inv-loop μ-loop
 pushed-requires c κs = search needs
 
-cast-write-bad-line : tie.Need-cast-write-bad-line Inv-loop μ-loop
-cast-write-bad-line c = search needs
-
-cast-write-bad-line-2 : tie.Need-cast-write-bad-line-2 Inv-loop μ-loop
-cast-write-bad-line-2 c = search needs
+lines-requires : tie.Need-lines-requires Inv-loop μ-loop
+lines-requires c κs = search needs
 
 add-write-bad-line : tie.Need-add-write-bad-line Inv-loop μ-loop
 add-write-bad-line c = search needs
-
-add-write-bad-line-2 : tie.Need-add-write-bad-line-2 Inv-loop μ-loop
-add-write-bad-line-2 c = search needs
 
 write-bad-line-requires : tie.Need-write-bad-line-requires Inv-loop μ-loop
 write-bad-line-requires c κs = search needs
@@ -92,23 +86,23 @@ ended-requires : tie.Need-ended-requires Inv-loop μ-loop
 ended-requires c κs = search needs
 
 same-length-2 : tie.Need-same-length-2 Inv-loop μ-loop
-same-length-2 c = c .before .before .before .write-bad-line .kept .0 ∙ c .before .before .before .before .before .before .before .before .before .before .before .before .before .loop .inv .1
+same-length-2 c = c .before .before .before .write-bad-line .kept .0 ∙ c .before .before .before .before .before .before .before .before .before .before .before .before .loop .inv .1
 
 returns-2 : tie.Need-returns-2 Inv-loop μ-loop
 unfolding ended
 returns-2 c =
-    let run = c .before .before .before .before .before .before .before .before .before .before .before .before .before .before .before .before .args .run in
-    let xs = now (c .before .before .before .before .before .before .before .before .before .before .before .before .before .before .before .before .args .input) in
-    let i = c .before .before .before .before .before .before .before .before .before .before .before .before .before .loop .i in
+    let run = c .before .before .before .before .before .before .before .before .before .before .before .before .before .before .before .args .run in
+    let xs = now (c .before .before .before .before .before .before .before .before .before .before .before .before .before .before .before .args .input) in
+    let i = c .before .before .before .before .before .before .before .before .before .before .before .before .loop .i in
     let b = getD xs i 0 in
-    let s = c .before .before .before .before .before .before .before .before .before .before .before .before .before .loop .state in
-    let e = c .before .before .before .before .before .before .before .before .before .before .before .before .before .loop .inv .2 in
-    let t = c .before .before .before .before .before .before .before .before .before .before .before .before .loop-test .taken in
-    let going = c .before .before .before .before .before .before .before .before .before .before .before .if1 .left in
-    let inside = c .before .before .before .before .before .before .before .before .before .if2 .left in
-    let h : pushed (s .part) b ≡ 0 = sym (c .before .before .before .before .before .before .before .before .pushed .ensures) ∙ c .before .before .before .before .before .before .before .if3 .taken in
+    let s = c .before .before .before .before .before .before .before .before .before .before .before .before .loop .state in
+    let e = c .before .before .before .before .before .before .before .before .before .before .before .before .loop .inv .2 in
+    let t = c .before .before .before .before .before .before .before .before .before .before .before .loop-test .taken in
+    let going = c .before .before .before .before .before .before .before .before .before .before .if1 .left in
+    let inside = c .before .before .before .before .before .before .before .before .if2 .left in
+    let h : pushed (s .part) b ≡ 0 = sym (c .before .before .before .before .before .before .before .pushed .ensures) ∙ c .before .before .before .before .before .before .if3 .taken in
     let n = next-run step run xs i e t (c .ended .ensures ∙ sym (bad-step s b going inside h)) in
-    let p = next-put step said run xs i e said-length t (c .before .before .before .before .before .before .before .before .before .before .before .before .before .loop .inv .3) (omega (arith, c .before .before .before .before .before .before .before .before .before .before .before .before .before .before .before .before .pre)) (c .before .before .before .before .before .before .before .before .before .before .before .before .before .loop .inv .4) (bad-said s b going inside h) (with-room (c .before .before .before .write-bad-line .ensures) (omega (arith, c .before .before .before .before .before .before .before .before .before .before .before .before .before .loop .inv .1, c .before .before .before .before .before .before .before .before .before .before .before .before .before .loop .inv .3, c .before .before .before .before .before .before .before .before .before .before .before .before .loop-test .taken, c .before .before .before .before .before .before .before .before .before .before .before .before .before .before .before .before .pre))) in
+    let p = next-put step said run xs i e said-length t (c .before .before .before .before .before .before .before .before .before .before .before .before .loop .inv .3) (omega (arith, c .before .before .before .before .before .before .before .before .before .before .before .before .before .before .before .pre)) (c .before .before .before .before .before .before .before .before .before .before .before .before .loop .inv .4) (bad-said s b going inside h) (rw (c .before .before .before .before .lines .ensures .0) at (with-room (c .before .before .before .write-bad-line .ensures) (omega (arith, c .before .before .before .before .before .before .before .before .before .before .before .before .loop .inv .1, c .before .before .before .before .before .before .before .before .before .before .before .before .loop .inv .3, c .before .before .before .before .before .before .before .before .before .before .before .loop-test .taken, c .before .before .before .before .before .before .before .before .before .before .before .before .before .before .before .pre)))) in
     let o : c .ended .result .over ≡ true = ap (λ (r : Run). r .over) (c .ended .ensures) in
     rw (still-run step run xs (i + 1) n (over-step _ o), still-all step said run xs (i + 1) n (over-step _ o) (over-said _ o)) (refl, p .1)
 
@@ -133,7 +127,7 @@ loop-again-2 c =
     let p = next-put step said run xs i e said-length t (c .before .before .before .before .before .before .loop .inv .3) (omega (arith, c .before .before .before .before .before .before .before .before .before .pre)) (c .before .before .before .before .before .before .loop .inv .4) (digit-said s b going inside h) (put-none (c .before .before .before .before .before .before .loop .out) (c .before .before .before .before .before .before .loop .to) []) in (
       search needs,
       c .before .before .before .before .before .before .loop .inv .1,
-      next-run step run xs i e t (ap (λ (p : ℕ). runOf (s .thresholder) (s .quiet) (s .raised) p (s .over)) (c .before .pushed .ensures) ∙ sym (digit-step s b going inside h)),
+      next-run step run xs i e t (ap (λ (p : ℕ). runOf (s .thresholder) (s .counts) p (s .over)) (c .before .pushed .ensures) ∙ sym (digit-step s b going inside h)),
       p .0,
       p .1,
     )
@@ -161,10 +155,8 @@ read-spec =
     loop-less
     loop-again
     pushed-requires
-    cast-write-bad-line
-    cast-write-bad-line-2
+    lines-requires
     add-write-bad-line
-    add-write-bad-line-2
     write-bad-line-requires
     ended-requires
     same-length-2

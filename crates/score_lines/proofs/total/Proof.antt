@@ -11,12 +11,6 @@ returns : tie.Need-returns
 unfolding totalRun totalSaid
 returns c = simp (c .if1 .taken) (refl, put-none (now (c .before .before .args .out)) (c .before .before .args .at) [])
 
-cast-write-counts : tie.Need-cast-write-counts
-cast-write-counts c = search needs
-
-cast-write-counts-2 : tie.Need-cast-write-counts-2
-cast-write-counts-2 c = search needs
-
 write-counts-requires : tie.Need-write-counts-requires
 write-counts-requires c κs = search needs
 
@@ -28,15 +22,13 @@ same-length c = search needs
 
 returns-2 : tie.Need-returns-2
 unfolding totalRun totalSaid
-returns-2 c = simp (c .before .before .before .before .before .before .before .if1 .left) (c .ended .ensures, with-room (c .before .before .before .write-counts .ensures) (c .before .before .before .before .before .before .before .before .before .pre))
+returns-2 c = simp (c .before .before .before .before .before .if1 .left) (c .ended .ensures, with-room (c .before .before .before .write-counts .ensures) (c .before .before .before .before .before .before .before .pre))
 
 pub total-spec : {M : Type 1} → statement M
 total-spec =
     tie.close
     (tie.spec
     returns
-    cast-write-counts
-    cast-write-counts-2
     write-counts-requires
     ended-requires
     same-length

@@ -1,6 +1,6 @@
 use native.Mathlib.Omega.{arith}
 use lib.ListN.{length-append}
-use Rattle.score_rows.proofs.Bytes.{put-then, decimal-length, bits-length}
+use Rattle.score_rows.proofs.Bytes.{put-then, decimal-length, shown-length}
 use Rattle.score_rows.specs.Text.{row}
 use borrow.Author.Needs.{needs}
 use Rattle.score_rows.proofs.put_row.Statement.{statement}
@@ -12,17 +12,11 @@ put-decimal-requires c κs = search needs
 put-requires : tie.Need-put-requires
 put-requires c κs = omega (arith, decimal-length (c .before .before .before .before .before .before .args .number))
 
-put-bits-requires : tie.Need-put-bits-requires
-put-bits-requires c κs = omega (arith, decimal-length (c .before .before .before .before .before .before .before .before .before .before .args .number))
+put-shown-requires : tie.Need-put-shown-requires
+put-shown-requires c κs = omega (arith, decimal-length (c .before .before .before .before .before .before .before .before .before .before .args .number))
 
 put-requires-2 : tie.Need-put-requires-2
-put-requires-2 c κs = omega (arith, decimal-length (c .before .before .before .before .before .before .before .before .before .before .before .before .before .before .args .number), bits-length (c .before .before .before .before .before .before .before .before .before .before .before .before .before .before .args .shown .threshold))
-
-put-bits-requires-2 : tie.Need-put-bits-requires-2
-put-bits-requires-2 c κs = omega (arith, decimal-length (c .before .before .before .before .before .before .before .before .before .before .before .before .before .before .before .before .before .before .args .number), bits-length (c .before .before .before .before .before .before .before .before .before .before .before .before .before .before .before .before .before .before .args .shown .threshold))
-
-put-requires-3 : tie.Need-put-requires-3
-put-requires-3 c κs = omega (arith, decimal-length (c .before .before .before .before .before .before .before .before .before .before .before .before .before .before .before .before .before .before .before .before .before .before .args .number), bits-length (c .before .before .before .before .before .before .before .before .before .before .before .before .before .before .before .before .before .before .before .before .before .before .args .shown .threshold), bits-length (c .before .before .before .before .before .before .before .before .before .before .before .before .before .before .before .before .before .before .before .before .before .before .args .shown .grade), c .before .before .before .before .before .before .before .before .before .before .before .before .before .before .before .before .before .before .before .put-decimal .ensures .place, c .before .before .before .before .before .before .before .before .before .before .before .before .before .before .before .before .before .before .before .put-decimal .kept .0)
+put-requires-2 c κs = omega (arith, decimal-length (c .before .before .before .before .before .before .before .before .before .before .before .before .before .before .args .number), shown-length (c .before .before .before .before .before .before .before .before .before .before .before .before .before .before .args .kind), c .before .before .before .before .before .before .before .before .before .before .before .put-decimal .ensures .place, c .before .before .before .before .before .before .before .before .before .before .before .put-decimal .kept .0)
 
 same-length : tie.Need-same-length
 same-length c = search needs
@@ -30,18 +24,13 @@ same-length c = search needs
 returns : tie.Need-returns
 unfolding row
 returns c =
-    let n = decimal-length (c .before .before .before .before .before .before .before .before .before .before .before .before .before .before .before .before .before .before .before .before .before .before .before .before .before .args .number) in
-    let t = bits-length (c .before .before .before .before .before .before .before .before .before .before .before .before .before .before .before .before .before .before .before .before .before .before .before .before .before .args .shown .threshold) in
-    let g = bits-length (c .before .before .before .before .before .before .before .before .before .before .before .before .before .before .before .before .before .before .before .before .before .before .before .before .before .args .shown .grade) in
-    let room = c .before .before .before .before .before .before .before .before .before .before .before .before .before .before .before .before .before .before .before .before .before .before .before .before .before .pre in
-    put-then (c .before .before .before .before .before .before .before .before .before .before .before .before .before .before .before .before .before .before .before .before .before .before .put-decimal .ensures)
-    (put-then (c .before .before .before .before .before .before .before .before .before .before .before .before .before .before .before .before .before .before .put .ensures)
-    (put-then (c .before .before .before .before .before .before .before .before .before .before .before .before .before .before .put-bits .ensures)
-    (put-then (c .before .before .before .before .before .before .before .before .before .before .put2 .ensures)
-    (put-then (c .before .before .before .before .before .before .put-bits2 .ensures) (c .before .before .put3 .ensures) (omega (arith, c .before .before .before .before .before .before .before .before .before .before .before .before .before .before .before .before .before .before .before .before .before .before .put-decimal .ensures .place, c .before .before .before .before .before .before .before .before .before .before .before .before .before .before .before .before .before .before .before .before .before .before .put-decimal .kept .0, c .before .before .before .before .before .before .before .before .before .before .before .before .before .before .before .before .before .before .put .ensures .place, c .before .before .before .before .before .before .before .before .before .before .before .before .before .before .before .before .before .before .put .kept .0, c .before .before .before .before .before .before .before .before .before .before .before .before .before .before .put-bits .ensures .place, c .before .before .before .before .before .before .before .before .before .before .before .before .before .before .put-bits .kept .0, c .before .before .before .before .before .before .before .before .before .before .put2 .ensures .place, c .before .before .before .before .before .before .before .before .before .before .put2 .kept .0)))
-    (simp length-append (omega (arith, c .before .before .before .before .before .before .before .before .before .before .before .before .before .before .before .before .before .before .before .before .before .before .put-decimal .ensures .place, c .before .before .before .before .before .before .before .before .before .before .before .before .before .before .before .before .before .before .before .before .before .before .put-decimal .kept .0, c .before .before .before .before .before .before .before .before .before .before .before .before .before .before .before .before .before .before .put .ensures .place, c .before .before .before .before .before .before .before .before .before .before .before .before .before .before .before .before .before .before .put .kept .0, c .before .before .before .before .before .before .before .before .before .before .before .before .before .before .put-bits .ensures .place, c .before .before .before .before .before .before .before .before .before .before .before .before .before .before .put-bits .kept .0))))
-    (simp length-append (omega (arith, c .before .before .before .before .before .before .before .before .before .before .before .before .before .before .before .before .before .before .before .before .before .before .put-decimal .ensures .place, c .before .before .before .before .before .before .before .before .before .before .before .before .before .before .before .before .before .before .before .before .before .before .put-decimal .kept .0, c .before .before .before .before .before .before .before .before .before .before .before .before .before .before .before .before .before .before .put .ensures .place, c .before .before .before .before .before .before .before .before .before .before .before .before .before .before .before .before .before .before .put .kept .0))))
-    (simp length-append (omega (arith, c .before .before .before .before .before .before .before .before .before .before .before .before .before .before .before .before .before .before .before .before .before .before .put-decimal .ensures .place, c .before .before .before .before .before .before .before .before .before .before .before .before .before .before .before .before .before .before .before .before .before .before .put-decimal .kept .0))))
+    let n = decimal-length (c .before .before .before .before .before .before .before .before .before .before .before .before .before .before .before .before .before .args .number) in
+    let k = shown-length (c .before .before .before .before .before .before .before .before .before .before .before .before .before .before .before .before .before .args .kind) in
+    let room = c .before .before .before .before .before .before .before .before .before .before .before .before .before .before .before .before .before .pre in
+    put-then (c .before .before .before .before .before .before .before .before .before .before .before .before .before .before .put-decimal .ensures)
+    (put-then (c .before .before .before .before .before .before .before .before .before .before .put .ensures)
+    (put-then (c .before .before .before .before .before .before .put-shown .ensures) (c .before .before .put2 .ensures) (omega (arith, c .before .before .before .before .before .before .before .before .before .before .before .before .before .before .put-decimal .ensures .place, c .before .before .before .before .before .before .before .before .before .before .before .before .before .before .put-decimal .kept .0, c .before .before .before .before .before .before .before .before .before .before .put .ensures .place, c .before .before .before .before .before .before .before .before .before .before .put .kept .0)))
+    (simp length-append (omega (arith, c .before .before .before .before .before .before .before .before .before .before .before .before .before .before .put-decimal .ensures .place, c .before .before .before .before .before .before .before .before .before .before .before .before .before .before .put-decimal .kept .0))))
     (simp length-append (omega arith))
 
 pub put-row-spec : {M : Type 1} → statement M
@@ -50,9 +39,7 @@ put-row-spec =
     (tie.spec
     put-decimal-requires
     put-requires
-    put-bits-requires
+    put-shown-requires
     put-requires-2
-    put-bits-requires-2
-    put-requires-3
     same-length
     returns)

@@ -1,15 +1,11 @@
 use mathlib.Core.Path.{refl}
 use Rattle.watched_rows.specs.Deciding.{goesOn}
-use borrow.Author.Needs.{needs}
 use Rattle.watched_rows.proofs.goes_on.Statement.{statement}
 use Rattle.watched_rows.proofs.goes_on.Tie as tie
-
-add-rows : tie.Need-add-rows
-add-rows c = search needs
 
 returns : tie.Need-returns
 unfolding goesOn
 returns c = refl
 
 pub goes-on-spec : {M : Type 1} → statement M
-goes-on-spec = tie.close (tie.spec add-rows returns)
+goes-on-spec = tie.close (tie.spec returns)
