@@ -10,9 +10,9 @@ use Rattle.csv_rows.specs.declared.Scan.{Scan}
 use Rattle.csv_rows.specs.Scanning as Scanning
 use Rattle.csv_rows.specs.Scanning.{stepped, finished, told, heard}
 use Rattle.csv_rows.proofs.Whole as Read
-use Rattle.score_rows.specs.declared.Kind.{Kind}
-use Rattle.score_rows.specs.Watching.{kindOf}
-use Rattle.score_rows.specs.Counting.{lines, noLines}
+use Rattle.score_kinds.specs.declared.Kind.{Kind}
+use Rattle.score_kinds.specs.Watching.{kindOf}
+use Rattle.score_kinds.specs.Counting.{lines, noLines}
 use Rattle.score_rows.specs.Sheet.{Bad, ends, first}
 use Rattle.score_rows.proofs.Sheet.{one-line-more}
 use Rattle.score_rows.specs.Feeding as Feeding

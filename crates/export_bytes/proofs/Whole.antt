@@ -12,9 +12,9 @@ use Rattle.csv_rows.specs.declared.Scan.{Scan}
 use Rattle.csv_rows.specs.Scanning as Scanning
 use Rattle.csv_rows.specs.Scanning.{stepped, finished, told, heard}
 use Rattle.csv_rows.proofs.Whole as Read
-use Rattle.score_rows.specs.declared.Kind.{Kind}
-use Rattle.score_rows.specs.Watching.{kindOf, counted}
-use Rattle.score_rows.specs.Counting.{lines, noLines, oneMore}
+use Rattle.score_kinds.specs.declared.Kind.{Kind}
+use Rattle.score_kinds.specs.Watching.{kindOf, counted}
+use Rattle.score_kinds.specs.Counting.{lines, noLines, oneMore}
 use Rattle.score_rows.specs.Text.{header, row, badLine, badRow}
 use Rattle.score_rows.specs.Sheet as Sheet
 use Rattle.score_rows.specs.Sheet.{AllRead, Bad, ends, first, lastLine}

@@ -3,7 +3,7 @@ use mathlib.Core.Path.{_≡_}
 use mathlib.Core.List.{List}
 use Prim.Native.Nat.{ℕ}
 use lib.Ieee.{ofBits, binary64}
-use Rattle.score_rows.specs.Watching.{settings, three32}
+use Rattle.score_kinds.specs.Watching.{settings, three32}
 use Rattle.score_rows.specs.Sheet.{text}
 use Rattle.export_rows.specs.Output.{sheet, output}
 use Rattle.ledger.specs.Statement.{told, showed, Demand3}

@@ -6,10 +6,10 @@ use Rattle.csv_rows.specs.declared.Entry.{Entry}
 use Rattle.csv_rows.specs.declared.Row.{Row}
 use Rattle.csv_rows.specs.declared.Row.the-variants as Rows
 use Rattle.basicthresholder.specs.declared.BasicThresholder.{BasicThresholder}
-use Rattle.score_rows.specs.declared.Kind.{Kind}
-use Rattle.score_rows.specs.declared.Counts.{Counts}
-use Rattle.score_rows.specs.Watching.{settings, kindOf, counted}
-use Rattle.score_rows.specs.Counting.{lines, noLines, oneMore}
+use Rattle.score_kinds.specs.declared.Kind.{Kind}
+use Rattle.score_kinds.specs.declared.Counts.{Counts}
+use Rattle.score_kinds.specs.Watching.{settings, kindOf, counted}
+use Rattle.score_kinds.specs.Counting.{lines, noLines, oneMore}
 use Rattle.score_rows.specs.Text.{row, badLine, badRow}
 use Rattle.watched_rows.specs.Deciding.{isWatched, goesOn, firstNumber, nextNumber}
 use Rattle.export_rows.specs.declared.Watch.{Watch}

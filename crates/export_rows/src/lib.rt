@@ -2,12 +2,12 @@
 use basicthresholder::BasicThresholder;
 use csv_rows::Entry;
 use csv_rows::Row;
-use score_rows::Counts;
-use score_rows::Kind;
+use score_kinds::Counts;
+use score_kinds::Kind;
 use types::Refusal;
 ghost use mathlib.Core.Path.{_≡_};
 ghost use Prim.Native.Nat.{_<_};
-ghost use Rattle.score_rows.specs.Counting as Counting;
+ghost use Rattle.score_kinds.specs.Counting as Counting;
 ghost use Rattle.export_rows.specs.Taking as Taking;
 
 // What a run knows of the drawer that it watches: its number, or 0 before the first row; its statistics; how many of its rows were of each kind.
@@ -52,9 +52,9 @@ pub fn begin() -> Course
 {
     Course {
         watch: Watch {
-            thresholder: score_rows::settings(),
+            thresholder: score_kinds::settings(),
             drawer: 0,
-            counts: score_rows::no_lines(),
+            counts: score_kinds::no_lines(),
         },
         row: watched_rows::first_number(),
         ending: Ending::Open,
@@ -115,9 +115,9 @@ fn with_row(watch: Watch, entry: Entry, kind: Kind) -> Watch
     ensures { λ r. ⌜ r ≡ Taking.withRow watch entry kind ⌝ }
 {
     Watch {
-        thresholder: score_rows::counted(watch.thresholder, entry.score),
+        thresholder: score_kinds::counted(watch.thresholder, entry.score),
         drawer: entry.drawer,
-        counts: score_rows::with_line(watch.counts, kind),
+        counts: score_kinds::with_line(watch.counts, kind),
     }
 }
 
@@ -127,8 +127,8 @@ fn sound(course: Course, entry: Entry) -> Taken
 {
     let watch = course.watch;
     if watched_rows::is_watched(watch.drawer, entry.drawer) {
-        if watched_rows::goes_on(score_rows::lines(watch.counts)) {
-            let kind = score_rows::kind_of(watch.thresholder, entry.score);
+        if watched_rows::goes_on(score_kinds::lines(watch.counts)) {
+            let kind = score_kinds::kind_of(watch.thresholder, entry.score);
             return Taken {
                 course: passed(course, with_row(watch, entry, kind)),
                 line: Line::Shown(kind),

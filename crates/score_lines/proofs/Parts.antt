@@ -13,7 +13,7 @@ use Rattle.score_lines.specs.declared.Line.{Line}
 use Rattle.score_lines.specs.declared.Line.the-variants.{Score, Fault}
 use Rattle.score_lines.specs.declared.Run.{Run}
 use Rattle.score_lines.specs.declared.Fed.{Fed}
-use Rattle.score_rows.specs.Counting.{lines}
+use Rattle.score_kinds.specs.Counting.{lines}
 use Rattle.score_rows.specs.Text.{badLine, counts, longest}
 use Rattle.score_lines.specs.Feeding.{runOf, lineNumber, pushed, lineOf, ended, lineEnded, lineSaid, saidBy, taken, takenSaid, step, said, totalSaid, Prints}
 use Rattle.score_rows.specs.Steps.{Put}

@@ -11,9 +11,9 @@ use Rattle.basicthresholder.specs.declared.BasicThresholder.{BasicThresholder}
 use Rattle.score_lines.specs.declared.Line.{Line}
 use Rattle.score_lines.specs.declared.Line.the-variants.{Score, Fault}
 use Rattle.score_lines.specs.declared.Run.{Run}
-use Rattle.score_rows.specs.declared.Counts.{Counts}
-use Rattle.score_rows.specs.Watching.{settings, kindOf, counted}
-use Rattle.score_rows.specs.Counting.{lines, noLines, oneMore}
+use Rattle.score_kinds.specs.declared.Counts.{Counts}
+use Rattle.score_kinds.specs.Watching.{settings, kindOf, counted}
+use Rattle.score_kinds.specs.Counting.{lines, noLines, oneMore}
 use Rattle.score_rows.specs.Text.{header, row, badLine}
 use Rattle.score_rows.specs.Sheet.{AllRead, Bad, ends, first, lastLine}
 use Rattle.score_rows.proofs.Sheet as Sheets

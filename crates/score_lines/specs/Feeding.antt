@@ -12,9 +12,9 @@ use Rattle.score_lines.specs.declared.Line.{Line}
 use Rattle.score_lines.specs.declared.Line.the-variants.{Score, Fault}
 use Rattle.score_lines.specs.declared.Run.{Run}
 use Rattle.score_lines.specs.declared.Fed.{Fed}
-use Rattle.score_rows.specs.declared.Counts.{Counts}
-use Rattle.score_rows.specs.Watching.{settings, kindOf, counted}
-use Rattle.score_rows.specs.Counting.{lines, noLines, oneMore, tally}
+use Rattle.score_kinds.specs.declared.Counts.{Counts}
+use Rattle.score_kinds.specs.Watching.{settings, kindOf, counted}
+use Rattle.score_kinds.specs.Counting.{lines, noLines, oneMore, tally}
 use Rattle.score_rows.specs.Text.{header, row, badLine, counts}
 use Rattle.score_rows.specs.Sheet.{AllRead, kinds}
 use Rattle.score_rows.specs.Feeding as Feeding

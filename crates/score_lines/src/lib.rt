@@ -1,7 +1,7 @@
 // The score watch on bytes: lines of eight hexadecimal digits in, rows of thresholds and grades out. A run is fed its input in parts, cut anywhere, and
 // hands back what it prints; a program above has only to read and to write.
 use basicthresholder::BasicThresholder;
-use score_rows::Counts;
+use score_kinds::Counts;
 use score_rows::PART;
 use score_rows::ROOM;
 ghost use mathlib.Core.Path.{_≡_};
@@ -114,16 +114,16 @@ fn end_line(run: Run, out: &mut [u8], at: usize) -> Fed
     requires { ⌜ at + 84 ≤ length (now out) ⌝ }
     ensures { λ r. ⌜ r .run ≡ Feeding.lineEnded run ⌝ ∗ ⌜ Steps.Put (now (out .entry)) at (Feeding.lineSaid run) (r .written) (now (out .exit)) ⌝ }
 {
-    let before = score_rows::lines(run.counts);
+    let before = score_kinds::lines(run.counts);
     let line = line_of(before, run.part);
     match line {
         Line::Score(score) => {
-            let kind = score_rows::kind_of(run.thresholder, score);
+            let kind = score_kinds::kind_of(run.thresholder, score);
             let end = score_rows::write_row(out, at, before + 1, kind);
             Fed {
                 run: Run {
-                    thresholder: score_rows::counted(run.thresholder, score),
-                    counts: score_rows::with_line(run.counts, kind),
+                    thresholder: score_kinds::counted(run.thresholder, score),
+                    counts: score_kinds::with_line(run.counts, kind),
                     part: 1,
                     over: false,
                 },
@@ -180,7 +180,7 @@ fn read(run: Run, input: &[u8], out: &mut [u8]) -> Fed
         }
         let part = pushed(state.part, b);
         if part == 0 {
-            let end = score_rows::write_bad_line(out, to, score_rows::lines(state.counts) + 1);
+            let end = score_rows::write_bad_line(out, to, score_kinds::lines(state.counts) + 1);
             return Fed {
                 run: ended(state),
                 written: end,
@@ -215,8 +215,8 @@ pub fn begin() -> Run
     ensures { λ r. ⌜ r ≡ Feeding.begin ⌝ }
 {
     Run {
-        thresholder: score_rows::settings(),
-        counts: score_rows::no_lines(),
+        thresholder: score_kinds::settings(),
+        counts: score_kinds::no_lines(),
         part: 1,
         over: false,
     }

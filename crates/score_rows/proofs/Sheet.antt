@@ -6,11 +6,11 @@ use native.Mathlib.Omega.{arith}
 use borrow.Author.Tests.{lt-ltb}
 use lib.Ieee.{Float}
 use Rattle.basicthresholder.specs.declared.BasicThresholder.{BasicThresholder}
-use Rattle.score_rows.specs.declared.Kind.{Kind}
-use Rattle.score_rows.specs.declared.Kind.the-variants.{Skipped, Quiet, Raised}
-use Rattle.score_rows.specs.declared.Counts.{Counts}
-use Rattle.score_rows.specs.Watching.{settings, kindOf, counted}
-use Rattle.score_rows.specs.Counting.{countsOf, isQuiet, isRaised, isSkipped, howMany, tally, lines, noLines, oneMore, withLine}
+use Rattle.score_kinds.specs.declared.Kind.{Kind}
+use Rattle.score_kinds.specs.declared.Kind.the-variants.{Skipped, Quiet, Raised}
+use Rattle.score_kinds.specs.declared.Counts.{Counts}
+use Rattle.score_kinds.specs.Watching.{settings, kindOf, counted}
+use Rattle.score_kinds.specs.Counting.{countsOf, isQuiet, isRaised, isSkipped, howMany, tally, lines, noLines, oneMore, withLine}
 use Rattle.score_rows.specs.Text.{header, row}
 use Rattle.score_rows.specs.Sheet.{End, Sheet, ends, first, kinds, rows, AddUp, lastLine, text}
 

@@ -1,5 +1,3 @@
-pub mod Watching
-pub mod Counting
 pub mod Text
 pub mod Sheet
 pub mod Feeding

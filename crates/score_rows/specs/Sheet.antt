@@ -7,10 +7,10 @@ use lib.ListN.{length}
 use lib.Ieee.{Float}
 use Rattle.types.specs.declared.Refusal.{Refusal}
 use Rattle.basicthresholder.specs.declared.BasicThresholder.{BasicThresholder}
-use Rattle.score_rows.specs.declared.Kind.{Kind}
-use Rattle.score_rows.specs.declared.Counts.{Counts}
-use Rattle.score_rows.specs.Watching.{settings, kindOf, counted}
-use Rattle.score_rows.specs.Counting.{tally, lines}
+use Rattle.score_kinds.specs.declared.Kind.{Kind}
+use Rattle.score_kinds.specs.declared.Counts.{Counts}
+use Rattle.score_kinds.specs.Watching.{settings, kindOf, counted}
+use Rattle.score_kinds.specs.Counting.{tally, lines}
 use Rattle.score_rows.specs.Text.{header, row, badLine, badRow, counts}
 
 -- A line judged or skipped: its number in the input, and its score.

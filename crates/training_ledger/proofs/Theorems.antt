@@ -4,7 +4,7 @@ use Prim.Native.Nat.{ℕ, _≤_}
 use native.Mathlib.Omega.{arith}
 use Rattle.demand3.specs.Calls.{zOf, toldOf}
 use Rattle.demand3.proofs.Demand3 as Calls
-use Rattle.score_rows.specs.Watching.{settings}
+use Rattle.score_kinds.specs.Watching.{settings}
 use Rattle.score_rows.specs.Sheet.{text}
 use Rattle.score_rows.proofs.Sheet as Sheets
 use Rattle.score_lines.specs.Output.{sheet, output}

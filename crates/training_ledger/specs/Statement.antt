@@ -12,8 +12,8 @@ use Rattle.ledger.specs.Fractions.{over, unit, Le, Lt, fractionOf, plusZero}
 use Rattle.ledger.specs.Statement.{Told, told, showed, mostReadings, Sized, InBounds, Demand3}
 use Rattle.predictorcorrector.specs.declared.Updated.{Updated}
 use Rattle.demand3.specs.Calls.{Call, new, InTurn, zOf, toldOf, shownOf}
-use Rattle.score_rows.specs.Watching.{settings, three32}
-use Rattle.score_rows.specs.Counting.{tally, lines}
+use Rattle.score_kinds.specs.Watching.{settings, three32}
+use Rattle.score_kinds.specs.Counting.{tally, lines}
 use Rattle.score_rows.specs.Text.{badLine}
 use Rattle.score_rows.specs.Sheet.{Reading, Sheet, AllRead, kinds, text}
 use Rattle.score_lines.specs.Output as ScoreWatch

@@ -18,7 +18,7 @@ use Rattle.deviation.specs.Const.{countLimit}
 use Rattle.basicthresholder.specs.Const.{zero32}
 use Rattle.basicthresholder.specs.declared.BasicThresholder.{BasicThresholder}
 use Rattle.basicthresholder.specs.Updates.{countedGap, countedOver, primaryCounted, countsOk, updated, updatePrimary}
-use Rattle.score_rows.specs.Watching.{settings, counted}
+use Rattle.score_kinds.specs.Watching.{settings, counted}
 use Rattle.score_rows.specs.Sheet.{Reading}
 use Rattle.ledger.specs.Statement.{Judge, Told, Shown, told, showed}
 use Rattle.watch_ledger.specs.Statement.{watch}

@@ -10,9 +10,9 @@ use Rattle.basicthresholder.specs.declared.BasicThresholder.{BasicThresholder}
 use Rattle.basicthresholder.specs.declared.Graded.{Graded}
 use Rattle.basicthresholder.specs.Grades.{primaryThresholdAndGrade}
 use Rattle.basicthresholder.specs.Updates.{primaryCounted}
-use Rattle.score_rows.specs.declared.Kind.{Kind}
-use Rattle.score_rows.specs.declared.Kind.the-variants.{Skipped, Quiet, Raised}
-use Rattle.score_rows.specs.Watching.{settings, three32, byGrade, kindOf}
+use Rattle.score_kinds.specs.declared.Kind.{Kind}
+use Rattle.score_kinds.specs.declared.Kind.the-variants.{Skipped, Quiet, Raised}
+use Rattle.score_kinds.specs.Watching.{settings, three32, byGrade, kindOf}
 use Rattle.ledger.specs.Theorem.{Laws, Counts, New}
 use Rattle.ledger.proofs.Laws.{primary-counts, new-fresh, new-z}
 use Rattle.ledger.proofs.WholeList as WholeList

@@ -9,9 +9,9 @@ use lib.ListN.{length}
 use lib.Ieee.{Float, ofBits, binary64, eq}
 use Rattle.basicthresholder.specs.Const.{zero32}
 use Rattle.basicthresholder.specs.declared.BasicThresholder.{BasicThresholder}
-use Rattle.score_rows.specs.declared.Kind.{Kind}
-use Rattle.score_rows.specs.declared.Kind.the-variants.{Skipped, Quiet, Raised}
-use Rattle.score_rows.specs.Watching.{settings, three32, kindOf, counted}
+use Rattle.score_kinds.specs.declared.Kind.{Kind}
+use Rattle.score_kinds.specs.declared.Kind.the-variants.{Skipped, Quiet, Raised}
+use Rattle.score_kinds.specs.Watching.{settings, three32, kindOf, counted}
 use Rattle.score_rows.specs.Sheet.{Reading}
 use Rattle.ledger.specs.Fractions.{plusZero}
 use Rattle.ledger.specs.Statement.{Judge, Shown, told, showed, mostReadings, Sized, Demand3}

@@ -1,6 +1,6 @@
 use mathlib.Core.Path.{ap₂, _∙_}
 use Rattle.basicthresholder.specs.declared.BasicThresholder.{BasicThresholder}
-use Rattle.score_rows.specs.declared.Counts.{Counts}
+use Rattle.score_kinds.specs.declared.Counts.{Counts}
 use Rattle.score_rows.proofs.Sheet.{still-few}
 use Rattle.export_rows.specs.Taking.{watchOf, withRow}
 use borrow.Author.Needs.{needs}

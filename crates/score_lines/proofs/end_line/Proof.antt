@@ -2,8 +2,8 @@ use Prim.Native.Nat.{ℕ}
 use mathlib.Core.Bool.{false}
 use mathlib.Core.Path.{sym, ap, ap₂, _∙_}
 use Rattle.basicthresholder.specs.declared.BasicThresholder.{BasicThresholder}
-use Rattle.score_rows.specs.declared.Counts.{Counts}
-use Rattle.score_rows.specs.Counting.{oneMore}
+use Rattle.score_kinds.specs.declared.Counts.{Counts}
+use Rattle.score_kinds.specs.Counting.{oneMore}
 use Rattle.score_rows.proofs.Bytes.{with-room}
 use Rattle.score_rows.proofs.Sheet.{still-few}
 use Rattle.score_lines.proofs.Reading.{few}

@@ -1,10 +1,10 @@
 use mathlib.Core.Path.{sym}
 use native.Mathlib.Omega.{arith}
 use borrow.Author.Tests.{lt-ltb, le-ltb}
-use Rattle.score_rows.specs.Counting.{lines, oneMore, withLine}
+use Rattle.score_kinds.specs.Counting.{lines, oneMore, withLine}
 use borrow.Author.Needs.{needs}
-use Rattle.score_rows.proofs.with_line.Statement.{statement}
-use Rattle.score_rows.proofs.with_line.Tie as tie
+use Rattle.score_kinds.proofs.with_line.Statement.{statement}
+use Rattle.score_kinds.proofs.with_line.Tie as tie
 
 lines-requires : tie.Need-lines-requires
 lines-requires c κs = search needs

@@ -1,7 +1,7 @@
-use Rattle.score_rows.specs.Watching.{settings, three32}
+use Rattle.score_kinds.specs.Watching.{settings, three32}
 use borrow.Author.Needs.{needs}
-use Rattle.score_rows.proofs.settings.Statement.{statement}
-use Rattle.score_rows.proofs.settings.Tie as tie
+use Rattle.score_kinds.proofs.settings.Statement.{statement}
+use Rattle.score_kinds.proofs.settings.Tie as tie
 
 default-requires : tie.Need-default-requires
 default-requires c κs = search needs

@@ -1,7 +1,7 @@
 use mathlib.Core.Path.{refl}
-use Rattle.score_rows.specs.Counting.{noLines}
-use Rattle.score_rows.proofs.no_lines.Statement.{statement}
-use Rattle.score_rows.proofs.no_lines.Tie as tie
+use Rattle.score_kinds.specs.Counting.{noLines}
+use Rattle.score_kinds.proofs.no_lines.Statement.{statement}
+use Rattle.score_kinds.proofs.no_lines.Tie as tie
 
 returns : tie.Need-returns
 unfolding noLines

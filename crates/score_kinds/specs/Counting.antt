@@ -3,9 +3,9 @@ use Prim.Native.Nat.{ℕ, _+_}
 use mathlib.Core.Bool.{Bool, true, false, cond}
 use mathlib.Core.List.{List, [], _∷_}
 use lib.Dec.{ltb}
-use Rattle.score_rows.specs.declared.Kind.{Kind}
-use Rattle.score_rows.specs.declared.Kind.the-variants.{Skipped, Quiet, Raised}
-use Rattle.score_rows.specs.declared.Counts.{Counts}
+use Rattle.score_kinds.specs.declared.Kind.{Kind}
+use Rattle.score_kinds.specs.declared.Kind.the-variants.{Skipped, Quiet, Raised}
+use Rattle.score_kinds.specs.declared.Counts.{Counts}
 
 abbrev pub countsOf : ℕ → ℕ → ℕ → Counts
 countsOf quiet raised skipped = record { quiet = quiet; raised = raised; skipped = skipped }

@@ -1,9 +1,9 @@
 use mathlib.Core.Path.{ap}
 use Rattle.basicthresholder.specs.declared.Updated.{Updated}
-use Rattle.score_rows.specs.Watching.{counted}
+use Rattle.score_kinds.specs.Watching.{counted}
 use borrow.Author.Needs.{needs}
-use Rattle.score_rows.proofs.counted.Statement.{statement}
-use Rattle.score_rows.proofs.counted.Tie as tie
+use Rattle.score_kinds.proofs.counted.Statement.{statement}
+use Rattle.score_kinds.proofs.counted.Tie as tie
 
 returns : tie.Need-returns
 unfolding counted

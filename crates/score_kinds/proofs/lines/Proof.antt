@@ -1,8 +1,8 @@
 use mathlib.Core.Path.{refl}
-use Rattle.score_rows.specs.Counting.{lines}
+use Rattle.score_kinds.specs.Counting.{lines}
 use borrow.Author.Needs.{needs}
-use Rattle.score_rows.proofs.lines.Statement.{statement}
-use Rattle.score_rows.proofs.lines.Tie as tie
+use Rattle.score_kinds.proofs.lines.Statement.{statement}
+use Rattle.score_kinds.proofs.lines.Tie as tie
 
 cast-result : tie.Need-cast-result
 cast-result c = search needs

@@ -8,8 +8,8 @@ use Rattle.basicthresholder.specs.Grades.{primaryThresholdAndGrade}
 use Rattle.basicthresholder.specs.Updates.{freshThresholder, withZFactor, updatePrimary}
 use Rattle.basicthresholder.specs.declared.BasicThresholder.{BasicThresholder}
 use Rattle.basicthresholder.specs.declared.Graded.{Graded}
-use Rattle.score_rows.specs.declared.Kind.{Kind}
-use Rattle.score_rows.specs.declared.Kind.the-variants.{Skipped, Quiet, Raised}
+use Rattle.score_kinds.specs.declared.Kind.{Kind}
+use Rattle.score_kinds.specs.declared.Kind.the-variants.{Skipped, Quiet, Raised}
 
 -- DISTANCE, discount 0, z 3.
 unfoldable pub three32 : Float

@@ -1,8 +1,8 @@
 use mathlib.Core.Path.{sym}
-use Rattle.score_rows.specs.Watching.{kindOf, byGrade}
+use Rattle.score_kinds.specs.Watching.{kindOf, byGrade}
 use borrow.Author.Needs.{needs}
-use Rattle.score_rows.proofs.kind_of.Statement.{statement}
-use Rattle.score_rows.proofs.kind_of.Tie as tie
+use Rattle.score_kinds.proofs.kind_of.Statement.{statement}
+use Rattle.score_kinds.proofs.kind_of.Tie as tie
 
 returns : tie.Need-returns
 unfolding kindOf
