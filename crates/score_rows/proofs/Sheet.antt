@@ -3,6 +3,7 @@ use mathlib.Core.Path.{_≡_, refl, ap, ap₂, _∙_}
 use mathlib.Core.List.{List, [], _∷_, _++_, append-assoc}
 use Prim.Native.Nat.{ℕ, suc, _+_, _<_}
 use native.Mathlib.Omega.{arith}
+use lib.ListN.{length}
 use borrow.Author.Tests.{lt-ltb}
 use lib.Ieee.{Float}
 use Rattle.basicthresholder.specs.declared.BasicThresholder.{BasicThresholder}
@@ -12,7 +13,7 @@ use Rattle.score_kinds.specs.declared.Counts.{Counts}
 use Rattle.score_kinds.specs.Watching.{settings, kindOf, counted}
 use Rattle.score_kinds.specs.Counting.{countsOf, isQuiet, isRaised, isSkipped, howMany, tally, lines, noLines, oneMore, withLine}
 use Rattle.score_rows.specs.Text.{header, row}
-use Rattle.score_rows.specs.Sheet.{End, Sheet, ends, first, kinds, rows, AddUp, lastLine, text}
+use Rattle.score_rows.specs.Sheet.{Reading, End, Sheet, ends, first, kinds, rows, AddUp, lastLine, text}
 
 -- ---- counts
 same : {q r k q′ r′ k′ : ℕ} → q ≡ q′ → r ≡ r′ → k ≡ k′ → countsOf q r k ≡ countsOf q′ r′ k′
@@ -45,20 +46,26 @@ pub still-few : (c : Counts) (k : Kind) → lines c < 65536 → withLine c k ≡
 unfolding withLine
 still-few c k h = simp (lt-ltb (lines c) 65536 h)
 
-one-of-three : (k : Kind) (ks : List Kind) → lines (tally (k ∷ ks)) ≡ suc (lines (tally ks))
+one-of-three : (ks : List Kind) → lines (tally ks) ≡ length ks
 unfolding lines tally howMany isQuiet isRaised isSkipped
-one-of-three Skipped ks = omega arith
-one-of-three (Quiet g) ks = omega arith
-one-of-three (Raised g) ks = omega arith
+one-of-three [] = refl
+one-of-three (Skipped ∷ ks) = omega (arith, one-of-three ks)
+one-of-three (Quiet g ∷ ks) = omega (arith, one-of-three ks)
+one-of-three (Raised g ∷ ks) = omega (arith, one-of-three ks)
+
+kinds-length : (s : BasicThresholder) (rs : List Reading) → length (kinds s rs) ≡ length rs
+unfolding kinds
+kinds-length s [] = refl
+kinds-length s (r ∷ rs) = ap suc (kinds-length _ rs)
 
 pub add-up : AddUp
-unfolding kinds lines tally howMany
-add-up s [] = refl
-add-up s (r ∷ rs) = one-of-three (kindOf s (r .score)) (kinds (counted s (r .score)) rs) ∙ ap suc (add-up (counted s (r .score)) rs)
+add-up s rs = one-of-three (kinds s rs) ∙ kinds-length s rs
 
 -- ---- what is printed from here on, of a run with the statistics s and the counts c
 unfoldable pub behind : BasicThresholder → Counts → Sheet → List ℕ
-behind s c sheet = rows s (sheet .readings) ++ lastLine (sheet .end) (plus c (tally (kinds s (sheet .readings))))
+behind s c sheet =
+    let ks = kinds s (sheet .readings) in
+    rows (sheet .readings) ks ++ lastLine (sheet .end) (plus c (tally ks))
 
 pub behind-ends : (s : BasicThresholder) (c : Counts) (end : End) → behind s c (ends end) ≡ lastLine end c
 unfolding behind rows kinds
@@ -68,10 +75,13 @@ pub behind-first : (s : BasicThresholder) (c : Counts) (n : ℕ) (x : Float) (sh
     → behind s c (first n x sheet) ≡ row n (kindOf s x) ++ behind (counted s x) (oneMore c (kindOf s x)) sheet
 unfolding behind rows kinds
 behind-first s c n x sheet =
-    append-assoc (row n (kindOf s x)) _ _
-    ∙ ap (λ (d : Counts). row n (kindOf s x) ++ (rows (counted s x) (sheet .readings) ++ lastLine (sheet .end) d)) (plus-more c (kindOf s x) (kinds (counted s x) (sheet .readings)))
+    let ks = kinds (counted s x) (sheet .readings) in
+    append-assoc (row n (kindOf s x)) (rows (sheet .readings) ks) _
+    ∙ ap (λ (d : Counts). row n (kindOf s x) ++ (rows (sheet .readings) ks ++ lastLine (sheet .end) d)) (plus-more c (kindOf s x) ks)
 
 -- All of it.
 pub behind-header : (sheet : Sheet) → header ++ behind settings noLines sheet ≡ text sheet
 unfolding behind text
-behind-header sheet = ap (λ (d : Counts). header ++ (rows settings (sheet .readings) ++ lastLine (sheet .end) d)) (none-plus (tally (kinds settings (sheet .readings))))
+behind-header sheet =
+    let ks = kinds settings (sheet .readings) in
+    ap (λ (d : Counts). header ++ (rows (sheet .readings) ks ++ lastLine (sheet .end) d)) (none-plus (tally ks))

@@ -1,5 +1,5 @@
--- The sheet that a watch of one drawer's scores prints, which the score watch and the export watch share: a row for each line judged or skipped, then one last line. Each of
--- the two says which lines those are, and how its run ends.
+-- The sheet that a watch of one drawer's scores prints, which the score watch and the export watch share: a header, a row for each line judged or skipped, one last line. Each
+-- of the two says which lines those are, and how its run ends.
 use Prim.Native.Nat.{ℕ}
 use mathlib.Core.Path.{_≡_}
 use mathlib.Core.List.{List, [], _∷_, _++_}
@@ -40,9 +40,11 @@ unfoldable pub kinds : BasicThresholder → List Reading → List Kind
 kinds s [] = []
 kinds s (r ∷ rs) = kindOf s (r .score) ∷ kinds (counted s (r .score)) rs
 
-unfoldable pub rows : BasicThresholder → List Reading → List ℕ
-rows s [] = []
-rows s (r ∷ rs) = row (r .number) (kindOf s (r .score)) ++ rows (counted s (r .score)) rs
+-- A row for each line, by what its score comes to.
+unfoldable pub rows : List Reading → List Kind → List ℕ
+rows [] ks = []
+rows (r ∷ rs) [] = []
+rows (r ∷ rs) (k ∷ ks) = row (r .number) k ++ rows rs ks
 
 -- "The three counts add up to the lines judged or skipped."
 abbrev pub AddUp : Type 0
@@ -55,4 +57,6 @@ lastLine (Bad n) c = badLine n
 lastLine (Refused n why) c = badRow n why
 
 unfoldable pub text : Sheet → List ℕ
-text sheet = header ++ (rows settings (sheet .readings) ++ lastLine (sheet .end) (tally (kinds settings (sheet .readings))))
+text sheet =
+    let ks = kinds settings (sheet .readings) in
+    header ++ (rows (sheet .readings) ks ++ lastLine (sheet .end) (tally ks))

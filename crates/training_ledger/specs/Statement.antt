@@ -9,7 +9,7 @@ use lib.Dec.{T}
 use lib.Ieee.{Float, ofBits, binary64, lt, le}
 use Rattle.basicthresholder.specs.Const.{zero32, sixteen32}
 use Rattle.ledger.specs.Fractions.{over, unit, Le, Lt, fractionOf, plusZero}
-use Rattle.ledger.specs.Statement.{Told, told, showed, mostReadings, Sized, InBounds, Demand3}
+use Rattle.ledger.specs.Statement.{Told, mostReadings, Sized, InBounds, Demand3}
 use Rattle.predictorcorrector.specs.declared.Updated.{Updated}
 use Rattle.demand3.specs.Calls.{Call, new, InTurn, zOf, toldOf, shownOf}
 use Rattle.score_kinds.specs.Watching.{settings, three32}
@@ -17,7 +17,7 @@ use Rattle.score_kinds.specs.Counting.{tally, lines}
 use Rattle.score_rows.specs.Text.{badLine}
 use Rattle.score_rows.specs.Sheet.{Reading, Sheet, AllRead, kinds, text}
 use Rattle.score_lines.specs.Output as ScoreWatch
-use Rattle.watch_ledger.specs.Statement.{watch}
+use Rattle.watch_ledger.specs.Statement as Watch
 use Rattle.training_scores.specs.Recurrence.{score, scores}
 use Rattle.training_lines.specs.Output.{load, output}
 
@@ -44,7 +44,7 @@ sheetOf seed count = record { readings = numbered 1 (scores seed count); end = A
 pub record OfScoreWatch (seed count : ℕ) : Type 0 where
   pub printed : ScoreWatch.output (load seed count) ≡ text (sheetOf seed count)
   pub all : lines (tally (kinds settings (sheetOf seed count .readings))) ≡ count
-  pub agree : Demand3 (ofBits binary64 0) three32 (told watch settings (sheetOf seed count .readings)) (showed watch settings (sheetOf seed count .readings))
+  pub agree : Demand3 (ofBits binary64 0) three32 (Watch.toldOf (sheetOf seed count .readings)) (Watch.shownOf (kinds settings (sheetOf seed count .readings)))
 
 -- A load of at most so many lines as demand 3 has readings.
 pub record Loaded (text : List ℕ) : Type 0 where

@@ -6,7 +6,8 @@ use lib.ListN.{length}
 use Rattle.basicthresholder.specs.declared.BasicThresholder.{BasicThresholder}
 use Rattle.score_rows.specs.Sheet.{Reading}
 use Rattle.ledger.specs.Statement.{told, accepted, Sizes}
-use Rattle.watch_ledger.specs.Statement.{watch, AllSized}
+use Rattle.watch_ledger.specs.Statement.{AllSized}
+use Rattle.watch_ledger.proofs.Counting.{watch}
 
 pub few : (rs : List Reading) (s : BasicThresholder) → accepted (told watch s rs) ≤ length rs
 few [] s = omega arith

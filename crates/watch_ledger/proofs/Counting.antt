@@ -18,10 +18,31 @@ use Rattle.deviation.specs.Const.{countLimit}
 use Rattle.basicthresholder.specs.Const.{zero32}
 use Rattle.basicthresholder.specs.declared.BasicThresholder.{BasicThresholder}
 use Rattle.basicthresholder.specs.Updates.{countedGap, countedOver, primaryCounted, countsOk, updated, updatePrimary}
-use Rattle.score_kinds.specs.Watching.{settings, counted}
-use Rattle.score_rows.specs.Sheet.{Reading}
+use Rattle.score_kinds.specs.Watching.{settings, kindOf, counted}
+use Rattle.score_rows.specs.Sheet.{Reading, kinds}
 use Rattle.ledger.specs.Statement.{Judge, Told, Shown, told, showed}
-use Rattle.watch_ledger.specs.Statement.{watch}
+use Rattle.watch_ledger.specs.Statement.{toldOf, shownAt, shownOf}
+
+-- A watch of scores as a judge: no reading is refused.
+abbrev pub watch : Judge
+watch = record {
+  State = BasicThresholder;
+  Reading = Reading;
+  refused = λ s r. false;
+  score = λ r. r .score;
+  next = λ s r. counted s (r .score);
+  shown = λ s r. shownAt (kindOf s (r .score));
+}
+
+-- It is told what a sheet tells, and shows what a sheet shows.
+pub same-toldOf : (s : BasicThresholder) (rs : List Reading) → told watch s rs ≡ toldOf rs
+same-toldOf s [] = refl
+same-toldOf s (r ∷ rs) = ap (λ (ts : List Told). record { refused = false; score = r .score } ∷ ts) (same-toldOf (counted s (r .score)) rs)
+
+pub same-shownOf : (s : BasicThresholder) (rs : List Reading) → showed watch s rs ≡ shownOf (kinds s rs)
+unfolding kinds
+same-shownOf s [] = refl
+same-shownOf s (r ∷ rs) = ap (λ (vs : List Shown). shownAt (kindOf s (r .score)) ∷ vs) (same-shownOf (counted s (r .score)) rs)
 
 -- The judge that counts every score but zeros.
 abbrev pub steady : Judge

@@ -18,7 +18,7 @@ use Rattle.ledger.proofs.Laws.{primary-counts, new-fresh, new-z}
 use Rattle.ledger.proofs.WholeList as WholeList
 use Rattle.ledger.specs.Statement.{InBounds, Demand3}
 use Rattle.watch_ledger.specs.Statement.{shownAt, Demand3OfScores}
-use Rattle.watch_ledger.proofs.Counting.{steady, few-settings, same-told, same-showed}
+use Rattle.watch_ledger.proofs.Counting.{steady, same-toldOf, same-shownOf, few-settings, same-told, same-showed}
 use Rattle.watch_ledger.proofs.Bounds.{few, sized}
 
 abbrev zero64 : Float
@@ -57,7 +57,7 @@ module _ (g : Graded) where
 ends-quiet : (k : Kind) → shownAt k .opening ≡ zero32 → shownAt k .ends ≡ zero32
 unfolding shownAt
 ends-quiet Skipped e = refl
-ends-quiet (Quiet g) e = refl
+ends-quiet (Quiet g) e = e
 ends-quiet (Raised g) e = e
 
 -- The steady judge keeps the ledger's laws, and the settings are those of a new thresholder.
@@ -95,6 +95,6 @@ pub demand-3 : Demand3OfScores
 demand-3 rs h a =
     let t = same-told rs 0 settings (omega arith) few-settings in
     let v = same-showed rs 0 settings (omega arith) few-settings in
-    subst₂ (Demand3 zero64 three32) (sym t) (sym v)
+    subst₂ (Demand3 zero64 three32) (sym t ∙ same-toldOf settings rs) (sym v ∙ same-shownOf settings rs)
     (WholeList.demand-3 steady (λ s. s) keeps zero64 three32 held discount settings new-settings rs
     (subst (InBounds three32) t (record { z-above = above; z-most = most; readings = omega (arith, few rs settings); scores = sized rs settings a })))
