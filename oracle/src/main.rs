@@ -2,10 +2,12 @@
 
 mod bench;
 mod big;
+mod both;
 mod buffers;
 mod bytes;
 mod chain;
 mod changed;
+mod digits;
 mod exports;
 mod fresh;
 mod ledger;
@@ -19,6 +21,8 @@ mod refusals;
 mod same;
 mod sample;
 mod scans;
+mod scores;
+mod sheet;
 mod statistics;
 mod tally;
 mod thresholders;
@@ -93,7 +97,7 @@ fn run(name: &str, seed: u64) -> u64 {
 /// Runs the plain program that a word names, and says whether it names one.
 fn is_plain(word: &str) -> bool {
     match word {
-        bench::score_watch::PLAIN => bench::score_watch::plain().expect("sound lines"),
+        scores::plain::PLAIN => scores::plain::plain().expect("lines read"),
         exports::plain::PLAIN => exports::plain::plain().expect("an export read"),
         training::plain::PLAIN => training::plain::plain().expect("lines read"),
         training::plain::BY_HAND => training::plain::by_hand().expect("lines read"),

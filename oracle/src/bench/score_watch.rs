@@ -4,16 +4,11 @@
 
 use std::error::Error;
 use std::fs;
-use std::io::{self, BufRead, BufWriter, Write};
 use std::process::Command;
-
-use rcflib::trcf::basicthresholder::BasicThresholder;
 
 use crate::process::once;
 use crate::random::Random;
-
-/// The word that makes this program the plain one.
-pub const PLAIN: &str = "score-watch";
+use crate::scores::plain::{watch, PLAIN};
 
 const LINES: usize = 65_536;
 const ROUNDS: usize = 40;
@@ -22,32 +17,6 @@ const ROUNDS: usize = 40;
 const SAMPLE: usize = 1_000;
 const PATH: &str = "crates/score_watch/stdin";
 const SAYS: &str = "crates/score_watch/stdout";
-
-/// Document 01's score watch as a Rust programmer would write it, for lines that are sound.
-fn watch(input: impl BufRead, out: &mut impl Write) -> Result<(), Box<dyn Error>> {
-    let mut watch = BasicThresholder::new(0.0).map_err(|_| "no thresholder")?;
-    let mut counts = [0, 0];
-    writeln!(out, "line threshold grade")?;
-    for (k, line) in input.lines().enumerate() {
-        let score = f32::from_bits(u32::from_str_radix(&line?, 16)?);
-        let (threshold, grade) = match score {
-            0.0 => (0.0, 0.0),
-            _ => watch.primary_threshold_and_grade(score),
-        };
-        if score != 0.0 {
-            watch.update_primary(score as f64);
-        }
-        counts[(grade > 0.0) as usize] += 1;
-        let bits = (threshold.to_bits(), grade.to_bits());
-        writeln!(out, "{} {:08x} {:08x}", k + 1, bits.0, bits.1)?;
-    }
-    writeln!(out, "quiet {} raised {}", counts[0], counts[1])?;
-    Ok(())
-}
-
-pub fn plain() -> Result<(), Box<dyn Error>> {
-    watch(io::stdin().lock(), &mut BufWriter::new(io::stdout().lock()))
-}
 
 /// Most scores are calm, one in 50 is zero and one in 50 far over the others; one line in three has
 /// its digits in upper case, and the last lacks its line end.

@@ -127,6 +127,8 @@ pub struct Export {
     /// One row in so many ends with CR and LF, one field in so many is quoted; none for 0.
     returns: u64,
     quotes: u64,
+    /// One score in so many is a zero that is put there.
+    skips: u64,
 }
 
 fn at_times(often: u64, random: &mut Random) -> bool {
@@ -142,6 +144,7 @@ impl Export {
             drawers: (0..drawers).map(|_| drawer(random)).collect(),
             returns: random.of(&[0, 0, 1, 2, 20]),
             quotes: random.of(&[0, 0, 1, 3, 50]),
+            skips: random.of(&[0, 1, 1, 2, 5, 20, 20]),
         }
     }
 
@@ -151,7 +154,11 @@ impl Export {
         export.put(["drawer", "seen", "score"].map(String::from), random);
         for _ in 0..rows {
             let drawer = random.of(&export.drawers);
-            let row = [zeros(drawer, random), seen(random), score(random)];
+            let score = match at_times(export.skips, random) {
+                true => zero(1 + random.below(3) as usize, random.below(7) as usize),
+                false => score(random),
+            };
+            let row = [zeros(drawer, random), seen(random), score];
             export.put(row, random);
         }
         export
@@ -247,16 +254,20 @@ fn any_digits(random: &mut Random) -> String {
     }
 }
 
-/// Most scores are calm; some are zero, far over the others, or hard to round.
+/// A zero of so many digits, and so many more behind the point.
+pub fn zero(before: usize, behind: usize) -> String {
+    let point = if behind > 0 { "." } else { "" };
+    format!("{}{point}{}", "0".repeat(before), "0".repeat(behind))
+}
+
+/// Most scores are calm; some are far over the others, or hard to round.
 fn score(random: &mut Random) -> String {
-    let zeros = ["0", "00", "000", "0.0", "000.000000"];
     let ends = ["0.000001", "999.999999", "999", "1.000000", "007.5"];
-    match random.below(20) {
-        0 => random.of(&zeros).to_string(),
-        1 => random.of(&ends).to_string(),
-        2..=5 => near_middle(random),
-        6 => any_digits(random),
-        7 => format!("{:.1}", 20.0 + 900.0 * random.fraction()),
+    match random.below(19) {
+        0 => random.of(&ends).to_string(),
+        1..=4 => near_middle(random),
+        5 => any_digits(random),
+        6 => format!("{:.1}", 20.0 + 900.0 * random.fraction()),
         _ => {
             let places = random.below(7) as usize;
             format!("{:.places$}", 1.0 + 4.0 * random.fraction())

@@ -1,4 +1,6 @@
-//! Cabinet exports: the plain Rust program that reads one, and random exports.
+//! Cabinet exports: the plain Rust program that reads one, random exports, and the kinds that they
+//! are of.
 
+pub mod kinds;
 pub mod making;
 pub mod plain;

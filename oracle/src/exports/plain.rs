@@ -1,16 +1,14 @@
 //! Document 02's CSV run as a Rust programmer would write it, over the Rust's own thresholder.
 
 use std::borrow::Cow;
-use std::error::Error;
 use std::io::{self, BufRead, BufWriter, Write};
 
-use rcflib::trcf::basicthresholder::BasicThresholder;
+use crate::sheet::Sheet;
 
 /// The word that makes this program the plain one.
 pub const PLAIN: &str = "export-watch";
 
 const HEADER: [&[u8]; 3] = [b"drawer", b"seen", b"score"];
-const ROWS: u64 = 65_536;
 
 /// A row without three fields, with a broken quote, or a header that is none.
 const ROW: u8 = 9;
@@ -118,49 +116,32 @@ fn reading(row: &[u8]) -> Result<(u32, f32), u8> {
 }
 
 /// Reads an export and prints what the CSV run is to print.
-pub fn watch(mut input: impl BufRead, out: &mut impl Write) -> Result<(), Box<dyn Error>> {
-    let mut watch = BasicThresholder::new(0.0).map_err(|_| "no thresholder")?;
-    let mut counts = [0, 0];
-    let mut watched = None;
+pub fn watch(mut input: impl BufRead, out: impl Write) -> io::Result<()> {
+    let mut sheet = Sheet::begin(out)?;
     let mut row = Vec::new();
-    writeln!(out, "line threshold grade")?;
     let found = next_row(&mut input, &mut row)?;
     if !found || !fields(&row).is_some_and(|names| names == HEADER) {
-        writeln!(out, "bad line 1 {ROW}")?;
-        return Ok(());
+        return sheet.bad_line(format_args!("1 {ROW}"));
     }
+    let mut watched = None;
     let mut number: u64 = 1;
     while next_row(&mut input, &mut row)? {
         number += 1;
         let (drawer, score) = match reading(&row) {
             Ok(reading) => reading,
-            Err(error) => return Ok(writeln!(out, "bad line {number} {error}")?),
+            Err(error) => return sheet.bad_line(format_args!("{number} {error}")),
         };
         if *watched.get_or_insert(drawer) != drawer {
             continue;
         }
-        if counts[0] + counts[1] == ROWS {
-            return Ok(writeln!(out, "bad line {number}")?);
+        if sheet.is_full() {
+            return sheet.bad_line(number);
         }
-        let (threshold, grade) = judged(&mut watch, score);
-        counts[(grade > 0.0) as usize] += 1;
-        let bits = (threshold.to_bits(), grade.to_bits());
-        writeln!(out, "{number} {:08x} {:08x}", bits.0, bits.1)?;
+        sheet.score(number, score)?;
     }
-    writeln!(out, "quiet {} raised {}", counts[0], counts[1])?;
-    Ok(())
+    sheet.counts()
 }
 
-/// Threshold and grade of a score before it is counted; a zero is not.
-fn judged(watch: &mut BasicThresholder, score: f32) -> (f32, f32) {
-    if score == 0.0 {
-        return (0.0, 0.0);
-    }
-    let told = watch.primary_threshold_and_grade(score);
-    watch.update_primary(score as f64);
-    told
-}
-
-pub fn plain() -> Result<(), Box<dyn Error>> {
-    watch(io::stdin().lock(), &mut BufWriter::new(io::stdout().lock()))
+pub fn plain() -> io::Result<()> {
+    watch(io::stdin().lock(), BufWriter::new(io::stdout().lock()))
 }

@@ -16,6 +16,7 @@ mod newest;
 mod pool;
 mod root;
 mod scans;
+mod scores;
 mod standin;
 mod thresholder;
 mod training;
@@ -56,6 +57,7 @@ pub const PARTS: &[Part] = &[
     part("missing", buffers::missing),
     part("asked", buffers::asked),
     part("demand3", demand3::compare),
+    part("scores", scores::compare),
     part("exports", exports::compare),
     part("training", training::compare),
     part("scans", scans::compare),

@@ -1,6 +1,7 @@
 //! Inputs for the training load: sound ones, and ones that are spoilt at a known byte.
 
 use super::plain::{FACTOR, TERM};
+use crate::digits::cased;
 use crate::random::Random;
 
 /// Seeds at both ends, and with halves of zeros or of ones.
@@ -155,13 +156,7 @@ pub fn count(random: &mut Random) -> String {
 
 /// The seed's line, in lower case, in upper case or in both.
 fn seed_line(seed: u64, random: &mut Random) -> String {
-    let text = format!("{seed:016x}");
-    let cased = |c: char, upper: bool| if upper { c.to_ascii_uppercase() } else { c };
-    match random.below(3) {
-        0 => text,
-        1 => text.to_uppercase(),
-        _ => text.chars().map(|c| cased(c, random.once_in(2))).collect(),
-    }
+    cased(format!("{seed:016x}"), random)
 }
 
 /// Both lines, the second one without its line end.
