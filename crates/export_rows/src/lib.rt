@@ -114,10 +114,11 @@ fn with_row(watch: Watch, entry: Entry, kind: Kind) -> Watch
     requires { ⌜ Counting.lines (watch .counts) < 65536 ⌝ }
     ensures { λ r. ⌜ r ≡ Taking.withRow watch entry kind ⌝ }
 {
+    let counts = score_kinds::with_line(watch.counts, kind);
     Watch {
         thresholder: score_kinds::counted(watch.thresholder, entry.score),
         drawer: entry.drawer,
-        counts: score_kinds::with_line(watch.counts, kind),
+        counts,
     }
 }
 

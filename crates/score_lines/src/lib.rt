@@ -118,11 +118,12 @@ fn end_line(run: Run, out: &mut [u8], at: usize) -> Fed
     let line = line_of(before, run.part);
     match line {
         Line::Score(score) => {
+            let thresholder = score_kinds::counted(run.thresholder, score);
             let kind = score_kinds::kind_of(run.thresholder, score);
             let end = score_rows::write_row(out, at, before + 1, kind);
             Fed {
                 run: Run {
-                    thresholder: score_kinds::counted(run.thresholder, score),
+                    thresholder,
                     counts: score_kinds::with_line(run.counts, kind),
                     part: 1,
                     over: false,

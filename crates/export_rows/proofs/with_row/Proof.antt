@@ -7,15 +7,15 @@ use borrow.Author.Needs.{needs}
 use Rattle.export_rows.proofs.with_row.Statement.{statement}
 use Rattle.export_rows.proofs.with_row.Tie as tie
 
-counted-requires : tie.Need-counted-requires
-counted-requires c κs = search needs
-
 with-line-requires : tie.Need-with-line-requires
 with-line-requires c κs = search needs
 
+counted-requires : tie.Need-counted-requires
+counted-requires c κs = search needs
+
 returns : tie.Need-returns
 unfolding withRow
-returns c = ap₂ (λ (s : BasicThresholder) (k : Counts). watchOf s (c .before .before .args .entry .drawer) k) (c .before .counted .ensures) (c .with-line .ensures ∙ still-few _ _ (c .before .before .pre))
+returns c = ap₂ (λ (s : BasicThresholder) (k : Counts). watchOf s (c .before .before .args .entry .drawer) k) (c .counted .ensures) (c .before .with-line .ensures ∙ still-few _ _ (c .before .before .pre))
 
 pub with-row-spec : {M : Type 1} → statement M
-with-row-spec = tie.close (tie.spec counted-requires with-line-requires returns)
+with-row-spec = tie.close (tie.spec with-line-requires counted-requires returns)

@@ -21,6 +21,9 @@ line-of-requires c κs = search needs
 enum-known-line : tie.Need-enum-known-line
 enum-known-line c = search needs
 
+counted-requires : tie.Need-counted-requires
+counted-requires c κs = search needs
+
 kind-of-requires : tie.Need-kind-of-requires
 kind-of-requires c κs = search needs
 
@@ -29,9 +32,6 @@ add-write-row c = search needs
 
 write-row-requires : tie.Need-write-row-requires
 write-row-requires c κs = search needs
-
-counted-requires : tie.Need-counted-requires
-counted-requires c κs = search needs
 
 with-line-requires : tie.Need-with-line-requires
 with-line-requires c κs = search needs
@@ -55,9 +55,9 @@ returns : tie.Need-returns
 unfolding lineEnded lineSaid endedBy saidBy withScore
 returns c =
     let q = ap (λ (n : ℕ). lineOf n (c .before .before .before .before .before .before .before .before .before .before .before .before .before .args .run .part)) (sym (c .before .before .before .before .before .before .before .before .before .before .before .lines .ensures .0)) ∙ sym (c .before .before .before .before .before .before .before .before .before .before .line-of .ensures) ∙ c .before .before .before .before .before .before .before .before .line .given .1 in
-    let more = c .with-line .ensures ∙ still-few _ _ (few _ (c .before .before .before .before .before .before .before .before .before .before .before .before .before .args .run .part) _ q) ∙ ap (oneMore (c .before .before .before .before .before .before .before .before .before .before .before .before .before .args .run .counts)) (c .before .before .before .before .before .before .kind-of .ensures) in (
-      rw q (ap₂ (λ (s : BasicThresholder) (k : Counts). runOf s k 1 false) (c .before .counted .ensures) more),
-      rw (q, sym (c .before .before .before .before .before .before .kind-of .ensures), sym (c .before .before .before .before .before .before .before .before .before .before .before .lines .ensures .0)) (with-room (c .before .before .before .before .write-row .ensures) (c .before .before .before .before .before .before .before .before .before .before .before .before .before .pre)),
+    let more = c .with-line .ensures ∙ still-few _ _ (few _ (c .before .before .before .before .before .before .before .before .before .before .before .before .before .args .run .part) _ q) ∙ ap (oneMore (c .before .before .before .before .before .before .before .before .before .before .before .before .before .args .run .counts)) (c .before .before .before .before .before .kind-of .ensures) in (
+      rw q (ap₂ (λ (s : BasicThresholder) (k : Counts). runOf s k 1 false) (c .before .before .before .before .before .before .counted .ensures) more),
+      rw (q, sym (c .before .before .before .before .before .kind-of .ensures), sym (c .before .before .before .before .before .before .before .before .before .before .before .lines .ensures .0)) (with-room (c .before .before .before .write-row .ensures) (c .before .before .before .before .before .before .before .before .before .before .before .before .before .pre)),
     )
 
 same-length-2 : tie.Need-same-length-2
@@ -76,10 +76,10 @@ end-line-spec =
     lines-requires
     line-of-requires
     enum-known-line
+    counted-requires
     kind-of-requires
     add-write-row
     write-row-requires
-    counted-requires
     with-line-requires
     enum-told
     add-write-bad-line
