@@ -109,7 +109,7 @@ pub fn is_passed_over(drawer: u32, row: Row) -> bool
     }
 }
 
-// The watch after a row of its drawer, of that kind.
+// The watch after a row of its drawer, of that kind. The counts are made first: behind them the statistics need no copy.
 fn with_row(watch: Watch, entry: Entry, kind: Kind) -> Watch
     requires { ⌜ Counting.lines (watch .counts) < 65536 ⌝ }
     ensures { λ r. ⌜ r ≡ Taking.withRow watch entry kind ⌝ }
