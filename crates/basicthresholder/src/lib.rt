@@ -1,5 +1,6 @@
 // basicthresholder.rs: turns the statistics of past scores into a threshold, and a score into a grade. `&mut self` becomes the
 // state in and the state out; each statistic's root is computed at most once in a call.
+#![tactic(auto)]
 ghost use Rattle.std.specs.Prelude.{◌≡◌, false};
 ghost use Rattle.std.specs.Float.{binary32};
 ghost use Rattle.std.specs.Float.Ieee as Ieee;
@@ -34,7 +35,7 @@ const DEFAULT_FACTOR_ADJUSTMENT_THRESHOLD: f32 = 0.9;
 
 const ROOT_OF_TWO: f64 = 1.4142135623730951;
 
-#[derive(Drop)]
+#[derive(Clone, Copy)]
 pub struct BasicThresholder {
     pub elasticity: f32,
     pub count: i32,
@@ -59,7 +60,7 @@ pub enum Made {
 }
 
 // The Rust's pair (threshold, grade).
-#[derive(Drop)]
+#[derive(Clone, Copy)]
 pub struct Graded {
     pub threshold: f32,
     pub grade: f32,

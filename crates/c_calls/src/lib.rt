@@ -1,6 +1,7 @@
 // The calls on a reading's buffers for a host that calls over C: what the forest is asked for, the missing indices, the expected point, the corrector, auto adjust.
 // Numbers, and slices of bytes, sizes or floats (a pointer, then a length); a state, a reading and the last descriptor are their bytes, as the crate layout has them.
 // A call answers document 01's number, 0 where it is done; a refused one has written nothing.
+#![tactic(auto)]
 ghost use Rattle.std.specs.Prelude.{◌≡◌, ◌∷◌, length};
 ghost use Rattle.layout.specs.Left.{left};
 ghost use Rattle.layout.specs.Numbers.{flag_byte};

@@ -7,6 +7,7 @@
 // high, low and the buffer that may be written (of auto adjust: 1 where the state is to lack its last byte), two zeros. Then 5 rows of 16 floats, 4 bytes each, the
 // lowest first, in the order of the lengths. Behind a call of auto adjust stands the state, 1310 bytes; behind one of 4 the state, the reading and the last
 // descriptor, 23 bytes each.
+#![tactic(auto)]
 ghost use Rattle.std.specs.Prelude.{◌<◌};
 
 // The bytes of a stored state.

@@ -1,5 +1,6 @@
 // The course's drawers (docs/COURSE.md) that the score watch cannot show: a discount, a drawer's mean and deviation, sums that were cleared without their count,
 // a first score under either strategy. Floats are printed as their bits.
+#![tactic(auto)]
 use basicthresholder::{BasicThresholder, Graded};
 use deviation::{Deviation, Measured};
 use libc::STDOUT_FILENO;

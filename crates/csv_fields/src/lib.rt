@@ -1,5 +1,6 @@
 // A field of a cabinet's export, read byte by byte: its quotes, and its content, which is a word of the header, a whole number or a score. Nothing is kept of it but what
 // it says so far.
+#![tactic(auto)]
 ghost use Rattle.std.specs.Prelude.{◌≡◌, ◌≤◌, ◌<◌, true, eqb, length, get_or, drop};
 ghost use Rattle.csv_fields.specs.Contents as Contents;
 ghost use Rattle.csv_fields.specs.Pushing as Pushing;
@@ -21,7 +22,7 @@ const MOST_PLACES: u32 = 6;
 
 // Where in a field a scan is: nothing read; in a field without quotes; there behind a carriage return; inside quotes; behind a quote inside quotes, which ends the
 // field unless another follows; behind that quote and a carriage return.
-#[derive(Drop)]
+#[derive(Clone, Copy)]
 pub enum Place {
     Start,
     Plain,
@@ -45,7 +46,7 @@ pub enum Turn {
 // What has been read of a content. `number` is what its digits write, or the cap. `whole` counts a word's letters, or a score's digits before the point; `places`
 // counts the digits behind it. It is `spoilt` once it can be neither the word nor the number that its field asks for. (The flags stand behind the numbers: the
 // compiler then keeps each in a register, which makes a scan a third faster.)
-#[derive(Drop)]
+#[derive(Clone, Copy)]
 pub struct Content {
     pub number: u32,
     pub whole: u32,

@@ -1,4 +1,5 @@
 // The rows of a cabinet's export, CSV after RFC 4180, read in parts of any size. Nothing of the input is kept: a scan has a fixed size.
+#![tactic(auto)]
 ghost use Rattle.std.specs.Prelude.{◌≡◌, drop};
 ghost use Rattle.csv_rows.specs.Scanning as Scanning;
 ghost use Rattle.csv_rows.specs.Sizes as Sizes;
@@ -8,7 +9,7 @@ use csv_fields::{Content, Digits, Place, Turn};
 use types::Refusal;
 
 // A field under way.
-#[derive(Drop)]
+#[derive(Clone, Copy)]
 pub struct Token {
     pub content: Content,
     pub place: Place,
@@ -16,7 +17,7 @@ pub struct Token {
 
 // A scan between two bytes, in the field of that number from 0 on; 3 stands for all from the fourth on. `drawer` is the row's first field, `good` says that its earlier
 // fields are what they should be, `header` that it is the header's row. The scan is `over` once a row was faulty.
-#[derive(Drop)]
+#[derive(Clone, Copy)]
 pub struct Scan {
     pub token: Token,
     pub field: u32,
@@ -27,14 +28,14 @@ pub struct Scan {
 }
 
 // A sound row below the header.
-#[derive(Drop)]
+#[derive(Clone, Copy)]
 pub struct Entry {
     pub drawer: u32,
     pub score: f32,
 }
 
 // What a row is: none, the header, a sound row below it, a faulty one.
-#[derive(Drop)]
+#[derive(Clone, Copy)]
 pub enum Row {
     Nothing,
     Header,

@@ -1,4 +1,5 @@
 // descriptor.rs as far as a reading lends it, and document 01's entry checks of a reading.
+#![tactic(auto)]
 ghost use Rattle.std.specs.Prelude.{◌≡◌, ◌&&◌, length};
 ghost use Rattle.descriptor.specs.Checks as Checks;
 ghost use Rattle.descriptor.specs.Lent.{lent};
@@ -6,7 +7,7 @@ ghost use Rattle.descriptor.specs.Lent.{lent};
 use types::{Answer, Refusal, ScoringStrategy, TransformMethod};
 
 // The numbers of a reading. Its buffers are lent beside it.
-#[derive(Drop)]
+#[derive(Clone, Copy)]
 pub struct Reading {
     pub shingle_size: usize,
     pub base_dimension: usize,
@@ -19,7 +20,7 @@ pub struct Reading {
 }
 
 // The last anomaly: read only behind `has_anomaly`. Of its attribution the yes/no alone counts.
-#[derive(Drop)]
+#[derive(Clone, Copy)]
 pub struct LastAnomaly {
     pub relative_index: i32,
     pub values_seen: usize,
@@ -28,7 +29,7 @@ pub struct LastAnomaly {
 }
 
 // What the chain reads of the descriptor before this reading.
-#[derive(Drop)]
+#[derive(Clone, Copy)]
 pub struct LastDescriptor {
     pub scoring_strategy: ScoringStrategy,
     pub score: f32,
@@ -38,7 +39,7 @@ pub struct LastDescriptor {
 }
 
 // The lengths of a reading's buffers: of the twelve that are lent, then of the three that a raised reading writes.
-#[derive(Drop)]
+#[derive(Clone, Copy)]
 pub struct Lengths {
     pub point: usize,
     pub scale: usize,

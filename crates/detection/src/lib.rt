@@ -1,4 +1,5 @@
 // predictorcorrector.rs: what `detect_and_modify` decides on a reading. The stages are functions of their own; what the forest answers is lent.
+#![tactic(auto)]
 ghost use Rattle.std.specs.Prelude.{◌≡◌, cond, eqb, ◌≤◌, ◌*◌, ◌+◌, ◌-◌, pos, ◌+ℤ◌, ◌-ℤ◌, length, take, drop, replicate};
 ghost use Rattle.types.specs.Codes.{is_differenced};
 ghost use Rattle.attributors.specs.Attributors.{padded};
@@ -18,7 +19,7 @@ use predictorcorrector::{PredictorCorrector, Standing};
 use types::{Answer, CorrectionMode, Refusal};
 
 // What the watch says of an accepted reading.
-#[derive(Drop)]
+#[derive(Clone, Copy)]
 pub enum Verdict {
     Quiet(f32),
     Corrected(f32, CorrectionMode),

@@ -1,4 +1,5 @@
 // deviation.rs: discounted statistics of a run of scores. `&mut self` becomes the record in and the record out.
+#![tactic(auto)]
 ghost use Rattle.std.specs.Prelude.{◌≡◌, T, pos, ◌+ℤ◌};
 ghost use Rattle.std.specs.Float.Ieee as Ieee;
 ghost use Rattle.std.specs.Float.{binary64};
@@ -8,7 +9,7 @@ ghost use Rattle.deviation.specs.Const.{zero64};
 use types::{Answer, Refusal};
 
 // Document 01's record of five numbers.
-#[derive(Drop)]
+#[derive(Clone, Copy)]
 pub struct Deviation {
     pub discount: f64,
     pub weight: f64,

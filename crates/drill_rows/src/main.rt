@@ -1,5 +1,6 @@
 // Document 01's drill sheet, every row worked by the library; floats are printed as their bits. What it is to print is what `oracle/run SOURCES drill` printed
 // from the Rust.
+#![tactic(auto)]
 use basicthresholder::BasicThresholder;
 use deviation::{Deviation, Measured};
 use divector::Block;

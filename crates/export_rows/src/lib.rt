@@ -1,4 +1,5 @@
 // The export watch row by row: what a row of a cabinet's export does to the run, and what it prints. Bytes are read below, in `csv_rows`, and written above.
+#![tactic(auto)]
 ghost use Rattle.std.specs.Prelude.{◌≡◌, ◌<◌};
 ghost use Rattle.score_kinds.specs.Counting as Counting;
 ghost use Rattle.export_rows.specs.Taking as Taking;
@@ -9,7 +10,7 @@ use score_kinds::{Counts, Kind};
 use types::Refusal;
 
 // What a run knows of the drawer that it watches: its number, or 0 before the first row; its statistics; how many of its rows were of each kind.
-#[derive(Drop)]
+#[derive(Clone, Copy)]
 pub struct Watch {
     pub thresholder: BasicThresholder,
     pub drawer: u32,
@@ -17,7 +18,7 @@ pub struct Watch {
 }
 
 // How a run stands: it goes on; a row was faulty; the drawer has too many rows; the input ended and the counts were given.
-#[derive(Drop)]
+#[derive(Clone, Copy)]
 pub enum Ending {
     Open,
     Refused(Refusal),
@@ -26,7 +27,7 @@ pub enum Ending {
 }
 
 // A run between two rows: `row` is the number of the row to come, the header's being 1.
-#[derive(Drop)]
+#[derive(Clone, Copy)]
 pub struct Course {
     pub watch: Watch,
     pub row: u64,

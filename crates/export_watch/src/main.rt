@@ -1,5 +1,6 @@
 // The export watch: a cabinet's CSV export on standard input, thresholds and opening grades of its first drawer on standard output. What is printed is the
 // library's; here it is read and written.
+#![tactic(auto)]
 use export_bytes::Run;
 use libc::{STDERR_FILENO, STDIN_FILENO, STDOUT_FILENO};
 use score_rows::{PART, ROOM};

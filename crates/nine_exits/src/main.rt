@@ -4,6 +4,7 @@
 //
 // A reading is 1783 bytes: the title (40), the state (1310), the reading (23) and the last descriptor (23) as the crate layout has them, the lengths of the
 // buffers of D floats, of base floats and of the neighbours (one each), then 12 rows of 8 floats, 4 bytes each, the lowest first.
+#![tactic(auto)]
 ghost use Rattle.std.specs.Prelude.{◌<◌};
 
 fn blank() -> [u8; 1783] {

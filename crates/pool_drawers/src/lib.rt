@@ -1,5 +1,6 @@
 // Laying out a pool, opening and removing a drawer, listing all: for a host that calls over C. A call answers the documents' number, 0 where it is done; a refused
 // one has written nothing.
+#![tactic(auto)]
 ghost use Rattle.std.specs.Prelude.{◌≡◌, ◌+◌, ◌≤◌, length, take, drop, replicate};
 ghost use Rattle.layout.specs.Chain.{encode_state_over};
 ghost use Rattle.layout.specs.Left.{left};

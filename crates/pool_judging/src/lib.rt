@@ -1,4 +1,5 @@
 // Judging a drawer in a pool, for a host that calls over C: the documents' number, 0 for an accepted reading; a refused call has written nothing.
+#![tactic(auto)]
 ghost use Rattle.descriptor.specs.Lent.{lent};
 ghost use Rattle.pool_judging.specs.Judging as Judging;
 

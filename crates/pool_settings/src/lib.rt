@@ -1,5 +1,6 @@
 // The settings of a drawer in a pool, for a host that calls over C: the documents' number, 0 where it is set; a refused call has written nothing, and neither has one
 // that leaves the state the same as it was.
+#![tactic(auto)]
 ghost use Rattle.std.specs.Prelude.{◌≡◌, ◌+◌, ◌≤◌, ◌<◌, length};
 ghost use Rattle.layout.specs.Left.{left};
 ghost use Rattle.layout.specs.Numbers as Numbers;

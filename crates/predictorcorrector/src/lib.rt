@@ -1,4 +1,5 @@
 // predictorcorrector.rs: the state, its construction and setters, and what a reading does to it.
+#![tactic(auto)]
 ghost use Rattle.std.specs.Prelude.{◌≡◌, ◌≤◌, false, length};
 ghost use Rattle.deviation.specs.Const.{zero64};
 ghost use Rattle.deviation.specs.Statistics as Statistics;
@@ -12,7 +13,7 @@ use deviation::Deviation;
 use types::{Answer, Refusal, ScoringStrategy};
 
 // The lists have room for 16; the first `base_dimension` entries exist with auto adjust, and none without it.
-#[derive(Drop)]
+#[derive(Clone, Copy)]
 pub struct PredictorCorrector {
     pub basic_thresholder: BasicThresholder,
     pub auto_adjust: bool,

@@ -1,4 +1,5 @@
 // A pool of thirty records in a used and a free chain, in a lent buffer of 61,472 bytes: the test of refusal 13, where a drawer is, and the listing of all.
+#![tactic(auto)]
 ghost use Rattle.std.specs.Prelude.{◌≡◌, true, false, ◌+◌, ◌≤◌, ◌<◌, length, replicate, take};
 ghost use Rattle.layout.specs.Numbers as Numbers;
 ghost use Rattle.record_pool.specs.Lists as Lists;
@@ -17,7 +18,7 @@ const AUTO_ADJUST_AT: usize = 157;
 
 // A record, where its state begins in the pool, the used record in front of it (0 where it is the first), the one behind it in its chain, and the header as it
 // stands.
-#[derive(Drop)]
+#[derive(Clone, Copy)]
 pub struct Slot {
     pub index: usize,
     pub state: usize,

@@ -1,4 +1,5 @@
 // What the score watch and the export watch make of scores: their settings, what a score comes to, and how many lines were of each kind.
+#![tactic(auto)]
 ghost use Rattle.std.specs.Prelude.{◌≡◌, ◌^◌, ◌<◌};
 ghost use Rattle.score_kinds.specs.Watching as Watching;
 ghost use Rattle.score_kinds.specs.Counting as Counting;
@@ -10,7 +11,7 @@ const MOST_LINES: u64 = 65536;
 const Z_FACTOR: f32 = 3.0;
 
 // What a score comes to: skipped, or judged, with threshold and opening grade.
-#[derive(Drop)]
+#[derive(Clone, Copy)]
 pub enum Kind {
     Skipped,
     Quiet(Graded),
@@ -18,7 +19,7 @@ pub enum Kind {
 }
 
 // How many lines of a run were of each kind.
-#[derive(Drop)]
+#[derive(Clone, Copy)]
 pub struct Counts {
     pub quiet: u32,
     pub raised: u32,

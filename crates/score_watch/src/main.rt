@@ -1,5 +1,6 @@
 // The score watch: scores as lines of eight hexadecimal digits on standard input, thresholds and opening grades on standard output. What is printed is
 // the library's; here it is read and written.
+#![tactic(auto)]
 use libc::{STDERR_FILENO, STDIN_FILENO, STDOUT_FILENO};
 use score_lines::Run;
 use score_rows::{PART, ROOM};

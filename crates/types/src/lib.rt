@@ -1,10 +1,11 @@
 // The chain's small enums, in the order of trcf/types.rs, and the refusals: document 01's eight, then document 02's.
+#![tactic(auto)]
 ghost use Rattle.std.specs.Prelude.{◌≡◌};
 ghost use Rattle.types.specs.Refusals as Refusals;
 ghost use Rattle.types.specs.Codes as Codes;
 
 // How the forest's input was transformed.
-#[derive(Drop)]
+#[derive(Clone, Copy)]
 pub enum TransformMethod {
     NONE,
     WEIGHTED,
@@ -15,14 +16,14 @@ pub enum TransformMethod {
 }
 
 // What a score is: an expected inverse height, or a distance.
-#[derive(Drop)]
+#[derive(Clone, Copy)]
 pub enum ScoringStrategy {
     EXPECTED_INVERSE_HEIGHT,
     DISTANCE,
 }
 
 // Why a reading with an opening grade above 0 was not raised.
-#[derive(Drop)]
+#[derive(Clone, Copy)]
 pub enum CorrectionMode {
     NONE,
     NOISE,
@@ -34,7 +35,7 @@ pub enum CorrectionMode {
 }
 
 // Why a call was refused. `number` gives the documents' number.
-#[derive(Drop)]
+#[derive(Clone, Copy)]
 pub enum Refusal {
     Discount,
     Range,
@@ -52,7 +53,7 @@ pub enum Refusal {
 }
 
 // How a call on a state ended.
-#[derive(Drop)]
+#[derive(Clone, Copy)]
 pub enum Answer {
     Done,
     Refused(Refusal),

@@ -2,6 +2,7 @@
 // output. The input's name tells what is read: `.in` scores, `.csv` an export; `.lines` and `.skips` scores behind 65,536 lines, judged or skipped, `.rows` and
 // `.zeros` an export behind 65,536 rows of its drawer, judged or skipped, `.million` one behind a million rows of another drawer. Every case is run once for
 // each place at which its input can be cut in two.
+#![tactic(auto)]
 ghost use Rattle.std.specs.Prelude.{◌-◌, ◌≤◌, length};
 
 use libc::{STDIN_FILENO, STDOUT_FILENO};
