@@ -9,7 +9,7 @@ use Rattle.deviation.proofs.one_more.Goals as goal
 
 pub returns-then-countable : goal.returns-then-countable
 unfolding one_more
-returns-then-countable c = to_z-of_z w32 c.plus_one.result (record { sfits = c.plus_one.type-inv }) ∙ (rw (to_z-of_z w32 c.args.count c.ranges.count) at c.plus_one.ensures) ∙ picked _ _ (rw (to_z-of_z w32 c.args.count c.ranges.count) at c.countable.ensures) c.if-countable.true
+returns-then-countable c = to_z-of_z w32 c.plus_one.result (record { sfits = c.plus_one.type_inv }) ∙ (rw (to_z-of_z w32 c.args.count c.ranges.count) at c.plus_one.ensures) ∙ picked _ _ (rw (to_z-of_z w32 c.args.count c.ranges.count) at c.countable.ensures) c.if-countable.true
 
 pub returns : goal.returns
 unfolding one_more

@@ -11,4 +11,4 @@ unfolding next
 returns c =
     let d = c.args.self in
     let n = to_z-of_z w32 d.count (search rules) in
-    ap₂ (grown d c.args.score) (c.factor-factor.ensures ∙ ap (factor d.discount) n) (to_z-of_z w32 c.plus_one.result (record { sfits = c.plus_one.type-inv }) ∙ c.plus_one.ensures ∙ ap (λ (z : ℤ). z +ℤ pos 1) n)
+    ap₂ (grown d c.args.score) (c.factor-factor.ensures ∙ ap (factor d.discount) n) (to_z-of_z w32 c.plus_one.result (record { sfits = c.plus_one.type_inv }) ∙ c.plus_one.ensures ∙ ap (λ (z : ℤ). z +ℤ pos 1) n)
