@@ -1,4 +1,4 @@
-use Rattle.std.proofs.Common.{sym, ◌∙◌, rules}
+use Rattle.std.proofs.Common.{sym, ◌∙◌}
 use lib.Ieee.{binary32}
 use Rattle.ieee.proofs.Nans.{quotient, nan_pattern, other_pattern}
 use Rattle.ieee.proofs.f32_from_bits.Goals as goal

@@ -1,4 +1,4 @@
-use Rattle.std.proofs.Common.{sym, ap, ◌∙◌, rules}
+use Rattle.std.proofs.Common.{sym, ap, ◌∙◌}
 use lib.Ieee.{binary64, to_bits}
 use Rattle.ieee.proofs.Nans.{equals_itself, is_nan_lem, bits_of_nan}
 use Rattle.ieee.proofs.f64_to_bits.Goals as goal

@@ -1,6 +1,6 @@
-use Rattle.std.proofs.Common.{ℕ, ◌-◌, ◌/◌, ◌^◌, sym, subst, lt_of_lt_of_le, lt_of_le_of_lt, arith, lit<, lit≤, rules}
+use Rattle.std.proofs.Common.{ℕ, sym, subst}
 use Rattle.ieee.specs.Steps.{Floored}
-use Rattle.ieee.proofs.Flooring.{way_whole, way_zero, way_small, one_pos, more_lt, digits_in, sum_lt, code_lt, code_part}
+use Rattle.ieee.proofs.Flooring.{way_whole, way_zero, way_small, code_lt, code_part}
 use Rattle.ieee.proofs.floor_magnitude.Goals as goal
 
 -- `ieee::floor_magnitude` meets its contract: `proofs/Flooring.antt` has the four ways. Assumes nothing.

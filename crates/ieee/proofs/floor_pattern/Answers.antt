@@ -1,4 +1,3 @@
-use Rattle.std.proofs.Common.{arith, rules}
 use Rattle.ieee.proofs.Flooring.{floor_mask, floor_signed}
 use Rattle.ieee.proofs.floor_pattern.Goals as goal
 

@@ -1,4 +1,4 @@
-use Rattle.std.proofs.Common.{arith, rules}
+use Rattle.std.proofs.Common.{arith}
 use lib.Ieee.{binary64}
 use Rattle.ieee.proofs.Nans.{small_no_nan}
 use Rattle.ieee.proofs.hint.Goals as goal

@@ -1,9 +1,6 @@
-use Rattle.std.proofs.Common.{◌-◌, ◌^◌, lt_of_lt_of_le, lt_of_le_of_lt, le-add_left, arith, lit<, lit≤, rules}
-use lib.Bits.{bit_and, mask_lt}
-use lib.Count.{count_leading_zeros, leading_le}
+use Rattle.std.proofs.Common.{arith}
 use lib.Ieee.{binary64, of_bits}
-use Rattle.ieee.proofs.Narrowing.{digits_lt}
-use Rattle.ieee.proofs.Rooting.{zeros_ge, zeros_le, low_ge, low_lt, low_value, high_value}
+use Rattle.ieee.proofs.Rooting.{zeros_ge, low_ge, low_lt, low_value, high_value}
 use Rattle.ieee.proofs.sqrt_pattern.Goals as goal
 
 -- `ieee::sqrt_pattern` meets its contract. Assumes nothing.
@@ -15,12 +12,13 @@ pub overflow_add-q : goal.overflow_add-q
 overflow_add-q c = record { fits = omega (arith, low_lt c.args.b c.requires.fact_1 c.if-field-eq0.true) }
 
 pub root_pattern-requires-clause-fact_1 : goal.root_pattern-requires-clause-fact_1
-root_pattern-requires-clause-fact_1 c = let l = low_lt c.args.b c.requires.fact_1 c.if-field-eq0.true in
-    low_ge c.args.b c.requires.fact_1 c.if-field-eq0.true
+root_pattern-requires-clause-fact_1 c = low_ge c.args.b c.requires.fact_1 c.if-field-eq0.true
 
 pub root_pattern-requires-clause-fact_2 : goal.root_pattern-requires-clause-fact_2
-root_pattern-requires-clause-fact_2 c = let l = low_lt c.args.b c.requires.fact_1 c.if-field-eq0.true in
-    (l, (omega arith, omega (arith, l)))
+root_pattern-requires-clause-fact_2 c = low_lt c.args.b c.requires.fact_1 c.if-field-eq0.true
+
+pub root_pattern-requires-clause-fact_4 : goal.root_pattern-requires-clause-fact_4
+root_pattern-requires-clause-fact_4 c = let l = low_lt c.args.b c.requires.fact_1 c.if-field-eq0.true in omega (arith, l)
 
 pub returns-then-field-eq0-clause-fact_2 : goal.returns-then-field-eq0-clause-fact_2
 returns-then-field-eq0-clause-fact_2 c = c.root_pattern.ensures.fact_2 (of_bits binary64 c.args.b) (low_value c.args.b c.requires.fact_1 c.if-field-eq0.true)

@@ -1,4 +1,3 @@
-use borrow.Author.Rules.{rules}
 use mathlib.Core.Path.{sym}
 use Rattle.scan.proofs.Laws.{read_at, read_past}
 use Rattle.scan.proofs.places_read.Goals as goal
