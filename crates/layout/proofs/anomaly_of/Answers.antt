@@ -6,7 +6,7 @@ use Rattle.layout.proofs.anomaly_of.Goals as goal
 pub returns : goal.returns
 unfolding decode_anomaly
 returns c =
-    let n = to_z-of_z w32 c.i32_at.result (record { sfits = c.i32_at.type-inv }) ∙ c.i32_at.ensures in
+    let n = to_z-of_z w32 c.i32_at.result (record { sfits = c.i32_at.type_inv }) ∙ c.i32_at.ensures in
     λ i. record {
       relative_index = n i;
       values_seen = c.size_at.ensures i;

@@ -9,7 +9,7 @@ use Rattle.layout.proofs.count_list.Goals as goal
 
 pub loop-i-init : goal.loop-i-init
 unfolding list_over
-loop-i-init c = (search rules, c.requires.fact_1, c.requires.fact_2.0, c.requires.fact_2.1.0, refl, refl, c.requires.fact_2.1.1)
+loop-i-init c = (search rules, c.requires.fact_1, c.requires.fact_2, c.requires.fact_3, refl, refl, c.requires.fact_4)
 
 pub loop-i-preserved : goal.loop-i-preserved
 loop-i-preserved c =

@@ -5,4 +5,4 @@ use Rattle.layout.proofs.i32_at.Goals as goal
 
 pub returns : goal.returns
 unfolding i32_at
-returns c = to_z-of_z w32 c.signed.result (record { sfits = c.signed.type-inv }) ∙ c.signed.ensures ∙ ap signed c.read4.ensures
+returns c = to_z-of_z w32 c.signed.result (record { sfits = c.signed.type_inv }) ∙ c.signed.ensures ∙ ap signed c.read4.ensures

@@ -8,7 +8,7 @@ use Rattle.layout.proofs.list_at.Goals as goal
 
 pub loop-i-init : goal.loop-i-init
 unfolding filled
-loop-i-init c = (search rules, c.requires.fact_1, c.requires.fact_2.0, c.requires.fact_2.1, refl)
+loop-i-init c = (search rules, c.requires.fact_1, c.requires.fact_2, c.requires.fact_3, refl)
 
 pub loop-i-preserved : goal.loop-i-preserved
 loop-i-preserved c = (omega arith, c.loop-i.invariant.1, c.loop-i.invariant.2, c.loop-i.invariant.3, filled_next _ c.loop-i.i _ c.loop-i.out _ c.loop-i.invariant.4 c.deviation_at.ensures)

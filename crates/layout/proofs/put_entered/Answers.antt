@@ -14,4 +14,4 @@ pub returns : goal.returns
 returns c =
     let a = c.args in
     rw (c.put4-2.ensures, c.put4.ensures, c.put_scores.ensures, c.flag_byte.ensures)
-    (head_pasted a.out.now (entering (decode_state a.out.now) a.strategy a.score a.corrected a.last-strategy a.last) a.auto-adjust a.run_length a.base-dimension c.requires.long)
+    (head_pasted a.out.now (entering (decode_state a.out.now) a.strategy a.score a.corrected a.last_strategy a.last) a.auto_adjust a.run_length a.base_dimension c.requires.long)

@@ -12,15 +12,15 @@ pub returns : goal.returns
 unfolding scored decode_thresholder
 returns c =
     let xs = c.args.out.now in
-    let p = c.counted-primary.ensures ∙ ap (λ (d : Deviation). counted d c.args.primary-score) c.deviation_at.ensures in
-    let t = c.counted_over-third.ensures ∙ ap₂ (λ (a b : Deviation). counted_over a b c.args.last-score) c.deviation_at-2.ensures p in
-    let n = to_z-of_z w32 c.one_more.result (record { sfits = c.one_more.type-inv }) ∙ c.one_more.ensures ∙ ap one_more (to_z-of_z w32 c.i32_at.result (record { sfits = c.i32_at.type-inv }) ∙ c.i32_at.ensures) in
+    let p = c.counted-primary.ensures ∙ ap (λ (d : Deviation). counted d c.args.primary_score) c.deviation_at.ensures in
+    let t = c.counted_over-third.ensures ∙ ap₂ (λ (a b : Deviation). counted_over a b c.args.last_score) c.deviation_at-2.ensures p in
+    let n = to_z-of_z w32 c.one_more.result (record { sfits = c.one_more.type_inv }) ∙ c.one_more.ensures ∙ ap one_more (to_z-of_z w32 c.i32_at.result (record { sfits = c.i32_at.type_inv }) ∙ c.i32_at.ensures) in
     c.put_thresholder.ensures
     ∙ (λ i. pasted xs 0 (encode_thresholder (record {
       elasticity = c.f32_at.ensures i;
       count = n i;
       score_differencing = c.f32_at-2.ensures i;
-      last_score = c.args.last-score;
+      last_score = c.args.last_score;
       primary_deviation = p i;
       secondary_deviation = c.args.secondary;
       threshold_deviation = t i;

@@ -21,4 +21,4 @@ returns c =
     let s = c.second_after-secondary.ensures ∙ ap₂ (second_after a.strategy) c.deviation_at.ensures g in
     c.put_scored.ensures
     ∙ ap (λ (t : BasicThresholder). pasted xs 0 (encode_thresholder t))
-    ((λ i. scored (decode_thresholder xs) (w i) (p i) (s i)) ∙ by_parts (decode_thresholder xs) c.requires.fact_2 a.strategy a.score a.corrected a.last-strategy a.last (passes _ c.well-formed.1.1.0.1))
+    ((λ i. scored (decode_thresholder xs) (w i) (p i) (s i)) ∙ by_parts (decode_thresholder xs) c.requires.fact_2 a.strategy a.score a.corrected a.last_strategy a.last (passes _ c.well_formed.1.1.0.1))

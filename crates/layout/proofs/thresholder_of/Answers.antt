@@ -6,7 +6,7 @@ use Rattle.layout.proofs.thresholder_of.Goals as goal
 pub returns : goal.returns
 unfolding decode_thresholder
 returns c =
-    let n = to_z-of_z w32 c.i32_at.result (record { sfits = c.i32_at.type-inv }) ∙ c.i32_at.ensures in
+    let n = to_z-of_z w32 c.i32_at.result (record { sfits = c.i32_at.type_inv }) ∙ c.i32_at.ensures in
     λ i. record {
       elasticity = c.f32_at.ensures i;
       count = n i;
