@@ -17,3 +17,9 @@ loop-at-preserved c = left_next _ _ _ _ _ _ c.loop-at-test.true c.number_at.ensu
 
 pub returns : goal.returns
 returns c = found_nowhere _ _ _ _ c.loop-at-test.false c.loop-at.invariant
+
+pub number_at-requires-clause-fact_3 : goal.number_at-requires-clause-fact_3
+number_at-requires-clause-fact_3 c = let b = at_range _ _ _ _ c.loop-at-test.true c.loop-at.invariant in search rules
+
+pub next_at-at-requires-clause-fact_3 : goal.next_at-at-requires-clause-fact_3
+next_at-at-requires-clause-fact_3 c = let b = at_range _ _ _ _ c.loop-at-test.true c.loop-at.invariant in search rules

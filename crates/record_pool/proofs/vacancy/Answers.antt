@@ -25,3 +25,9 @@ returns-else-is_number c = vacancy_unnumbered _ _ _ c.rules_ok.ensures _ c.if-ru
 
 pub returns : goal.returns
 returns c = vacancy_broken _ _ _ c.rules_ok.ensures c.if-rules_ok.false
+
+pub slot_of-requires-clause-fact_1 : goal.slot_of-requires-clause-fact_1
+slot_of-requires-clause-fact_1 c = (slot_spare _ _ _ c.rules_ok.ensures c.if-rules_ok.true c.index_at-index.ensures c.if-index-eq0.false).0
+
+pub slot_of-requires-clause-fact_3 : goal.slot_of-requires-clause-fact_3
+slot_of-requires-clause-fact_3 c = (slot_spare _ _ _ c.rules_ok.ensures c.if-rules_ok.true c.index_at-index.ensures c.if-index-eq0.false).1
