@@ -30,4 +30,4 @@ pub slot_of-requires-clause-fact_1 : goal.slot_of-requires-clause-fact_1
 slot_of-requires-clause-fact_1 c = (slot_spare _ _ _ c.rules_ok.ensures c.if-rules_ok.true c.index_at-index.ensures c.if-index-eq0.false).0
 
 pub slot_of-requires-clause-fact_3 : goal.slot_of-requires-clause-fact_3
-slot_of-requires-clause-fact_3 c = (slot_spare _ _ _ c.rules_ok.ensures c.if-rules_ok.true c.index_at-index.ensures c.if-index-eq0.false).1
+slot_of-requires-clause-fact_3 c = (slot_spare _ _ _ c.rules_ok.ensures c.if-rules_ok.true c.index_at-index.ensures c.if-index-eq0.false).1.1
