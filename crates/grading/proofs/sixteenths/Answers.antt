@@ -1,0 +1,7 @@
+use Rattle.grading.specs.Grading.{sixteenths}
+use Rattle.std.proofs.Common.{rules}
+use Rattle.grading.proofs.sixteenths.Goals as goal
+
+pub returns : goal.returns
+unfolding sixteenths
+returns c = simp (c.minf32.ensures, c.floor.ensures)
