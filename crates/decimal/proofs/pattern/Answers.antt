@@ -1,9 +1,7 @@
 -- `decimal::pattern` meets its contract: the loops double a while it is below 2 ^ 23 units; `proofs/Rounded.antt` has the end. Assumes nothing.
-use Prim.Native.Nat.{ℕ, ◌-◌, ◌*◌, ◌^◌, ◌≤◌, ◌<◌}
-use mathlib.Core.Path.{◌≡◌}
+use Prim.Native.Nat.{ℕ, ◌-◌, ◌*◌, ◌≤◌, ◌<◌}
 use native.Mathlib.Omega.{arith}
-use borrow.Author.Rules.{rules}
-use Rattle.decimal.proofs.Rounded.{Digits, Doubled, field_above, doubled_by, pattern_is, digits_most, begun}
+use Rattle.decimal.proofs.Rounded.{field_above, doubled_by, pattern_is}
 use Rattle.decimal.proofs.pattern.Goals as goal
 use Rattle.decimal.proofs.pattern.Invariants.{Going}
 
@@ -30,4 +28,3 @@ loop-a-2-preserved c = twofold c.args.n c.args.ten c.loop-a-2.a c.loop-a-2.field
 
 pub returns-clause-fact_2 : goal.returns-clause-fact_2
 returns-clause-fact_2 c = rw c.to_nearest.ensures (pattern_is c.args.n c.args.ten c.loop-a-2.a c.loop-a-2.field c.requires.fact_1 c.requires.fact_3 c.loop-a-2.invariant.0 c.loop-a-2.invariant.1 c.loop-a-2-test.false c.loop-a-2.invariant.2)
-

@@ -1,8 +1,5 @@
-use Prim.Native.Nat.{ℕ, ◌-◌, ◌*◌, ◌^◌, ◌≤◌, ◌<◌}
-use mathlib.Core.Path.{◌≡◌}
-use native.Mathlib.Omega.{arith}
-use borrow.Author.Rules.{rules}
-use Rattle.decimal.proofs.Rounded.{Digits, Doubled, field_above, doubled_by, pattern_is, digits_most, begun}
+use Prim.Native.Nat.{ℕ, ◌*◌, ◌^◌, ◌≤◌, ◌<◌}
+use Rattle.decimal.proofs.Rounded.{Doubled}
 use Rattle.decimal.proofs.pattern.Given as goal
 
 -- In both loops: a is n doubled 157 - field times, and below 2 ^ 24 units.

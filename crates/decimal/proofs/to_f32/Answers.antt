@@ -4,7 +4,6 @@ use mathlib.Core.Bool.{false}
 use Prim.Native.Nat.{ℕ, ◌^◌, min}
 use native.Mathlib.Omega.{arith}
 use lib.Ieee.{binary32, round}
-use borrow.Author.Rules.{rules}
 use Rattle.ieee.proofs.Nans.{small_no_nan}
 use Rattle.decimal.proofs.Rounded.{zero_rounded, ten_pos}
 use Rattle.decimal.proofs.to_f32.Goals as goal

@@ -1,5 +1,4 @@
 use Rattle.grading.specs.Grading.{adjusted_factor}
-use Rattle.std.proofs.Common.{rules}
 use Rattle.grading.proofs.adjusted_factor.Goals as goal
 
 pub returns-then-base-limit : goal.returns-then-base-limit

@@ -1,5 +1,4 @@
 use Rattle.grading.specs.Grading.{grade_over}
-use Rattle.std.proofs.Common.{rules}
 use Rattle.grading.proofs.grade_over.Goals as goal
 
 pub returns-then-deviation : goal.returns-then-deviation

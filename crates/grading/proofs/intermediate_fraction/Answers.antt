@@ -1,4 +1,4 @@
-use Rattle.std.proofs.Common.{pos, ◌-ℤ◌, ap, ◌∙◌, w32, rules}
+use Rattle.std.proofs.Common.{pos, ◌-ℤ◌, ap, ◌∙◌, w32}
 use mir.ValLaws.{to_z-of_z}
 use lib.Ieee.{of_int, binary32}
 use Rattle.grading.specs.Grading.{intermediate_fraction}

@@ -1,5 +1,4 @@
 use Rattle.grading.specs.Grading.{mixed}
-use Rattle.std.proofs.Common.{rules}
 use Rattle.grading.proofs.mixed.Goals as goal
 
 pub returns : goal.returns

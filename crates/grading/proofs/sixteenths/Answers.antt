@@ -1,5 +1,4 @@
 use Rattle.grading.specs.Grading.{sixteenths}
-use Rattle.std.proofs.Common.{rules}
 use Rattle.grading.proofs.sixteenths.Goals as goal
 
 pub returns : goal.returns

@@ -1,5 +1,4 @@
 use Rattle.grading.specs.Grading.{surprise_index}
-use Rattle.std.proofs.Common.{rules}
 use Rattle.grading.proofs.surprise_index.Goals as goal
 
 pub returns-then-deviation : goal.returns-then-deviation

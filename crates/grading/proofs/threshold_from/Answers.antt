@@ -1,5 +1,4 @@
 use Rattle.grading.specs.Grading.{threshold_from}
-use Rattle.std.proofs.Common.{rules}
 use Rattle.grading.proofs.threshold_from.Goals as goal
 
 pub returns-then-not-ready : goal.returns-then-not-ready
