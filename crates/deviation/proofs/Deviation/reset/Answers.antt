@@ -1,0 +1,7 @@
+use Rattle.deviation.specs.Statistics.{reset}
+use borrow.Author.Rules.{rules}
+use Rattle.deviation.proofs.Deviation.reset.Goals as goal
+
+pub returns : goal.returns
+unfolding reset
+returns c = c.create.ensures

@@ -1,0 +1,10 @@
+use Rattle.std.proofs.Common.{◌-◌, true, false, sym, refl, ◌∙◌, ⊎_elim, arith, rules}
+use Rattle.divector.specs.DiVector.{winner}
+use Rattle.divector.proofs.Blocks.{Searched, row_within, turn, best_end}
+use Rattle.divector.proofs.best_from.Given as goal
+
+abbrev pub invariant-loop-j : goal.invariant-loop-j
+invariant-loop-j l = Searched l.high l.low l.base l.start l.blocks l.index l.val l.j
+
+abbrev pub decreases-loop-j : goal.decreases-loop-j
+decreases-loop-j l = l.blocks - l.j
