@@ -1,5 +1,5 @@
 -- basicthresholder.rs: threshold and grade of a score against the state. One definition for each function, in the Rust's shape; the steps of the crate grading
--- take the numbers they read, and `self`'s fields are handed to them. Operators are those of f32, `*₆₄` is f64's.
+-- take the numbers they read, and `self`'s fields are handed to them. Operators with ₃₂ are those of f32, `*₆₄` is f64's.
 use Rattle.std.specs.Prelude.{ℕ, Bool, cond, not, ◌&&◌, ◌||◌, nat_eq, Float}
 use Rattle.ieee.specs.Round.{narrow}
 use Rattle.ieee.specs.F32.{◌+₃₂◌, ◌-₃₂◌, ◌*₃₂◌, ◌/₃₂◌, ◌<₃₂◌, ◌>₃₂◌, ◌==₃₂◌}

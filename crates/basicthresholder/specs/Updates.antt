@@ -1,4 +1,4 @@
--- basicthresholder.rs: construction, updates and setters. One definition for each function, in the Rust's shape. Operators are those of f32, `/₆₄` is f64's.
+-- basicthresholder.rs: construction, updates and setters. One definition for each function, in the Rust's shape. Operators with ₃₂ are those of f32, `/₆₄` is f64's.
 use Rattle.std.specs.Prelude.{Bool, cond, ◌&&◌, ℤ, pos, Float}
 use Rattle.ieee.specs.Round.{narrow}
 use Rattle.ieee.specs.F32.{◌-₃₂◌, ◌<=₃₂◌, ◌>₃₂◌, ◌>=₃₂◌}

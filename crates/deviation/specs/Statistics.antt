@@ -1,4 +1,4 @@
--- deviation.rs: discounted statistics of a run of scores. One definition for each function, in the Rust's order. Operators are those of f64, every step
+-- deviation.rs: discounted statistics of a run of scores. One definition for each function, in the Rust's order. Operators with ₆₄ are those of f64, every step
 -- rounded; `sqrt` is the correctly rounded root.
 use Rattle.std.specs.Prelude.{◌≡◌, Bool, false, cond, ◌&&◌, ℤ, pos, negsuc, ◌+ℤ◌, leb, Float}
 use Rattle.std.specs.Float.Ieee.{of_int}
