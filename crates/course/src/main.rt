@@ -3,52 +3,48 @@
 #![tactic(auto)]
 use basicthresholder::{BasicThresholder, Graded};
 use deviation::{Deviation, Measured};
-use libc::STDOUT_FILENO;
+use std::io;
 use types::TransformMethod;
 
-fn say(text: &[u8]) {
-    io::write_all(STDOUT_FILENO, text);
+fn say(rt: &impl Print, text: &str) -> io::Result<()> {
+    rt.print(text)
 }
 
-fn say_number(name: &[u8], x: f32) {
-    say(name);
-    io::print_hex(STDOUT_FILENO, ieee::f32_to_bits(x) as u64, 8);
+fn say_number(rt: &impl Print, name: &str, x: f32) -> io::Result<()> {
+    print!(rt; "{name}{:08x}", ieee::f32_to_bits(x))
 }
 
-fn say_measured(name: &[u8], m: Measured) {
+fn say_measured(rt: &impl Print, name: &str, m: Measured) -> io::Result<()> {
     match m {
-        Measured::Empty => {
-            say(name);
-            say(b"empty");
-        }
-        Measured::Number(x) => say_number(name, ieee::narrow(x)),
+        Measured::Empty => print!(rt; "{name}empty"),
+        Measured::Number(x) => say_number(rt, name, ieee::narrow(x)),
     }
 }
 
-fn say_graded(graded: Graded) {
-    say_number(b" threshold ", graded.threshold);
-    say_number(b" grade ", graded.grade);
-    say(b"\n");
+fn say_graded(rt: &impl Print, graded: Graded) -> io::Result<()> {
+    say_number(rt, " threshold ", graded.threshold)?;
+    say_number(rt, " grade ", graded.grade)?;
+    say(rt, "\n")
 }
 
 // The scores 1 and 2.
-fn discounted(discount: f64) {
+fn discounted(rt: &impl Print, discount: f64) -> io::Result<()> {
     let fresh = Deviation::create(discount, 0.0, 0.0, 0.0, 0);
     let one = fresh.update(1.0).deviation;
     let two = one.update(2.0).deviation;
-    say_number(b"discount ", ieee::narrow(discount));
-    say_number(b": sum ", ieee::narrow(two.sum()));
-    say_number(b" squares ", ieee::narrow(two.sum_squared()));
-    say_number(b" weight ", ieee::narrow(two.weight()));
-    say_measured(b" mean ", two.mean());
-    say(b"\n");
+    say_number(rt, "discount ", ieee::narrow(discount))?;
+    say_number(rt, ": sum ", ieee::narrow(two.sum()))?;
+    say_number(rt, " squares ", ieee::narrow(two.sum_squared()))?;
+    say_number(rt, " weight ", ieee::narrow(two.weight()))?;
+    say_measured(rt, " mean ", two.mean())?;
+    say(rt, "\n")
 }
 
 // What a dashboard shows of a drawer.
-fn say_dashboard(drawer: BasicThresholder) {
-    say_measured(b" mean ", drawer.primary_mean());
-    say_measured(b" deviation ", drawer.primary_deviation());
-    say(b"\n");
+fn say_dashboard(rt: &impl Print, drawer: BasicThresholder) -> io::Result<()> {
+    say_measured(rt, " mean ", drawer.primary_mean())?;
+    say_measured(rt, " deviation ", drawer.primary_deviation())?;
+    say(rt, "\n")
 }
 
 // A new drawer as the score watch has it.
@@ -76,30 +72,30 @@ fn sums_cleared(drawer: BasicThresholder) -> BasicThresholder {
 }
 
 // One score of 2, and then what a 9 is held to.
-fn two_then_nine(drawer: BasicThresholder) {
+fn two_then_nine(rt: &impl Print, drawer: BasicThresholder) -> io::Result<()> {
     let after = counted(drawer, 2.0, 1);
     if after.is_deviation_ready() {
-        say(b" ten scores believed,");
+        say(rt, " ten scores believed,")?;
     } else {
-        say(b" fewer than ten scores,");
+        say(rt, " fewer than ten scores,")?;
     }
-    say_graded(after.primary_threshold_and_grade(9.0));
+    say_graded(rt, after.primary_threshold_and_grade(9.0))
 }
 
-fn main() {
-    say(b"scores 1 and 2\n");
-    discounted(0.0);
-    discounted(0.5);
-    say(b"on the dashboard\nno scores yet:");
-    say_dashboard(fresh());
-    say(b"a score of 2:");
-    say_dashboard(counted(fresh(), 2.0, 1));
-    say(b"a score of 2, then 9\nnew drawer:");
-    two_then_nine(fresh());
-    say(b"sums cleared after ten scores of 2, count not:");
-    two_then_nine(sums_cleared(counted(fresh(), 2.0, 10)));
-    say(b"a new drawer's first score, 1.75\nDISTANCE:");
-    say_graded(fresh().primary_threshold_and_grade(1.75));
-    say(b"height:");
-    say_graded(fresh().threshold_and_grade(1.75, TransformMethod::NONE, 1));
+fn main(rt: HostRuntime) -> io::Result<()> {
+    say(&rt, "scores 1 and 2\n")?;
+    discounted(&rt, 0.0)?;
+    discounted(&rt, 0.5)?;
+    say(&rt, "on the dashboard\nno scores yet:")?;
+    say_dashboard(&rt, fresh())?;
+    say(&rt, "a score of 2:")?;
+    say_dashboard(&rt, counted(fresh(), 2.0, 1))?;
+    say(&rt, "a score of 2, then 9\nnew drawer:")?;
+    two_then_nine(&rt, fresh())?;
+    say(&rt, "sums cleared after ten scores of 2, count not:")?;
+    two_then_nine(&rt, sums_cleared(counted(fresh(), 2.0, 10)))?;
+    say(&rt, "a new drawer's first score, 1.75\nDISTANCE:")?;
+    say_graded(&rt, fresh().primary_threshold_and_grade(1.75))?;
+    say(&rt, "height:")?;
+    say_graded(&rt, fresh().threshold_and_grade(1.75, TransformMethod::NONE, 1))
 }

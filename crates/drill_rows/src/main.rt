@@ -4,40 +4,36 @@
 use basicthresholder::BasicThresholder;
 use deviation::{Deviation, Measured};
 use divector::Block;
+use std::io;
 use types::TransformMethod;
 
-fn wide(x: f64) {
-    io::write_all(1, b" ");
-    io::print_hex(1, ieee::f64_to_bits(x), 16);
+fn wide(rt: &impl Print, x: f64) -> io::Result<()> {
+    print!(rt; " {:016x}", ieee::f64_to_bits(x))
 }
 
-fn single(x: f32) {
-    io::write_all(1, b" ");
-    io::print_hex(1, ieee::f32_to_bits(x) as u64, 8);
+fn single(rt: &impl Print, x: f32) -> io::Result<()> {
+    print!(rt; " {:08x}", ieee::f32_to_bits(x))
 }
 
-fn whole(n: u64) {
-    io::write_all(1, b" ");
-    io::print_decimal(1, n);
+fn whole(rt: &impl Print, n: u64) -> io::Result<()> {
+    print!(rt; " {n}")
 }
 
-fn end() {
-    io::write_all(1, b"\n");
+fn end(rt: &impl Print) -> io::Result<()> {
+    rt.print("\n")
 }
 
-fn measured(m: Measured) {
+fn measured(rt: &impl Print, m: Measured) -> io::Result<()> {
     match m {
-        Measured::Empty => {
-            io::write_all(1, b" empty");
-        }
-        Measured::Number(x) => wide(x),
+        Measured::Empty => rt.print(" empty"),
+        Measured::Number(x) => wide(rt, x),
     }
 }
 
-fn sums(d: Deviation) {
-    wide(d.sum());
-    wide(d.sum_squared());
-    wide(d.weight());
+fn sums(rt: &impl Print, d: Deviation) -> io::Result<()> {
+    wide(rt, d.sum())?;
+    wide(rt, d.sum_squared())?;
+    wide(rt, d.weight())
 }
 
 // The scores 1 and 2 counted.
@@ -47,22 +43,22 @@ fn scored(discount: f64) -> Deviation {
     one.counted(2.0)
 }
 
-fn statistics() {
-    io::write_all(1, b"discount 0, scores 1, 2:");
+fn statistics(rt: &impl Print) -> io::Result<()> {
+    rt.print("discount 0, scores 1, 2:")?;
     let d = scored(0.0);
-    sums(d);
-    measured(d.mean());
-    measured(d.deviation());
-    end();
-    io::write_all(1, b"discount 0.5, scores 1, 2:");
-    sums(scored(0.5));
-    end();
+    sums(rt, d)?;
+    measured(rt, d.mean())?;
+    measured(rt, d.deviation())?;
+    end(rt)?;
+    rt.print("discount 0.5, scores 1, 2:")?;
+    sums(rt, scored(0.5))?;
+    end(rt)?;
     // A score of 0 counted over a sum of 1 leaves the factor.
-    io::write_all(1, b"discount 0.25, count 0, factor:");
+    rt.print("discount 0.25, count 0, factor:")?;
     let one = Deviation::create(0.25, 1.0, 1.0, 1.0, 0);
     let after = one.counted(0.0);
-    wide(after.sum());
-    end();
+    wide(rt, after.sum())?;
+    end(rt)
 }
 
 fn fresh() -> BasicThresholder {
@@ -76,60 +72,58 @@ fn at_one() -> BasicThresholder {
     t.set_initial_threshold(1.0)
 }
 
-fn graded(s: BasicThresholder, score: f32) {
+fn graded(rt: &impl Print, s: BasicThresholder, score: f32) -> io::Result<()> {
     let g = s.threshold_and_grade(score, TransformMethod::NONE, 1);
-    single(g.threshold);
-    single(g.grade);
-    end();
+    single(rt, g.threshold)?;
+    single(rt, g.grade)?;
+    end(rt)
 }
 
-fn thresholds() {
-    io::write_all(1, b"fresh, NONE, score NaN:");
-    graded(fresh(), ieee::f32_from_bits(0x7fc0_0000));
-    io::write_all(1, b"both at 1, score 1:");
-    graded(at_one(), 1.0);
-    io::write_all(1, b"both at 1, score 1.0625:");
-    graded(at_one(), 1.0625);
-    io::write_all(1, b"both at 1, score 1.25:");
-    graded(at_one(), 1.25);
-    io::write_all(1, b"both at 1, score 1.8125:");
-    graded(at_one(), 1.8125);
-    io::write_all(1, b"fresh, score 1.4:");
-    graded(fresh(), 1.4);
-    io::write_all(1, b"fresh, score 1.5:");
-    graded(fresh(), 1.5);
+fn thresholds(rt: &impl Print) -> io::Result<()> {
+    rt.print("fresh, NONE, score NaN:")?;
+    graded(rt, fresh(), ieee::f32_from_bits(0x7fc0_0000))?;
+    rt.print("both at 1, score 1:")?;
+    graded(rt, at_one(), 1.0)?;
+    rt.print("both at 1, score 1.0625:")?;
+    graded(rt, at_one(), 1.0625)?;
+    rt.print("both at 1, score 1.25:")?;
+    graded(rt, at_one(), 1.25)?;
+    rt.print("both at 1, score 1.8125:")?;
+    graded(rt, at_one(), 1.8125)?;
+    rt.print("fresh, score 1.4:")?;
+    graded(rt, fresh(), 1.4)?;
+    rt.print("fresh, score 1.5:")?;
+    graded(rt, fresh(), 1.5)
 }
 
-fn block(high: [f64; 4], low: [f64; 4], gap: usize) {
+fn block(rt: &impl Print, high: [f64; 4], low: [f64; 4], gap: usize) -> io::Result<()> {
     match divector::max_gap_contribution(&high, &low, 2, gap) {
-        Block::At(k) => whole(k as u64),
-        Block::Refused(_) => {
-            io::write_all(1, b" refused");
-        }
+        Block::At(k) => whole(rt, k as u64),
+        Block::Refused(_) => rt.print(" refused"),
     }
 }
 
-fn attributions() {
-    io::write_all(1, b"high 1, 2, 3, 4, gaps 1, 2, 3:");
-    block([1.0, 2.0, 3.0, 4.0], [0.0; 4], 1);
-    block([1.0, 2.0, 3.0, 4.0], [0.0; 4], 2);
-    block([1.0, 2.0, 3.0, 4.0], [0.0; 4], 3);
-    end();
-    io::write_all(1, b"all ones, gap 2:");
-    block([1.0; 4], [1.0; 4], 2);
-    end();
-    io::write_all(1, b"zeros of length 2 to 4:");
+fn attributions(rt: &impl Print) -> io::Result<()> {
+    rt.print("high 1, 2, 3, 4, gaps 1, 2, 3:")?;
+    block(rt, [1.0, 2.0, 3.0, 4.0], [0.0; 4], 1)?;
+    block(rt, [1.0, 2.0, 3.0, 4.0], [0.0; 4], 2)?;
+    block(rt, [1.0, 2.0, 3.0, 4.0], [0.0; 4], 3)?;
+    end(rt)?;
+    rt.print("all ones, gap 2:")?;
+    block(rt, [1.0; 4], [1.0; 4], 2)?;
+    end(rt)?;
+    rt.print("zeros of length 2 to 4:")?;
     let mut high = [0.0f64; 2];
     let mut low = [0.0f64; 2];
     divector::normalize(&mut high, &mut low, 4.0);
-    wide(high[0]);
-    wide(high[1]);
-    wide(low[0]);
-    wide(low[1]);
-    end();
+    wide(rt, high[0])?;
+    wide(rt, high[1])?;
+    wide(rt, low[0])?;
+    wide(rt, low[1])?;
+    end(rt)
 }
 
-fn corrected(gap: usize) {
+fn corrected(rt: &impl Print, gap: usize) -> io::Result<()> {
     let point = [1.0f32, 2.0, 3.0, 4.0];
     let expected = [5.0f32, 6.0, 7.0, 8.0];
     let anomalous = [5.0f32, 6.0, 7.0, 18.0];
@@ -137,54 +131,54 @@ fn corrected(gap: usize) {
     corrector::write_corrected_point(
         &point, gap, 4, 1, true, &expected, &anomalous, 0, true, false, &mut out,
     );
-    single(out[0]);
-    single(out[1]);
-    single(out[2]);
-    single(out[3]);
-    end();
+    single(rt, out[0])?;
+    single(rt, out[1])?;
+    single(rt, out[2])?;
+    single(rt, out[3])?;
+    end(rt)
 }
 
-fn steps() {
-    io::write_all(1, b"corrector, gap 1:");
-    corrected(1);
-    io::write_all(1, b"corrector, gap 4:");
-    corrected(4);
-    io::write_all(1, b"corrector, gap 5:");
-    corrected(5);
+fn steps(rt: &impl Print) -> io::Result<()> {
+    rt.print("corrector, gap 1:")?;
+    corrected(rt, 1)?;
+    rt.print("corrector, gap 4:")?;
+    corrected(rt, 4)?;
+    rt.print("corrector, gap 5:")?;
+    corrected(rt, 5)?;
     let path = [1.0f32, 3.0, 6.0];
-    io::write_all(1, b"path deviation:");
-    single(uncertainty_box::calculate_path_deviation(&path, 0, 0, 1, false));
-    end();
-    io::write_all(1, b"path deviation, differenced:");
-    single(uncertainty_box::calculate_path_deviation(&path, 0, 0, 1, true));
-    end();
+    rt.print("path deviation:")?;
+    single(rt, uncertainty_box::calculate_path_deviation(&path, 0, 0, 1, false))?;
+    end(rt)?;
+    rt.print("path deviation, differenced:")?;
+    single(rt, uncertainty_box::calculate_path_deviation(&path, 0, 0, 1, true))?;
+    end(rt)
 }
 
 // The number that the newest row of a point so long gets.
-fn sized(shingle_size: usize, base: usize, len: usize) {
+fn sized(rt: &impl Print, shingle_size: usize, base: usize, len: usize) -> io::Result<()> {
     let answer = corrector::newest_row_answer(shingle_size, base, len);
-    whole(answer.number() as u64);
-    end();
+    whole(rt, answer.number() as u64)?;
+    end(rt)
 }
 
-fn sizes() {
-    io::write_all(1, b"shingle 64, base 16:");
-    sized(64, 16, 1024);
-    io::write_all(1, b"shingle 65, base 16:");
-    sized(65, 16, 1040);
-    io::write_all(1, b"shingle 64, base 17:");
-    sized(64, 17, 1088);
-    io::write_all(1, b"horizon 1:");
+fn sizes(rt: &impl Print) -> io::Result<()> {
+    rt.print("shingle 64, base 16:")?;
+    sized(rt, 64, 16, 1024)?;
+    rt.print("shingle 65, base 16:")?;
+    sized(rt, 65, 16, 1040)?;
+    rt.print("shingle 64, base 17:")?;
+    sized(rt, 64, 17, 1088)?;
+    rt.print("horizon 1:")?;
     let set = fresh().set_score_differencing(1.0);
     let answer = set.answer;
-    whole(answer.number() as u64);
-    end();
+    whole(rt, answer.number() as u64)?;
+    end(rt)
 }
 
-fn main() {
-    statistics();
-    thresholds();
-    attributions();
-    steps();
-    sizes();
+fn main(rt: HostRuntime) -> io::Result<()> {
+    statistics(&rt)?;
+    thresholds(&rt)?;
+    attributions(&rt)?;
+    steps(&rt)?;
+    sizes(&rt)
 }

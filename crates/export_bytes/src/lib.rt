@@ -11,7 +11,7 @@ use export_rows::{Course, Line};
 use score_rows::{PART, ROOM};
 
 // A run between two bytes of its input: where in a row it is, and how the rows before it went. `course.ending` tells whether it goes on, and why not.
-#[derive(Drop)]
+#[derive(Clone, Copy)]
 pub struct Run {
     pub scan: Scan,
     pub course: Course,

@@ -2,8 +2,8 @@
 // library's; here it is read and written.
 #![tactic(auto)]
 use export_bytes::Run;
-use libc::{STDERR_FILENO, STDIN_FILENO, STDOUT_FILENO};
 use score_rows::{PART, ROOM};
+use std::io::Read;
 
 // What a read came to: the run goes on, its input has ended or it is over, or a read or a write failed.
 #[derive(Drop)]
@@ -14,31 +14,29 @@ enum Turn {
 }
 
 // Writes it all, or says that it could not.
-fn print(text: &[u8]) -> bool {
-    if io::write_all(STDOUT_FILENO, text) {
+fn print(rt: &(impl Print + Eprint), text: &[u8]) -> bool {
+    if rt.write_all(text).is_ok() {
         return true;
     }
-    io::write_all(STDERR_FILENO, b"export_watch: a write failed\n");
+    let _ = eprintln!(rt; "export_watch: a write failed");
     false
 }
 
 // Reads once, and prints what that gives. `out` is room for it.
-fn read_some(run: Run, out: &mut [u8; ROOM]) -> Turn {
+fn read_some(rt: &(impl Input + Print + Eprint), run: Run, out: &mut [u8; ROOM]) -> Turn {
     let mut input = [0u8; PART];
-    let got = libc::read(STDIN_FILENO, &mut input);
-    if got < 0 {
-        io::write_all(STDERR_FILENO, b"export_watch: a read failed\n");
+    let Ok(n) = rt.reader().read(&mut input) else {
+        let _ = eprintln!(rt; "export_watch: a read failed");
         return Turn::Failed;
-    }
-    if got == 0 {
+    };
+    if n == 0 {
         return Turn::End(run);
     }
-    let n = io::count(got, &input);
     let fed = export_bytes::feed(run, &input, n, out);
     let written = fed.written;
     let next = fed.run;
     let text: &[u8] = out;
-    if !print(&text[..written]) {
+    if !print(rt, &text[..written]) {
         return Turn::Failed;
     }
     let course = next.course;
@@ -48,27 +46,27 @@ fn read_some(run: Run, out: &mut [u8; ROOM]) -> Turn {
     Turn::End(next)
 }
 
-fn finish(run: Run, out: &mut [u8; ROOM]) {
+fn finish(rt: &(impl Print + Eprint), run: Run, out: &mut [u8; ROOM]) {
     let fed = export_bytes::finish(run, out);
     let written = fed.written;
     let text: &[u8] = out;
-    print(&text[..written]);
+    print(rt, &text[..written]);
 }
 
 // A failed read or write ends the run without counts. A proved loop has to end, and nothing says that the input does: so it counts its turns down,
 // from a number that no run uses up.
-fn watch() {
+fn watch(rt: &(impl Input + Print + Eprint)) {
     let mut out = [0u8; ROOM];
     let mut run = export_bytes::begin();
     let mut turns = u64::MAX;
     while turns > 0 {
-        let turn = read_some(run, &mut out);
+        let turn = read_some(rt, run, &mut out);
         match turn {
             Turn::More(next) => {
                 run = next;
             }
             Turn::End(last) => {
-                finish(last, &mut out);
+                finish(rt, last, &mut out);
                 return;
             }
             Turn::Failed => {
@@ -79,8 +77,8 @@ fn watch() {
     }
 }
 
-fn main() {
-    if print(&score_rows::header()) {
-        watch();
+fn main(rt: HostRuntime) {
+    if print(&rt, &score_rows::header()) {
+        watch(&rt);
     }
 }

@@ -23,7 +23,7 @@ pub enum Line {
 
 // A run between two bytes of its input. `part` is the line under way: its digits behind a leading 1, so that 1 alone is a line with no byte yet.
 // A run is over once it has met a bad line.
-#[derive(Drop)]
+#[derive(Clone, Copy)]
 pub struct Run {
     pub thresholder: BasicThresholder,
     pub counts: Counts,

@@ -23,7 +23,7 @@ pub const ROOM: usize = 589824;
 
 // A run between two bytes of its input: in its first line, with the number read so far and how many digits that has; in its second, behind the seed; with both read;
 // or bad, with the number of the line.
-#[derive(Drop)]
+#[derive(Clone, Copy)]
 pub enum Run {
     Seed(u64, u32),
     Count(u64, u64, u32),

@@ -5,7 +5,7 @@ ghost use Rattle.std.specs.Prelude.{◌≡◌, true};
 ghost use Rattle.training_lines.specs.Feeding.{is_over};
 ghost use Rattle.training_load.specs.declared.Lines.TheVariants as Variants;
 
-use libc::{STDERR_FILENO, STDIN_FILENO, STDOUT_FILENO};
+use std::io::Read;
 use training_lines::{MOST_BYTES, ROOM, Run};
 
 // What a read came to.
@@ -23,14 +23,13 @@ enum Lines {
     Failed,
 }
 
-fn read_byte() -> Turn {
+fn read_byte(rt: &(impl Input + Eprint)) -> Turn {
     let mut input = [0u8; 1];
-    let got = libc::read(STDIN_FILENO, &mut input);
-    if got < 0 {
-        io::write_all(STDERR_FILENO, b"training_load: a read failed\n");
+    let Ok(n) = rt.reader().read(&mut input) else {
+        let _ = eprintln!(rt; "training_load: a read failed");
         return Turn::Failed;
-    }
-    if got == 0 {
+    };
+    if n == 0 {
         return Turn::End;
     }
     Turn::Byte(input[0])
@@ -45,14 +44,14 @@ fn settled(run: Run) -> Lines
 }
 
 // The bytes up to the one with which the run is over, or the end of the input. With `MOST_BYTES` of them it is over: `settled` asks for that.
-fn read_lines() -> Lines {
+fn read_lines(rt: &(impl Input + Eprint)) -> Lines {
     let mut run = training_lines::begin();
     let mut left = MOST_BYTES;
     while left > 0 {
         if training_lines::is_over(run) {
             return settled(run);
         }
-        let turn = read_byte();
+        let turn = read_byte(rt);
         match turn {
             Turn::Byte(b) => {
                 run = training_lines::push(run, b);
@@ -69,18 +68,18 @@ fn read_lines() -> Lines {
     settled(run)
 }
 
-fn print(run: Run) {
+fn print(rt: &(impl Print + Eprint), run: Run) {
     let mut out = [0u8; ROOM];
     let written = training_lines::finish(run, &mut out);
-    if !io::write_all(STDOUT_FILENO, &out[..written]) {
-        io::write_all(STDERR_FILENO, b"training_load: a write failed\n");
+    if rt.write_all(&out[..written]).is_err() {
+        let _ = eprintln!(rt; "training_load: a write failed");
     }
 }
 
-fn main() {
-    let lines = read_lines();
+fn main(rt: HostRuntime) {
+    let lines = read_lines(&rt);
     match lines {
-        Lines::Read(run) => print(run),
+        Lines::Read(run) => print(&rt, run),
         Lines::Failed => {}
     }
 }

@@ -3,20 +3,26 @@
 // `.zeros` an export behind 65,536 rows of its drawer, judged or skipped, `.million` one behind a million rows of another drawer. Every case is run once for
 // each place at which its input can be cut in two.
 #![tactic(auto)]
+ghost use Rattle.std.specs.Io.{ReadsAtMost};
 ghost use Rattle.std.specs.Prelude.{◌-◌, ◌≤◌, length};
 
-use libc::{STDIN_FILENO, STDOUT_FILENO};
 use score_rows::{PART, ROOM};
+use std::io::Read;
+use std::rt::Files;
+use std::{fs, io, str};
+
+// Room for the names of the cases' files.
+const NAMES: usize = 65536;
 
 // The first n bytes are a file's, the rest zeros. One that cannot be read counts as full, and no case's file is.
-#[derive(Drop)]
+#[derive(Clone, Copy)]
 struct File {
     bytes: [u8; PART],
     n: usize,
 }
 
 // A run of the watch that is fed, the other as it began; and the place up to which it has printed what is expected, past the end where it differs.
-#[derive(Drop)]
+#[derive(Clone, Copy)]
 struct Going {
     scores: score_lines::Run,
     export: export_bytes::Run,
@@ -26,7 +32,7 @@ struct Going {
 
 // What is fed before a case's input: so much of an export's head, then a block over and over, in parts of that length. Where it is not looked at, neither is the
 // header that a run prints.
-#[derive(Drop)]
+#[derive(Clone, Copy)]
 struct Lead {
     is_export: bool,
     is_seen: bool,
@@ -36,7 +42,7 @@ struct Lead {
     parts: usize,
 }
 
-#[derive(Drop)]
+#[derive(Clone, Copy)]
 struct Tally {
     cases: u64,
     differ: u64,
@@ -231,30 +237,63 @@ fn led(lead: Lead, expected: File) -> Going {
     going
 }
 
+// The place of the first such byte, or the end where there is none.
+fn find(text: &[u8], byte: u8) -> usize
+    ensures { result ≤ length text.now }
+{
+    match text.iter().position(|b| *b == byte) {
+        Some(at) => at,
+        None => text.len(),
+    }
+}
+
 // The letter behind the dot of a name.
 fn kind_of(name: &[u8]) -> u8 {
-    let dot = bytes::scan::find(name, 0, name.len(), b'.');
+    let dot = find(name, b'.');
     if dot + 1 < name.len() {
         return name[dot + 1];
     }
     0
 }
 
-fn read_file(name: &[u8]) -> File {
-    let mut bytes = [0u8; PART];
-    let file = os::open_read(name);
-    if file < 0 {
-        return File { bytes, n: PART };
+// Reads until `out` is full or the input ends, and tells how many bytes there were.
+fn read_full(input: &mut impl Read, out: &mut [u8]) -> io::Result<usize>
+    ensures { ReadsAtMost result out.new }
+{
+    let mut done = 0usize;
+    while done < out.len() {
+        let n = input.read(&mut out[done..])?;
+        if n == 0 {
+            break;
+        }
+        done += n;
     }
-    let n = io::read_full(file, &mut bytes);
-    libc::close(file);
-    File { bytes, n }
+    Ok(done)
+}
+
+// None where the file cannot be read.
+fn read_named(rt: &impl Files, name: &[u8]) -> Option<File> {
+    let mut bytes = [0u8; PART];
+    let path = str::from_utf8(name).ok()?;
+    let mut file = fs::open(rt, path).ok()?;
+    let n = read_full(&mut file, &mut bytes).ok()?;
+    Some(File { bytes, n })
+}
+
+fn read_file(rt: &impl Files, name: &[u8]) -> File {
+    match read_named(rt, name) {
+        Some(file) => file,
+        None => File {
+            bytes: [0u8; PART],
+            n: PART,
+        },
+    }
 }
 
 // Whether the files of a case agree.
-fn agrees(input: &[u8], output: &[u8]) -> bool {
-    let given = read_file(input);
-    let expected = read_file(output);
+fn agrees(rt: &impl Files, input: &[u8], output: &[u8]) -> bool {
+    let given = read_file(rt, input);
+    let expected = read_file(rt, output);
     let start = led(lead_of(kind_of(input)), expected);
     (given.n < PART) & prints(start, given, expected)
 }
@@ -264,13 +303,13 @@ fn line(text: &[u8], at: usize) -> &[u8]
     ensures { length result.now ≤ length text.now - at }
 {
     if at < text.len() {
-        let end = bytes::scan::find(text, at, text.len(), b'\n');
-        return &text[at..end];
+        let rest = &text[at..];
+        return &rest[..find(rest, b'\n')];
     }
     &text[..0]
 }
 
-fn stored(names: &[u8]) -> Tally {
+fn stored(rt: &(impl Files + Print), names: &[u8]) -> io::Result<Tally> {
     let mut tally = Tally {
         cases: 0,
         differ: 0,
@@ -280,23 +319,20 @@ fn stored(names: &[u8]) -> Tally {
         let input = line(names, at);
         let next = at + input.len() + 1;
         let output = line(names, next);
-        if !agrees(input, output) {
-            io::write_all(STDOUT_FILENO, input);
-            io::write_all(STDOUT_FILENO, b" differs\n");
+        if !agrees(rt, input, output) {
+            rt.write_all(input)?;
+            rt.write_all(b" differs\n")?;
             tally.differ = std::num::wrapping_add_u64(tally.differ, 1);
         }
         tally.cases = std::num::wrapping_add_u64(tally.cases, 1);
         at = next + output.len() + 1;
     }
-    tally
+    Ok(tally)
 }
 
-fn main() {
-    let mut names = io::large_buffer();
-    let n = io::read_full(STDIN_FILENO, &mut names);
-    let tally = stored(&names[..n]);
-    io::print_decimal(STDOUT_FILENO, tally.cases);
-    io::write_all(STDOUT_FILENO, b" cases, ");
-    io::print_decimal(STDOUT_FILENO, tally.differ);
-    io::write_all(STDOUT_FILENO, b" differ\n");
+fn main(rt: HostRuntime) -> io::Result<()> {
+    let mut names = [0u8; NAMES];
+    let n = read_full(&mut rt.reader(), &mut names)?;
+    let tally = stored(&rt, &names[..n])?;
+    println!(rt; "{} cases, {} differ", tally.cases, tally.differ)
 }
