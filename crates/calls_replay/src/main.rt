@@ -8,6 +8,7 @@
 // lowest first, in the order of the lengths. Behind a call of auto adjust stands the state, 1310 bytes; behind one of 4 the state, the reading and the last
 // descriptor, 23 bytes each.
 #![tactic(auto)]
+
 ghost use Rattle.std.specs.Prelude.{◌<◌};
 
 use std::io;
@@ -286,7 +287,11 @@ fn call(input: &mut impl Read, b: &[u8; 336]) -> io::Result<Said> {
 }
 
 fn write_line(rt: &impl Print, operation: u8, said: Said) -> io::Result<()> {
-    println!(rt; "{:04x}{:016x}", wide(operation) * 0x100 + wide(said.number), said.sum)
+    println!(rt;
+        "{:04x}{:016x}",
+        wide(operation) * 0x100 + wide(said.number),
+        said.sum
+    )
 }
 
 fn blank() -> [u8; 336] {

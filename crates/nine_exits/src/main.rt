@@ -5,6 +5,7 @@
 // A reading is 1783 bytes: the title (40), the state (1310), the reading (23) and the last descriptor (23) as the crate layout has them, the lengths of the
 // buffers of D floats, of base floats and of the neighbours (one each), then 12 rows of 8 floats, 4 bytes each, the lowest first.
 #![tactic(auto)]
+
 ghost use Rattle.std.specs.Prelude.{◌<◌};
 
 use std::io;
@@ -107,11 +108,20 @@ fn write_verdict(rt: &impl Print, verdict: &[u8; 14]) -> io::Result<()> {
     Ok(())
 }
 
-fn write_line(rt: &impl Print, b: &[u8; 1783], number: u8, verdict: &[u8; 14], buffers: u64) -> io::Result<()> {
+fn write_line(
+    rt: &impl Print,
+    b: &[u8; 1783],
+    number: u8,
+    verdict: &[u8; 14],
+    buffers: u64,
+) -> io::Result<()> {
     rt.write_all(part(b, 0, 40))?;
     print!(rt; "{number} ")?;
     write_verdict(rt, verdict)?;
-    println!(rt; " {:016x} {buffers:016x}", mix_bytes(part(b, 40, layout::STATE_LENGTH)))
+    println!(rt;
+        " {:016x} {buffers:016x}",
+        mix_bytes(part(b, 40, layout::STATE_LENGTH))
+    )
 }
 
 fn show(rt: &impl Print, given: [u8; 1783]) -> io::Result<()> {

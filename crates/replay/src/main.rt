@@ -1,6 +1,7 @@
 // Asks the library what the Rust was asked, and counts the answers that differ. Standard input has the questions with the Rust's answers, as
 // `oracle/run SOURCES sample` writes them; nothing of them is in here.
 #![tactic(auto)]
+
 mod input;
 mod numbers;
 mod statistics;

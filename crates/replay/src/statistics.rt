@@ -1,5 +1,7 @@
 // The calls on a stored statistic.
-use crate::input::{Answer, Case, byte, double, is_answer, is_equal, only, read_full, wide, word_at};
+use crate::input::{
+    Answer, Case, byte, double, is_answer, is_equal, only, read_full, wide, word_at,
+};
 use std::io;
 use std::io::Read;
 

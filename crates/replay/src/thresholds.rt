@@ -1,7 +1,9 @@
 // The calls on a stored thresholder.
 ghost use Rattle.std.specs.Prelude.{◌≡◌, length};
 
-use crate::input::{Answer, Case, byte, double, is_answer, is_equal, only, read_full, single, size, word_at};
+use crate::input::{
+    Answer, Case, byte, double, is_answer, is_equal, only, read_full, single, size, word_at,
+};
 use std::io;
 use std::io::Read;
 

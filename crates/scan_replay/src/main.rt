@@ -4,6 +4,7 @@
 // A case is six numbers of 2 bytes, the lowest first: the operation (0 the noise pass, 1 the box), the base or the start position, and the lengths of four slices, up
 // to 1,100 each: scale, shift, deviations and point; or box, scale, point and other point. Their floats follow one after the other, 4 bytes each, the lowest first.
 #![tactic(auto)]
+
 ghost use Rattle.std.specs.Prelude.{◌≤◌, ◌<◌};
 
 use std::io;

@@ -4,6 +4,7 @@
 // A call is 40 words of 8 bytes, the lowest first: the operation, the lengths of high and low, a size (index, number or base), the gap, a float, two zeros, then
 // high, low, other high and other low with room for 8 floats each. The others are as long as high.
 #![tactic(auto)]
+
 ghost use Rattle.std.specs.Prelude.{◌<◌, ◌≤◌};
 
 use divector::{Block, Number};
