@@ -34,8 +34,8 @@ fn parts(list: &str, name: &str) -> Vec<String> {
     let mut all = vec![name.to_string()];
     let mut k = 0;
     while k < all.len() {
-        let line = format!("{}:", all[k]);
-        let needs = list.lines().find_map(|text| text.strip_prefix(&line));
+        let line = list.lines().find(|text| text.split([' ', ':']).next() == Some(&*all[k]));
+        let needs = line.and_then(|text| text.split_once(':')).map(|(_, needs)| needs);
         for need in needs.unwrap_or_default().split_whitespace() {
             if !all.iter().any(|have| have == need) {
                 all.push(need.to_string());
@@ -68,22 +68,22 @@ fn tell(line: &str) {
     }
 }
 
-/// Proves and builds one archive. What `rt` prints is shown only where it fails.
+/// Proves and builds one archive. What that prints is shown only where it fails.
 fn build(root: &Path, name: &str) -> Result<(), String> {
-    let run = Command::new("rt")
-        .args(["staticlib", name])
+    let run = Command::new("sh")
+        .args(["tools/archives", name])
         .current_dir(root)
         .output();
     match run {
         Ok(done) if done.status.success() => Ok(()),
         Ok(done) => Err(format!(
-            "`rt staticlib {name}` failed ({}):\n{}{}",
+            "`tools/archives {name}` failed ({}):\n{}{}",
             done.status,
             String::from_utf8_lossy(&done.stdout),
             String::from_utf8_lossy(&done.stderr),
         )),
         Err(why) => Err(format!(
-            "`rt staticlib {name}` could not be started: {why}. The Rattle kit must be on PATH."
+            "`tools/archives {name}` could not be started: {why}"
         )),
     }
 }
@@ -92,7 +92,7 @@ fn build(root: &Path, name: &str) -> Result<(), String> {
 fn provide(root: &Path, list: &str, place: usize, name: &str) -> Result<(), String> {
     let archive = root.join(format!("target/staticlib/lib{name}.a"));
     println!("cargo:rerun-if-changed={}", archive.display());
-    let newest = sources(root, list, name).map_err(|why| format!("sources of {name}: {why}"))?;
+    let newest = sources(root, list, &format!("{name}_c")).map_err(|why| format!("sources of {name}: {why}"))?;
     if changed(&archive).is_ok_and(|made| made >= newest) {
         return Ok(());
     }
@@ -105,7 +105,7 @@ fn provide(root: &Path, list: &str, place: usize, name: &str) -> Result<(), Stri
         return Ok(());
     }
     Err(format!(
-        "`rt staticlib {name}` wrote no {}",
+        "`tools/archives {name}` wrote no {}",
         archive.display()
     ))
 }

@@ -1,7 +1,7 @@
 /* The withdrawal watch's decision chain for programs in C: which drawers to recount.
  *
- * The functions are written in Rattle and proved. `rt staticlib NAME` writes libNAME.a to
- * target/staticlib; `cargo build` in host/ does it for all. Each archive stands by itself: link those
+ * The functions are written in Rattle and proved. `tools/archives NAME` writes libNAME.a
+ * to target/staticlib; `cargo build` in host/ does it for all. Each archive stands by itself: link those
  * whose functions you call. They need memcpy and memset, and nothing else.
  *
  * THE RULES A CALLER KEEPS

@@ -1,6 +1,7 @@
 // Which coordinates of a row account for a score: the likely missing indices of expected_point in trcf/predictorcorrector.rs, for which the forest's
 // conditional field is asked.
 #![tactic(auto)]
+
 ghost use Rattle.std.specs.Prelude.{◌≡◌, cond, ◌+◌, ◌*◌, ◌<◌, ◌≤◌, leb, length, set};
 ghost use Rattle.attributors.specs.Attributors as Attributors;
 ghost use Rattle.attributors.specs.Sorted.{SortedPick};

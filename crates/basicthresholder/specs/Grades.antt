@@ -1,6 +1,6 @@
 -- basicthresholder.rs: threshold and grade of a score against the state. One definition for each function, in the Rust's shape; the steps of the crate grading
 -- take the numbers they read, and `self`'s fields are handed to them. Operators are those of f32, `*₆₄` is f64's.
-use Rattle.std.specs.Prelude.{ℕ, Bool, cond, not, ◌&&◌, ◌||◌, ◌==◌, Float}
+use Rattle.std.specs.Prelude.{ℕ, Bool, cond, not, ◌&&◌, ◌||◌, nat_eq, Float}
 use Rattle.ieee.specs.Round.{narrow}
 use Rattle.ieee.specs.F32.{◌+◌, ◌-◌, ◌*◌, ◌/◌, ◌<◌, ◌>◌, ◌==◌}
 use Rattle.ieee.specs.F64.{◌*◌ as ◌*₆₄◌}
@@ -29,8 +29,8 @@ smallest_deviation s =
     mixed s.score_differencing (smaller second first) second
 
 unfoldable pub long_term_deviation : BasicThresholder → Bool → ℕ → Float
-long_term_deviation s differenced shingleSize =
-    cond (shingleSize == 1 && not differenced)
+long_term_deviation s differenced shingle_size =
+    cond (nat_eq shingle_size 1 && not differenced)
     (minf32 (narrow (root_of_two *₆₄ mean s.threshold_deviation)) (narrow (mean s.primary_deviation)))
     (smallest_deviation s)
 
@@ -54,25 +54,25 @@ abbrev pub new_factor_of : BasicThresholder → Float → TransformMethod → Fl
 new_factor_of s factor method = adjusted_factor (narrow (mean s.primary_deviation)) factor s.factor_adjustment_threshold (is_none method)
 
 abbrev pub scaled_deviation_of : BasicThresholder → Float → TransformMethod → ℕ → Float
-scaled_deviation_of s factor method shingleSize =
-    let longTerm = long_term_deviation s (is_differenced method) shingleSize in
-    (new_factor_of s factor method - one32) * longTerm + narrow (deviation s.primary_deviation)
+scaled_deviation_of s factor method shingle_size =
+    let long_term = long_term_deviation s (is_differenced method) shingle_size in
+    (new_factor_of s factor method - one32) * long_term + narrow (deviation s.primary_deviation)
 
 -- The threshold that every score is held against. It is what is answered, unless a score is not below it and has grade 0 all the same: then the score is answered.
 abbrev pub computed_threshold : BasicThresholder → Float → TransformMethod → ℕ → Float
-computed_threshold s factor method shingleSize =
+computed_threshold s factor method shingle_size =
     let t = narrow (mean s.primary_deviation) in
-    threshold_from (is_deviation_ready s) (intermediate_fraction s.count) t (scaled_deviation_of s factor method shingleSize) s.initial_threshold (absolute_of s t)
+    threshold_from (is_deviation_ready s) (intermediate_fraction s.count) t (scaled_deviation_of s factor method shingle_size) s.initial_threshold (absolute_of s t)
 
 unfoldable pub threshold_and_grade_with_factor : BasicThresholder → Float → Float → TransformMethod → ℕ → Graded
-threshold_and_grade_with_factor s score factor method shingleSize =
-    let newFactor = new_factor_of s factor method in
-    let scaledDeviation = scaled_deviation_of s factor method shingleSize in
-    let threshold = computed_threshold s factor method shingleSize in
-    grade_against score threshold (surprise_index (is_deviation_ready s) score threshold newFactor (scaledDeviation / newFactor) s.absolute_threshold)
+threshold_and_grade_with_factor s score factor method shingle_size =
+    let new_factor = new_factor_of s factor method in
+    let scaled_deviation = scaled_deviation_of s factor method shingle_size in
+    let threshold = computed_threshold s factor method shingle_size in
+    grade_against score threshold (surprise_index (is_deviation_ready s) score threshold new_factor (scaled_deviation / new_factor) s.absolute_threshold)
 
 unfoldable pub threshold_and_grade : BasicThresholder → Float → TransformMethod → ℕ → Graded
-threshold_and_grade s score method shingleSize = threshold_and_grade_with_factor s score s.z_factor method shingleSize
+threshold_and_grade s score method shingle_size = threshold_and_grade_with_factor s score s.z_factor method shingle_size
 
 unfoldable pub threshold : BasicThresholder → Float
 threshold s = threshold_by (narrow (mean s.primary_deviation)) s.z_factor (narrow (deviation s.primary_deviation))

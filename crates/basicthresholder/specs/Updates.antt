@@ -115,7 +115,7 @@ update_both s primary secondary = updated s (both_counted s primary secondary)
 
 -- The primary is capped at 2.
 unfoldable pub update : BasicThresholder → Float → Float → Float → Updated
-update s primary secondary lastScore = update_both s (minf32 two32 primary) (secondary - lastScore)
+update s primary secondary last_score = update_both s (minf32 two32 primary) (secondary - last_score)
 
 -- The settings that the setters change.
 pub record Settings : Type 0 where
@@ -144,8 +144,8 @@ with_settings s k = record {
   z_factor = k.z_factor;
 }
 
-abbrev pub with_zFactor : BasicThresholder → Float → BasicThresholder
-with_zFactor s factor = with_settings s (record {
+abbrev pub with_z_factor : BasicThresholder → Float → BasicThresholder
+with_z_factor s factor = with_settings s (record {
   score_differencing = s.score_differencing;
   absolute_threshold = s.absolute_threshold;
   lower_threshold = s.lower_threshold;

@@ -16,7 +16,7 @@ use Rattle.deviation.specs.declared.Updated as Statistic
 use Rattle.deviation.specs.declared.Made as MadeStatistic
 use Rattle.deviation.specs.declared.Made.TheVariants as Statistics
 use Rattle.basicthresholder.specs.Grades.{threshold_and_grade, threshold_and_grade_with_factor, primary_threshold_and_grade}
-use Rattle.basicthresholder.specs.Updates.{new_adjustible, update_threshold, update_primary, update_both, update, with_zFactor, with_lower_threshold, with_absolute_threshold, with_initial_threshold, set_score_differencing}
+use Rattle.basicthresholder.specs.Updates.{new_adjustible, update_threshold, update_primary, update_both, update, with_z_factor, with_lower_threshold, with_absolute_threshold, with_initial_threshold, set_score_differencing}
 use Rattle.basicthresholder.specs.declared.BasicThresholder.{BasicThresholder}
 use Rattle.basicthresholder.specs.declared.Graded.{Graded}
 use Rattle.basicthresholder.specs.declared.Updated.{Updated}
@@ -112,13 +112,13 @@ abbrev pub update_both_in : Float → Float → List ℕ → Left
 update_both_in primary secondary = changed_in (λ s. update_both s primary secondary)
 
 abbrev pub update_in : Float → Float → Float → List ℕ → Left
-update_in primary secondary lastScore = changed_in (λ s. update s primary secondary lastScore)
+update_in primary secondary last_score = changed_in (λ s. update s primary secondary last_score)
 
 abbrev pub set_score_differencing_in : Float → List ℕ → Left
 set_score_differencing_in horizon = changed_in (λ s. set_score_differencing s horizon)
 
-abbrev pub set_zFactor_in : Float → List ℕ → Left
-set_zFactor_in factor = changed_in (λ s. thresholder_done (with_zFactor s factor))
+abbrev pub set_z_factor_in : Float → List ℕ → Left
+set_z_factor_in factor = changed_in (λ s. thresholder_done (with_z_factor s factor))
 
 abbrev pub set_lower_threshold_in : Float → List ℕ → Left
 set_lower_threshold_in lower = changed_in (λ s. thresholder_done (with_lower_threshold s lower))
@@ -133,8 +133,8 @@ set_initial_threshold_in initial = changed_in (λ s. thresholder_done (with_init
 abbrev pub primary_threshold_and_grade_into : Float → List ℕ → List ℕ → Left
 primary_threshold_and_grade_into score xs out = thresholder_read (λ s. encode_graded (primary_threshold_and_grade s score)) 8 (read_thresholder xs) out
 
-abbrev pub threshold_and_grade_into : Float → (method shingleSize : ℕ) → List ℕ → List ℕ → Left
-threshold_and_grade_into score method shingleSize xs out = graded_by (λ s m. threshold_and_grade s score m shingleSize) (method_of method) (read_thresholder xs) out
+abbrev pub threshold_and_grade_into : Float → (method shingle_size : ℕ) → List ℕ → List ℕ → Left
+threshold_and_grade_into score method shingle_size xs out = graded_by (λ s m. threshold_and_grade s score m shingle_size) (method_of method) (read_thresholder xs) out
 
-abbrev pub threshold_and_grade_with_factor_into : Float → Float → (method shingleSize : ℕ) → List ℕ → List ℕ → Left
-threshold_and_grade_with_factor_into score factor method shingleSize xs out = graded_by (λ s m. threshold_and_grade_with_factor s score factor m shingleSize) (method_of method) (read_thresholder xs) out
+abbrev pub threshold_and_grade_with_factor_into : Float → Float → (method shingle_size : ℕ) → List ℕ → List ℕ → Left
+threshold_and_grade_with_factor_into score factor method shingle_size xs out = graded_by (λ s m. threshold_and_grade_with_factor s score factor m shingle_size) (method_of method) (read_thresholder xs) out

@@ -58,31 +58,31 @@ expected_left shingle base position point high low median out =
 
 -- ---- apply_basic_corrector
 unfoldable pub corrector_lengths : (d point out : ℕ) → Bool → (expected anomalous : ℕ) → Bool
-corrector_lengths d point out hasAnomaly expected anomalous = eqb point d && (eqb out d && last_points_ok hasAnomaly d expected anomalous)
+corrector_lengths d point out has_anomaly expected anomalous = eqb point d && (eqb out d && last_points_ok has_anomaly d expected anomalous)
 
 -- Behind a no the last points are not looked at.
 unfoldable pub last_finite : Bool → List Float → List Float → Bool
-last_finite hasAnomaly expected anomalous = cond hasAnomaly (all_finite expected && all_finite anomalous) true
+last_finite has_anomaly expected anomalous = cond has_anomaly (all_finite expected && all_finite anomalous) true
 
 unfoldable pub corrector_finite : List Float → Bool → List Float → List Float → Bool
-corrector_finite point hasAnomaly expected anomalous = all_finite point && last_finite hasAnomaly expected anomalous
+corrector_finite point has_anomaly expected anomalous = all_finite point && last_finite has_anomaly expected anomalous
 
 -- Refusal 5 for gap 0.
 unfoldable pub gap_answer : ℕ → Answer
 gap_answer gap = cond (eqb gap 0) (Refused ValuesSeen) Done
 
 unfoldable pub corrector_answer : (shingle base gap : ℕ) → (point : List Float) → Bool → (expected anomalous : List Float) → (out : ℕ) → Answer
-corrector_answer shingle base gap point hasAnomaly expected anomalous out =
+corrector_answer shingle base gap point has_anomaly expected anomalous out =
     first_refusal (sizes_ok shingle base)
-    (corrector_lengths (dimension shingle base) (length point) out hasAnomaly (length expected) (length anomalous))
-    (corrector_finite point hasAnomaly expected anomalous)
+    (corrector_lengths (dimension shingle base) (length point) out has_anomaly (length expected) (length anomalous))
+    (corrector_finite point has_anomaly expected anomalous)
     (gap_answer gap)
 
 -- The buffer afterwards.
 abbrev pub corrector_left : (shingle base gap : ℕ) → (point : List Float) → Bool → (expected anomalous : List Float) → ℤ → Bool → Bool → (out : List Float) → List Float
-corrector_left shingle base gap point hasAnomaly expected anomalous relative_index useDifference timeAugmented out =
-    written (corrector_answer shingle base gap point hasAnomaly expected anomalous (length out))
-    (apply_basic_corrector point gap shingle base hasAnomaly expected anomalous relative_index useDifference timeAugmented)
+corrector_left shingle base gap point has_anomaly expected anomalous relative_index use_difference time_augmented out =
+    written (corrector_answer shingle base gap point has_anomaly expected anomalous (length out))
+    (apply_basic_corrector point gap shingle base has_anomaly expected anomalous relative_index use_difference time_augmented)
     out
 
 -- ---- likely_missing_indices: what the forest's conditional field is asked for
@@ -121,19 +121,19 @@ unfoldable pub seen_answer : Bool → Answer
 seen_answer ok = cond ok Done (Refused ValuesSeen)
 
 -- The tests of a reading, as far as no buffer is lent: the last anomaly's points are none.
-unfoldable pub asked_answer : (stateBase : ℕ) → Reading → LastDescriptor → Answer
-asked_answer stateBase r l =
-    first_refusal (range_ok r.shingle_size r.base_dimension stateBase) true (numbers_finite r l && Checks.last_finite l [] [])
+unfoldable pub asked_answer : (state_base : ℕ) → Reading → LastDescriptor → Answer
+asked_answer state_base r l =
+    first_refusal (range_ok r.shingle_size r.base_dimension state_base) true (numbers_finite r l && Checks.last_finite l [] [])
     (seen_answer (seen_ok r.values_seen l.has_anomaly l.anomaly.values_seen))
 
 -- The corrected point's score within a shingle of the last anomaly, the neighbours with auto adjust, the expected point's attribution at a gap below the shingle
 -- size, with an anomaly or without.
 unfoldable pub asked_after : (gap : ℕ) → Bool → Reading → LastDescriptor → Asked
-asked_after gap autoAdjust r l = record {
+asked_after gap auto_adjust r l = record {
   answer = Done;
   gap = gap;
   corrected_score = is_recent l.has_anomaly gap r.shingle_size;
-  near_neighbor_list = autoAdjust;
+  near_neighbor_list = auto_adjust;
   new_attribution = ltb gap r.shingle_size;
   use_difference = is_differenced r.transform_method;
 }
@@ -150,11 +150,11 @@ unasked why = record {
 }
 
 unfoldable pub asked_by : Answer → Bool → Reading → LastDescriptor → Asked
-asked_by Done autoAdjust r l = asked_after (gap_of r.values_seen l.has_anomaly l.anomaly.values_seen) autoAdjust r l
-asked_by (Refused why) autoAdjust r l = unasked why
+asked_by Done auto_adjust r l = asked_after (gap_of r.values_seen l.has_anomaly l.anomaly.values_seen) auto_adjust r l
+asked_by (Refused why) auto_adjust r l = unasked why
 
-unfoldable pub asked_of_forest : Bool → (stateBase : ℕ) → Reading → LastDescriptor → Asked
-asked_of_forest autoAdjust stateBase r l = asked_by (asked_answer stateBase r l) autoAdjust r l
+unfoldable pub asked_of_forest : Bool → (state_base : ℕ) → Reading → LastDescriptor → Asked
+asked_of_forest auto_adjust state_base r l = asked_by (asked_answer state_base r l) auto_adjust r l
 
 -- ---- update_auto_adjust
 -- Refusal 6 for counts that take no update.

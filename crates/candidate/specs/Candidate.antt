@@ -26,9 +26,9 @@ run_share run shingle =
 
 -- The score is larger than the last, or it is over the larger threshold, with the run's allowance, by less than the last score was over its own.
 unfoldable pub still_high : Float → Float → Float → Float → Float → Bool
-still_high score threshold lastScore lastThreshold share =
-    Ieee.lt lastScore score
-    || Ieee.lt (Ieee.sub binary32 score (Ieee.mul binary32 (maxf32 threshold lastThreshold) (Ieee.add binary32 one32 share))) (Ieee.sub binary32 lastScore lastThreshold)
+still_high score threshold last_score last_threshold share =
+    Ieee.lt last_score score
+    || Ieee.lt (Ieee.sub binary32 score (Ieee.mul binary32 (maxf32 threshold last_threshold) (Ieee.add binary32 one32 share))) (Ieee.sub binary32 last_score last_threshold)
 
 -- `candidate`.
 unfoldable pub is_candidate : Reading → LastDescriptor → ℕ → ℕ → Float → Bool

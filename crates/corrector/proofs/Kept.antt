@@ -92,9 +92,9 @@ expects high low position base point median out f =
     let o = f.out_long in
     simp (row_fits_lem high low position base (row_in high low position base point median out f), eq-eqb _ _ (sym p), eq-eqb _ _ (m ∙ sym p), eq-eqb _ _ (o ∙ sym p))
 
-pub triggers : (high low base idealHigh idealLow : ℕ) → Triggering high low base idealHigh idealLow → trigger_fits high low base idealHigh idealLow ≡ true
+pub triggers : (high low base ideal_high ideal_low : ℕ) → Triggering high low base ideal_high ideal_low → trigger_fits high low base ideal_high ideal_low ≡ true
 unfolding trigger_fits
-triggers high low base idealHigh idealLow f =
+triggers high low base ideal_high ideal_low f =
     simp (eq-eqb _ _ f.low_long, eq-eqb _ _ f.ideal_high_long, eq-eqb _ _ f.ideal_low_long, le-leb _ _ f.short, lt-ltb _ _ f.some, le-leb _ _ f.few)
 
 pub accepts : (shingle base len : ℕ) → Accepted shingle base len → point_fits shingle base len ≡ true

@@ -60,9 +60,9 @@ expecting high low position base point median out e =
       inside = omega arith;
     }
 
-pub triggering : (high low base idealHigh idealLow : ℕ) → trigger_fits high low base idealHigh idealLow ≡ true → Triggering high low base idealHigh idealLow
+pub triggering : (high low base ideal_high ideal_low : ℕ) → trigger_fits high low base ideal_high ideal_low ≡ true → Triggering high low base ideal_high ideal_low
 unfolding trigger_fits
-triggering high low base idealHigh idealLow e =
+triggering high low base ideal_high ideal_low e =
     let a = both _ _ e in
     let b = both _ _ a.1 in
     let c = both _ _ b.1 in

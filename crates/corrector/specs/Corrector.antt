@@ -58,30 +58,30 @@ plus_difference sum a b = sum +₃₂ absf32 (narrow (a -₆₄ b))
 
 -- How far candidate and ideal are apart in the n coordinates from start on: low, then high, of each coordinate.
 unfoldable pub differential_remainder : List Float → List Float → List Float → List Float → ℕ → ℕ → Float
-differential_remainder high low idealHigh idealLow start n =
+differential_remainder high low ideal_high ideal_low start n =
     for_up_to
     (λ sum i.
-    plus_difference (plus_difference sum (slice_index_or low (start + i) nan) (slice_index_or idealLow (start + i) nan)) (slice_index_or high (start + i) nan) (slice_index_or idealHigh (start + i) nan))
+    plus_difference (plus_difference sum (slice_index_or low (start + i) nan) (slice_index_or ideal_low (start + i) nan)) (slice_index_or high (start + i) nan) (slice_index_or ideal_high (start + i) nan))
     zero32 n
 
 -- The trigger's two tests of a remainder, for a difference below the dimensions.
 unfoldable pub exceeds : Float → ℕ → ℕ → Float → Float → Bool
-exceeds remainder dimensions difference lastScore threshold =
-    (remainder > factor32 *₃₂ lastScore)
+exceeds remainder dimensions difference last_score threshold =
+    (remainder > factor32 *₃₂ last_score)
     && (remainder *₃₂ Ieee.of_int binary32 (pos dimensions) /₃₂ Ieee.of_int binary32 (pos difference) > threshold)
 
 -- The four slices equally long, at most 65,536, and base 1 to 65,536.
-unfoldable pub trigger_fits : (high low base idealHigh idealLow : ℕ) → Bool
-trigger_fits high low base idealHigh idealLow =
-    (low == high) && (idealHigh == high && (idealLow == high && (nat_le high 65536 && (nat_lt 0 base && nat_le base 65536))))
+unfoldable pub trigger_fits : (high low base ideal_high ideal_low : ℕ) → Bool
+trigger_fits high low base ideal_high ideal_low =
+    (low == high) && (ideal_high == high && (ideal_low == high && (nat_le high 65536 && (nat_lt 0 base && nat_le base 65536))))
 
 -- trigger: true without a last anomaly or its attribution, and where the slices do not fit; else by the coordinates that came since, true if all did.
 unfoldable pub trigger : List Float → List Float → ℕ → ℕ → List Float → List Float → Bool → Bool → Float → Float → Bool
-trigger high low gap base idealHigh idealLow hasAnomaly hasAttribution lastScore threshold =
+trigger high low gap base ideal_high ideal_low has_anomaly has_attribution last_score threshold =
     let dimensions = length high in
     let difference = gap * base in
-    cond (hasAnomaly && hasAttribution && trigger_fits dimensions (length low) base (length idealHigh) (length idealLow) && nat_lt difference dimensions)
-    (exceeds (differential_remainder high low idealHigh idealLow (dimensions - difference) difference) dimensions difference lastScore threshold)
+    cond (has_anomaly && has_attribution && trigger_fits dimensions (length low) base (length ideal_high) (length ideal_low) && nat_lt difference dimensions)
+    (exceeds (differential_remainder high low ideal_high ideal_low (dimensions - difference) difference) dimensions difference last_score threshold)
     true
 
 -- corrected[i] += anomalous[j] - expected[j]
@@ -104,18 +104,18 @@ is_zero (negsuc n) = false
 
 -- What was differenced against the last anomaly, put right: with differencing the row after it, else with time augmentation that row's time, its last coordinate.
 unfoldable pub amended : List Float → List Float → List Float → ℕ → ℕ → Bool → Bool → List Float
-amended corrected expected anomalous gap base useDifference timeAugmented =
+amended corrected expected anomalous gap base use_difference time_augmented =
     let d = length corrected in
-    cond useDifference (amended_row corrected (d - gap * base) anomalous expected (d - base) base)
-    (cond timeAugmented (amended_at corrected (d - (gap - 1) * base - 1) anomalous expected (d - 1)) corrected)
+    cond use_difference (amended_row corrected (d - gap * base) anomalous expected (d - base) base)
+    (cond time_augmented (amended_at corrected (d - (gap - 1) * base - 1) anomalous expected (d - 1)) corrected)
 
 -- apply_basic_corrector: the point itself if all of it came since the last anomaly; else its first rows as they were expected then,
 -- and if that anomaly lay in the newest row of its point, what was differenced against it put right.
 unfoldable pub apply_basic_corrector : List Float → ℕ → ℕ → ℕ → Bool → List Float → List Float → ℤ → Bool → Bool → List Float
-apply_basic_corrector point gap shingle base hasAnomaly expected anomalous relative_index useDifference timeAugmented =
+apply_basic_corrector point gap shingle base has_anomaly expected anomalous relative_index use_difference time_augmented =
     let corrected = cond (nat_lt gap shingle) (shifted point expected (gap * base)) point in
-    cond (nat_lt shingle gap || not hasAnomaly) point
-    (cond (is_zero relative_index) (amended corrected expected anomalous gap base useDifference timeAugmented) corrected)
+    cond (nat_lt shingle gap || not has_anomaly) point
+    (cond (is_zero relative_index) (amended corrected expected anomalous gap base use_difference time_augmented) corrected)
 
 -- Sizes in range, and a point as long as they say.
 unfoldable pub point_fits : (shingle base len : ℕ) → Bool
@@ -123,14 +123,14 @@ point_fits shingle base len = sizes_ok shingle base && len == dimension shingle 
 
 -- A gap from 1 on, a point that fits, the buffer as long; behind a last anomaly its two points as well.
 unfoldable pub corrector_fits : (point gap shingle base : ℕ) → Bool → (expected anomalous out : ℕ) → Bool
-corrector_fits point gap shingle base hasAnomaly expected anomalous out =
-    point_fits shingle base point && (nat_lt 0 gap && (out == point && last_points_ok hasAnomaly point expected anomalous))
+corrector_fits point gap shingle base has_anomaly expected anomalous out =
+    point_fits shingle base point && (nat_lt 0 gap && (out == point && last_points_ok has_anomaly point expected anomalous))
 
 -- The buffer after the step: the corrected point, or as it was where something does not fit.
 abbrev pub write_corrected_point : List Float → ℕ → ℕ → ℕ → Bool → List Float → List Float → ℤ → Bool → Bool → List Float → List Float
-write_corrected_point point gap shingle base hasAnomaly expected anomalous relative_index useDifference timeAugmented out =
-    cond (corrector_fits (length point) gap shingle base hasAnomaly (length expected) (length anomalous) (length out))
-    (apply_basic_corrector point gap shingle base hasAnomaly expected anomalous relative_index useDifference timeAugmented)
+write_corrected_point point gap shingle base has_anomaly expected anomalous relative_index use_difference time_augmented out =
+    cond (corrector_fits (length point) gap shingle base has_anomaly (length expected) (length anomalous) (length out))
+    (apply_basic_corrector point gap shingle base has_anomaly expected anomalous relative_index use_difference time_augmented)
     out
 
 -- The answer to a point of this length: refusal 2 for a size out of range, then 3 for another length.

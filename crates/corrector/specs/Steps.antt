@@ -26,10 +26,10 @@ pub record Expecting (high low position base point median out : ℕ) : Type 0 wh
   pub inside : position + base ≤ point
 
 -- The facts behind `trigger_fits`.
-pub record Triggering (high low base idealHigh idealLow : ℕ) : Type 0 where
+pub record Triggering (high low base ideal_high ideal_low : ℕ) : Type 0 where
   pub low_long : low ≡ high
-  pub ideal_high_long : idealHigh ≡ high
-  pub ideal_low_long : idealLow ≡ high
+  pub ideal_high_long : ideal_high ≡ high
+  pub ideal_low_long : ideal_low ≡ high
   pub short : high ≤ 65536
   pub some : 0 < base
   pub few : base ≤ 65536
@@ -43,9 +43,9 @@ pub record Accepted (shingle base len : ℕ) : Type 0 where
   pub long : len ≡ shingle * base
 
 -- The facts behind `corrector_fits`.
-pub record Correcting (point gap shingle base : ℕ) (hasAnomaly : Bool) (expected anomalous out : ℕ) : Type 0 where
+pub record Correcting (point gap shingle base : ℕ) (has_anomaly : Bool) (expected anomalous out : ℕ) : Type 0 where
   pub sizes : Accepted shingle base point
   pub later : 0 < gap
   pub out_long : out ≡ point
-  pub expected_long : hasAnomaly ≡ true → expected ≡ point
-  pub anomalous_long : hasAnomaly ≡ true → anomalous ≡ point
+  pub expected_long : has_anomaly ≡ true → expected ≡ point
+  pub anomalous_long : has_anomaly ≡ true → anomalous ≡ point

@@ -1,5 +1,6 @@
 // A decimal as the nearest `f32`, a tie to the even one, worked out in whole numbers below 2 ^ 64.
 #![tactic(auto)]
+
 ghost use Rattle.std.specs.Prelude.{◌≡◌, false, ◌+◌, ◌*◌, ◌^◌, ◌≤◌, ◌<◌, min};
 ghost use Rattle.std.specs.Float.{binary32};
 ghost use Rattle.std.specs.Float.Ieee.{of_bits, round};

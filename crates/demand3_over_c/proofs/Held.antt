@@ -25,7 +25,7 @@ use Rattle.deviation.specs.Statistics.{fresh, reset, mean, counted, next, counta
 use Rattle.deviation.specs.declared.Deviation.{Deviation}
 use Rattle.deviation.specs.declared.Updated as Counted
 use Rattle.basicthresholder.specs.Const.{zero32, two32}
-use Rattle.basicthresholder.specs.Updates.{with_counted, counted_gap, counted_over, primary_counted, both_counted, counts_ok, done, refused, updated, update_primary, update_both, update, Settings, with_settings, with_zFactor, with_lower_threshold, with_absolute_threshold, with_initial_threshold, with_score_differencing}
+use Rattle.basicthresholder.specs.Updates.{with_counted, counted_gap, counted_over, primary_counted, both_counted, counts_ok, done, refused, updated, update_primary, update_both, update, Settings, with_settings, with_z_factor, with_lower_threshold, with_absolute_threshold, with_initial_threshold, with_score_differencing}
 use Rattle.basicthresholder.specs.declared.BasicThresholder.{BasicThresholder}
 use Rattle.predictorcorrector.specs.Lists.{changed, stepped, row_fits}
 use Rattle.predictorcorrector.proofs.Rows.{both, fits_within}
@@ -186,7 +186,7 @@ settings_fits t k f d a l i z = record {
 }
 
 module _ (t : BasicThresholder) (x : Float) (h : T (fits binary32 x)) (f : ThresholderFits t) where
-  pub z_fits : ThresholderFits (with_zFactor t x)
+  pub z_fits : ThresholderFits (with_z_factor t x)
   z_fits = settings_fits t _ f f.differencing f.absolute f.lower f.initial h
 
   pub lower_fits : ThresholderFits (with_lower_threshold t x)

@@ -59,8 +59,8 @@ end ok [] n i long h = refl
 end ok (xs ∷ rest) n i long h = rw (drop_of_length-le xs {i = i} (omega (arith, h, long.0)), and-true) (end ok rest n i long.1 h)
 
 -- The code's order of the tests gives the definition's: the median is scanned beside the point.
-pub in_order : (point scale shift deviations high low median idealHigh idealLow neighbours : Bool)
-    → (point && median && (scale && shift && deviations && (high && low && idealHigh && idealLow && neighbours)))
-    ≡ (point && (scale && (shift && (deviations && (high && (low && (median && (idealHigh && (idealLow && neighbours)))))))))
+pub in_order : (point scale shift deviations high low median ideal_high ideal_low neighbours : Bool)
+    → (point && median && (scale && shift && deviations && (high && low && ideal_high && ideal_low && neighbours)))
+    ≡ (point && (scale && (shift && (deviations && (high && (low && (median && (ideal_high && (ideal_low && neighbours)))))))))
 in_order p sc sh d h l true ih il n = simp (and-true, and_assoc)
 in_order p sc sh d h l false ih il n = simp (and-false, and_assoc)

@@ -27,11 +27,11 @@ dimension shingle base = cond (sizes_ok shingle base) (shingle * base) 0
 
 -- Refusal 2 otherwise: both sizes in range, and the base is the state's.
 unfoldable pub range_ok : ℕ → ℕ → ℕ → Bool
-range_ok shingle base stateBase = sizes_ok shingle base && eqb base stateBase
+range_ok shingle base state_base = sizes_ok shingle base && eqb base state_base
 
 -- The lengths of the lent buffers, and of the three that are written.
 unfoldable pub lengths_of : Lent → ℕ → ℕ → ℕ → Lengths
-lengths_of b expected outHigh outLow = record {
+lengths_of b expected out_high out_low = record {
   point = length b.point;
   scale = length b.scale;
   shift = length b.shift;
@@ -45,8 +45,8 @@ lengths_of b expected outHigh outLow = record {
   ideal_low = length b.ideal_low;
   neighbours = length b.neighbours;
   expected = expected;
-  out_high = outHigh;
-  out_low = outLow;
+  out_high = out_high;
+  out_low = out_low;
 }
 
 -- D long: the point, the two attributions, the median, and the three that are written.
@@ -69,7 +69,7 @@ neighbours_ok d n = cond (eqb d 0) false (eqb (n % d) 0 && leb (n / d) 256)
 
 -- The last anomaly's two points, behind its yes/no.
 unfoldable pub last_points_ok : Bool → ℕ → ℕ → ℕ → Bool
-last_points_ok hasAnomaly d expected anomalous = cond hasAnomaly (eqb expected d && eqb anomalous d) true
+last_points_ok has_anomaly d expected anomalous = cond has_anomaly (eqb expected d && eqb anomalous d) true
 
 -- Refusal 3 otherwise.
 unfoldable pub lengths_ok : Reading → LastDescriptor → Lengths → Bool
@@ -104,18 +104,18 @@ finite_ok r l b =
 
 -- Later than the last anomaly, behind its yes/no.
 unfoldable pub is_later : ℕ → Bool → ℕ → Bool
-is_later seen hasAnomaly lastSeen = cond hasAnomaly (ltb lastSeen seen) true
+is_later seen has_anomaly last_seen = cond has_anomaly (ltb last_seen seen) true
 
 -- Refusal 5 otherwise: values_seen 1 to 16,777,216, and later than the last anomaly's.
 unfoldable pub seen_ok : ℕ → Bool → ℕ → Bool
-seen_ok seen hasAnomaly lastSeen = leb 1 seen && (leb seen 16777216 && is_later seen hasAnomaly lastSeen)
+seen_ok seen has_anomaly last_seen = leb 1 seen && (leb seen 16777216 && is_later seen has_anomaly last_seen)
 
 -- The answer to a reading: the smallest number of the table that applies. Of the three buffers that are written only the lengths are looked at; countsOk is
 -- refusal 6's test, of the state.
-unfoldable pub answer_of : Reading → LastDescriptor → Lent → (expected outHigh outLow stateBase : ℕ) → Bool → Answer
-answer_of r l b expected outHigh outLow stateBase counts_ok =
-    cond (range_ok r.shingle_size r.base_dimension stateBase)
-    (cond (lengths_ok r l (lengths_of b expected outHigh outLow))
+unfoldable pub answer_of : Reading → LastDescriptor → Lent → (expected out_high out_low state_base : ℕ) → Bool → Answer
+answer_of r l b expected out_high out_low state_base counts_ok =
+    cond (range_ok r.shingle_size r.base_dimension state_base)
+    (cond (lengths_ok r l (lengths_of b expected out_high out_low))
     (cond (finite_ok r l b)
     (cond (seen_ok r.values_seen l.has_anomaly l.anomaly.values_seen)
     (cond counts_ok Done (Refused Count))

@@ -1,5 +1,6 @@
 // descriptor.rs as far as a reading lends it, and document 01's entry checks of a reading.
 #![tactic(auto)]
+
 ghost use Rattle.std.specs.Prelude.{◌≡◌, ◌&&◌, length};
 ghost use Rattle.descriptor.specs.Checks as Checks;
 ghost use Rattle.descriptor.specs.Lent.{lent};

@@ -108,21 +108,21 @@ row_apart k shingle base h = go (eq-or-lt_of_le h)
     go (inl e) = let p : (k + 1) * base ≡ shingle * base = ap (λ (n : ℕ). n * base) (let q : k + 1 ≡ shingle = omega arith in q) in inl (omega arith)
     go (inr i) = let p : (k + 2) * base ≤ shingle * base = mul-le-mul_right base (let q : k + 2 ≤ shingle = omega arith in q) in inr (omega arith)
 
-module _ (r : Reading) (l : LastDescriptor) (b : Lent) (stateBase e h w : ℕ) (ok : Bool) (accepted : answer_of r l b e h w stateBase ok ≡ Done) where
-  tests : Passed (range_ok r.shingle_size r.base_dimension stateBase) (lengths_ok r l (lengths_of b e h w)) (finite_ok r l b) (seen_ok r.values_seen l.has_anomaly l.anomaly.values_seen) ok
+module _ (r : Reading) (l : LastDescriptor) (b : Lent) (state_base e h w : ℕ) (ok : Bool) (accepted : answer_of r l b e h w state_base ok ≡ Done) where
+  tests : Passed (range_ok r.shingle_size r.base_dimension state_base) (lengths_ok r l (lengths_of b e h w)) (finite_ok r l b) (seen_ok r.values_seen l.has_anomaly l.anomaly.values_seen) ok
   unfolding answer_of
   tests = passed _ _ _ _ _ accepted
 
   sized : sizes_ok r.shingle_size r.base_dimension ≡ true
   unfolding range_ok
-  sized = (both (sizes_ok r.shingle_size r.base_dimension) (eqb r.base_dimension stateBase) tests.range).0
+  sized = (both (sizes_ok r.shingle_size r.base_dimension) (eqb r.base_dimension state_base) tests.range).0
 
-  pub in_range : range_ok r.shingle_size r.base_dimension stateBase ≡ true
+  pub in_range : range_ok r.shingle_size r.base_dimension state_base ≡ true
   in_range = tests.range
 
-  pub same_base : r.base_dimension ≡ stateBase
+  pub same_base : r.base_dimension ≡ state_base
   unfolding range_ok
-  same_base = eqb-true r.base_dimension stateBase (both (sizes_ok r.shingle_size r.base_dimension) (eqb r.base_dimension stateBase) tests.range).1
+  same_base = eqb-true r.base_dimension state_base (both (sizes_ok r.shingle_size r.base_dimension) (eqb r.base_dimension state_base) tests.range).1
 
   pub counts_ok : ok ≡ true
   counts_ok = tests.counts
@@ -246,7 +246,7 @@ module _ (r : Reading) (l : LastDescriptor) (b : Lent) (stateBase e h w : ℕ) (
       }
 
 -- What the way up to the noise pass asks, by the answer.
-pub accepting : (r : Reading) (l : LastDescriptor) (b : Lent) (stateBase e h w : ℕ) (ok : Bool) (a : Answer) → a ≡ answer_of r l b e h w stateBase ok
+pub accepting : (r : Reading) (l : LastDescriptor) (b : Lent) (state_base e h w : ℕ) (ok : Bool) (a : Answer) → a ≡ answer_of r l b e h w state_base ok
     → Accepting r l (passing b.point b.scale b.shift b.difference_deviations b.last_expected b.last_anomalous) a
-accepting r l b stateBase e h w ok Done said = for_noise r l b stateBase e h w ok (sym said)
-accepting r l b stateBase e h w ok (Refused why) said = tt
+accepting r l b state_base e h w ok Done said = for_noise r l b state_base e h w ok (sym said)
+accepting r l b state_base e h w ok (Refused why) said = tt

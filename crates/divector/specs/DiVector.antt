@@ -6,9 +6,7 @@ use Rattle.types.specs.declared.Refusal.TheVariants.{Length, Blocks}
 use Rattle.types.specs.declared.Answer.{Answer}
 use Rattle.types.specs.declared.Answer.TheVariants.{Done, Refused}
 use Rattle.divector.specs.declared.Number.{Number}
-use Rattle.divector.specs.declared.Number.TheVariants as Number
 use Rattle.divector.specs.declared.Block.{Block}
-use Rattle.divector.specs.declared.Block.TheVariants as Block
 use Rattle.ieee.specs.F64.{zero64, one64, ◌<=◌, ◌>◌, ◌+◌ as ◌+₆₄◌, ◌*◌ as ◌*₆₄◌, ◌/◌ as ◌/₆₄◌}
 use Rattle.divector.specs.Const.{two64}
 

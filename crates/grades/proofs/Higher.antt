@@ -149,27 +149,27 @@ module _ (s : BasicThresholder) (x y : Float) (o : Scores x y) where
   fewer e g = few s.count s.score_differencing (subst (λ (c : ℤ). counts_ready s.count s.score_differencing c ≡ false) e g)
 
   pub higher : s.primary_deviation.count ≡ s.count → T (not (is_nan s.initial_threshold))
-      → (factor : Float) (method : TransformMethod) (shingleSize : ℕ) → T (le (grade s x factor method shingleSize) (grade s y factor method shingleSize))
+      → (factor : Float) (method : TransformMethod) (shingle_size : ℕ) → T (le (grade s x factor method shingle_size) (grade s y factor method shingle_size))
   unfolding threshold_and_grade_with_factor adjusted_factor
-  higher e n factor method shingleSize =
-      at (is_deviation_ready s) (intermediate_fraction s.count) _ (scaled_deviation_of s factor method shingleSize) (absolute_of s _) _ n (λ g. absolute_is s _ (fewer e g))
+  higher e n factor method shingle_size =
+      at (is_deviation_ready s) (intermediate_fraction s.count) _ (scaled_deviation_of s factor method shingle_size) (absolute_of s _) _ n (λ g. absolute_is s _ (fewer e g))
 
 -- ---- every state and score
-module _ (s : BasicThresholder) (score factor : Float) (method : TransformMethod) (shingleSize : ℕ) where
-  grade_is : (v : Float) → (grade_against score (computed_threshold s factor method shingleSize) v).grade ≡ against score (computed_threshold s factor method shingleSize) v
-  grade_is v = against_is score (computed_threshold s factor method shingleSize) v
+module _ (s : BasicThresholder) (score factor : Float) (method : TransformMethod) (shingle_size : ℕ) where
+  grade_is : (v : Float) → (grade_against score (computed_threshold s factor method shingle_size) v).grade ≡ against score (computed_threshold s factor method shingle_size) v
+  grade_is v = against_is score (computed_threshold s factor method shingle_size) v
 
-  pub in_sixteenths : Sixteenths (grade s score factor method shingleSize)
+  pub in_sixteenths : Sixteenths (grade s score factor method shingle_size)
   unfolding threshold_and_grade_with_factor
-  in_sixteenths = subst Sixteenths (sym (grade_is _)) (against_whole score (computed_threshold s factor method shingleSize) _ (steps_rise.surprise _ _ _ _ _ _))
+  in_sixteenths = subst Sixteenths (sym (grade_is _)) (against_whole score (computed_threshold s factor method shingle_size) _ (steps_rise.surprise _ _ _ _ _ _))
 
-  pub nothing_below : T (lt score (computed_threshold s factor method shingleSize)) → grade s score factor method shingleSize ≡ zero32
+  pub nothing_below : T (lt score (computed_threshold s factor method shingle_size)) → grade s score factor method shingle_size ≡ zero32
   unfolding threshold_and_grade_with_factor
-  nothing_below h = ap (λ (g : Graded). g.grade) (grade_zero_below score (computed_threshold s factor method shingleSize) _ (is_true (lt score (computed_threshold s factor method shingleSize)) h))
+  nothing_below h = ap (λ (g : Graded). g.grade) (grade_zero_below score (computed_threshold s factor method shingle_size) _ (is_true (lt score (computed_threshold s factor method shingle_size)) h))
 
-  pub nothing_at_zero : T (eq (computed_threshold s factor method shingleSize) zero32) → grade s score factor method shingleSize ≡ zero32
+  pub nothing_at_zero : T (eq (computed_threshold s factor method shingle_size) zero32) → grade s score factor method shingle_size ≡ zero32
   unfolding threshold_and_grade_with_factor
-  nothing_at_zero h = grade_zero_at_zero score (computed_threshold s factor method shingleSize) _ (is_true (eq (computed_threshold s factor method shingleSize) zero32) h)
+  nothing_at_zero h = grade_zero_at_zero score (computed_threshold s factor method shingle_size) _ (is_true (eq (computed_threshold s factor method shingle_size) zero32) h)
 
 -- ---- DISTANCE
 pub distance : (s : BasicThresholder) (x y : Float) → T (le x y) → T (le (primary_grade s x) (primary_grade s y))

@@ -16,16 +16,16 @@ use Rattle.grades.proofs.Higher.{higher, in_sixteenths, nothing_below, nothing_a
 use Rattle.grades.proofs.Witness.{needed}
 
 rises : (s : BasicThresholder) → Reached s → T (not (is_nan s.initial_threshold)) → (x y : Float) → Scores x y
-    → (factor : Float) (method : TransformMethod) (shingleSize : ℕ) → T (le (grade s x factor method shingleSize) (grade s y factor method shingleSize))
-rises s r n x y o factor method shingleSize = higher s x y o (agree s r) n factor method shingleSize
+    → (factor : Float) (method : TransformMethod) (shingle_size : ℕ) → T (le (grade s x factor method shingle_size) (grade s y factor method shingle_size))
+rises s r n x y o factor method shingle_size = higher s x y o (agree s r) n factor method shingle_size
 
 -- Of two calls, by their contracts.
-pub in_order : (s : BasicThresholder) (x y factor : Float) (method : TransformMethod) (shingleSize : ℕ) (a b : Graded)
-    → a ≡ threshold_and_grade_with_factor s x factor method shingleSize → b ≡ threshold_and_grade_with_factor s y factor method shingleSize
+pub in_order : (s : BasicThresholder) (x y factor : Float) (method : TransformMethod) (shingle_size : ℕ) (a b : Graded)
+    → a ≡ threshold_and_grade_with_factor s x factor method shingle_size → b ≡ threshold_and_grade_with_factor s y factor method shingle_size
     → T (fits binary32 x) → T (fits binary32 y) → InOrder s x y a b
-in_order s x y factor method shingleSize a b p q h k r n l =
+in_order s x y factor method shingle_size a b p q h k r n l =
     subst (λ (g : Graded). T (le g.grade b.grade)) (sym p)
-    (subst (λ (g : Graded). T (le (grade s x factor method shingleSize) g.grade)) (sym q) (rises s r n x y (record { order = l; first = h; second = k }) factor method shingleSize))
+    (subst (λ (g : Graded). T (le (grade s x factor method shingle_size) g.grade)) (sym q) (rises s r n x y (record { order = l; first = h; second = k }) factor method shingle_size))
 
 pub higher_scores : HigherScores
 higher_scores = record {

@@ -1,7 +1,7 @@
 -- The states of a thresholder that calls reach. Definitions only.
 use Rattle.std.specs.Prelude.{◌≡◌, Bool, false, Float}
 use Rattle.deviation.specs.Const.{zero64}
-use Rattle.basicthresholder.specs.Updates.{fresh_thresholder, new_adjustible, update_threshold, update_primary, update_both, update, with_zFactor, with_lower_threshold, with_absolute_threshold, with_initial_threshold, set_score_differencing}
+use Rattle.basicthresholder.specs.Updates.{fresh_thresholder, new_adjustible, update_threshold, update_primary, update_both, update, with_z_factor, with_lower_threshold, with_absolute_threshold, with_initial_threshold, set_score_differencing}
 use Rattle.basicthresholder.specs.declared.BasicThresholder.{BasicThresholder}
 use Rattle.basicthresholder.specs.declared.Made.TheVariants.{Ready}
 
@@ -14,7 +14,7 @@ pub data Reached : BasicThresholder → Type 0 where
   update_primary_call : {s : BasicThresholder} (score : Float) → Reached s → Reached (update_primary s score).thresholder
   update_both_call : {s : BasicThresholder} (primary secondary : Float) → Reached s → Reached (update_both s primary secondary).thresholder
   update_capped : {s : BasicThresholder} (primary secondary last : Float) → Reached s → Reached (update s primary secondary last).thresholder
-  set_z_factor : {s : BasicThresholder} (factor : Float) → Reached s → Reached (with_zFactor s factor)
+  set_z_factor : {s : BasicThresholder} (factor : Float) → Reached s → Reached (with_z_factor s factor)
   set_lower_threshold : {s : BasicThresholder} (lower : Float) → Reached s → Reached (with_lower_threshold s lower)
   set_absolute_threshold : {s : BasicThresholder} (value : Float) → Reached s → Reached (with_absolute_threshold s value)
   set_initial_threshold : {s : BasicThresholder} (initial : Float) → Reached s → Reached (with_initial_threshold s initial)

@@ -13,7 +13,7 @@ use Rattle.grades.specs.Needed.{Needed}
 
 -- The grade from `threshold_and_grade_with_factor`.
 abbrev pub grade : BasicThresholder → Float → Float → TransformMethod → ℕ → Float
-grade s score factor method shingleSize = (threshold_and_grade_with_factor s score factor method shingleSize).grade
+grade s score factor method shingle_size = (threshold_and_grade_with_factor s score factor method shingle_size).grade
 
 -- What is said of two calls of `threshold_and_grade_with_factor` on s that answered a for the score x and b for y.
 abbrev pub InOrder : BasicThresholder → Float → Float → Graded → Graded → Type 0
@@ -23,18 +23,18 @@ pub record HigherScores : Type 0 where
   -- "The larger score's grade is at least the smaller's": x ≤ y, so that neither is NaN, both f32 (`Scores`); "all other inputs equal", whatever they are. Of the
   -- thresholds only the initial one must not be NaN; document 02 asks it of the absolute one too.
   pub rises : (s : BasicThresholder) → Reached s → T (not (is_nan s.initial_threshold)) → (x y : Float) → Scores x y
-      → (factor : Float) (method : TransformMethod) (shingleSize : ℕ) → T (le (grade s x factor method shingleSize) (grade s y factor method shingleSize))
+      → (factor : Float) (method : TransformMethod) (shingle_size : ℕ) → T (le (grade s x factor method shingle_size) (grade s y factor method shingle_size))
   -- "For all states and inputs, NaN included, that grade is k/16 with k whole from 0 to 16": k is `sixteenths_of` the grade.
-  pub sixteenths : (s : BasicThresholder) (score factor : Float) (method : TransformMethod) (shingleSize : ℕ) → Sixteenths (grade s score factor method shingleSize)
+  pub sixteenths : (s : BasicThresholder) (score factor : Float) (method : TransformMethod) (shingle_size : ℕ) → Sixteenths (grade s score factor method shingle_size)
   -- "It is 0 if the score is below the computed threshold or that threshold is 0."
-  pub below : (s : BasicThresholder) (score factor : Float) (method : TransformMethod) (shingleSize : ℕ)
-      → T (lt score (computed_threshold s factor method shingleSize)) → grade s score factor method shingleSize ≡ zero32
-  pub at_zero : (s : BasicThresholder) (score factor : Float) (method : TransformMethod) (shingleSize : ℕ)
-      → T (eq (computed_threshold s factor method shingleSize) zero32) → grade s score factor method shingleSize ≡ zero32
+  pub below : (s : BasicThresholder) (score factor : Float) (method : TransformMethod) (shingle_size : ℕ)
+      → T (lt score (computed_threshold s factor method shingle_size)) → grade s score factor method shingle_size ≡ zero32
+  pub at_zero : (s : BasicThresholder) (score factor : Float) (method : TransformMethod) (shingle_size : ℕ)
+      → T (eq (computed_threshold s factor method shingle_size) zero32) → grade s score factor method shingle_size ≡ zero32
   -- All that "reached by calls" gives: the thresholder's count is its primary statistic's. A state in which it is has the first part too.
   pub counts : (s : BasicThresholder) → Reached s → s.primary_deviation.count ≡ s.count
   pub rises_by_counts : (s : BasicThresholder) → s.primary_deviation.count ≡ s.count → T (not (is_nan s.initial_threshold)) → (x y : Float) → Scores x y
-      → (factor : Float) (method : TransformMethod) (shingleSize : ℕ) → T (le (grade s x factor method shingleSize) (grade s y factor method shingleSize))
+      → (factor : Float) (method : TransformMethod) (shingle_size : ℕ) → T (le (grade s x factor method shingle_size) (grade s y factor method shingle_size))
   -- DISTANCE's grade rises likewise, of every state and whatever its thresholds.
   pub distance_rises : (s : BasicThresholder) (x y : Float) → T (le x y) → T (le (primary_grade s x) (primary_grade s y))
   -- What does not hold.

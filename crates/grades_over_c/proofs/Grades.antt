@@ -55,19 +55,19 @@ module _ (xs : List ℕ) (s : BasicThresholder) (k : Holds xs s) (score : Float)
       → left 0 ys ≡ thresholder_read (λ t. encode_graded (g t)) 8 (read_thresholder xs) out → grade_in ys ≡ (g s).grade
   left_grade g out ys h e = ap grade_in (asked out ys (λ t. encode_graded (g t)) 8 (read_thresholder xs) s k e) ∙ grade_back (g s) h
 
-  pub by_factor : (factor : Float) (method : ℕ) (m : TransformMethod) (shingleSize : ℕ) (out ys : List ℕ) → method_of method ≡ Code.Known m
-      → GradedByFactor xs score factor method shingleSize out ys → grade_in ys ≡ grade s score factor m shingleSize
+  pub by_factor : (factor : Float) (method : ℕ) (m : TransformMethod) (shingle_size : ℕ) (out ys : List ℕ) → method_of method ≡ Code.Known m
+      → GradedByFactor xs score factor method shingle_size out ys → grade_in ys ≡ grade s score factor m shingle_size
   unfolding graded_by
-  by_factor factor method m shingleSize out ys c e =
-      left_grade (λ t. threshold_and_grade_with_factor t score factor m shingleSize) out ys (sixteenths_fit _ (higher_scores.sixteenths s score factor m shingleSize))
-      (e ∙ ap (λ (a : MethodCode). graded_by (λ t b. threshold_and_grade_with_factor t score factor b shingleSize) a (read_thresholder xs) out) c)
+  by_factor factor method m shingle_size out ys c e =
+      left_grade (λ t. threshold_and_grade_with_factor t score factor m shingle_size) out ys (sixteenths_fit _ (higher_scores.sixteenths s score factor m shingle_size))
+      (e ∙ ap (λ (a : MethodCode). graded_by (λ t b. threshold_and_grade_with_factor t score factor b shingle_size) a (read_thresholder xs) out) c)
 
-  pub by_z : (method : ℕ) (m : TransformMethod) (shingleSize : ℕ) (out ys : List ℕ) → method_of method ≡ Code.Known m
-      → GradedByZ xs score method shingleSize out ys → grade_in ys ≡ grade s score s.z_factor m shingleSize
+  pub by_z : (method : ℕ) (m : TransformMethod) (shingle_size : ℕ) (out ys : List ℕ) → method_of method ≡ Code.Known m
+      → GradedByZ xs score method shingle_size out ys → grade_in ys ≡ grade s score s.z_factor m shingle_size
   unfolding graded_by threshold_and_grade
-  by_z method m shingleSize out ys c e =
-      left_grade (λ t. threshold_and_grade t score m shingleSize) out ys (sixteenths_fit _ (higher_scores.sixteenths s score s.z_factor m shingleSize))
-      (e ∙ ap (λ (a : MethodCode). graded_by (λ t b. threshold_and_grade t score b shingleSize) a (read_thresholder xs) out) c)
+  by_z method m shingle_size out ys c e =
+      left_grade (λ t. threshold_and_grade t score m shingle_size) out ys (sixteenths_fit _ (higher_scores.sixteenths s score s.z_factor m shingle_size))
+      (e ∙ ap (λ (a : MethodCode). graded_by (λ t b. threshold_and_grade t score b shingle_size) a (read_thresholder xs) out) c)
 
   pub by_distance : (out ys : List ℕ) → GradedByDistance xs score out ys → grade_in ys ≡ primary_grade s score
   unfolding primary_threshold_and_grade

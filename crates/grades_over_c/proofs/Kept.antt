@@ -12,7 +12,7 @@ use Rattle.types.specs.Refusals.{number}
 use Rattle.types.specs.declared.Refusal.TheVariants.{Length, Range}
 use Rattle.types.specs.declared.Answer.{Answer}
 use Rattle.types.specs.declared.Answer.TheVariants as Answers
-use Rattle.basicthresholder.specs.Updates.{new_adjustible, update_threshold, update_primary, update_both, update, with_zFactor, with_lower_threshold, with_absolute_threshold, with_initial_threshold, set_score_differencing}
+use Rattle.basicthresholder.specs.Updates.{new_adjustible, update_threshold, update_primary, update_both, update, with_z_factor, with_lower_threshold, with_absolute_threshold, with_initial_threshold, set_score_differencing}
 use Rattle.basicthresholder.specs.declared.BasicThresholder.{BasicThresholder}
 use Rattle.basicthresholder.specs.declared.Updated.{Updated}
 use Rattle.basicthresholder.specs.declared.Made.{Made}
@@ -104,7 +104,7 @@ kept _ (krcf_update_threshold {xs} x n ys e r) = changed_kept (λ s. update_thre
 kept _ (krcf_update_primary {xs} x n ys e r) = changed_kept (λ s. update_primary s x) (λ s f k. (distance_fits s x f, update_primary_call x k)) xs n ys e (kept xs r)
 kept _ (krcf_update_both {xs} x y n ys h e r) = changed_kept (λ s. update_both s x y) (λ s f k. (both_updated_fits s x y h f, update_both_call x y k)) xs n ys e (kept xs r)
 kept _ (krcf_update {xs} x y z n ys h e r) = changed_kept (λ s. update s x y z) (λ s f k. (capped_fits s x y z h f, update_capped x y z k)) xs n ys e (kept xs r)
-kept _ (krcf_set_z_factor {xs} x n ys h e r) = changed_kept (λ s. thresholder_done (with_zFactor s x)) (λ s f k. (z_fits s x h f, set_z_factor x k)) xs n ys e (kept xs r)
+kept _ (krcf_set_z_factor {xs} x n ys h e r) = changed_kept (λ s. thresholder_done (with_z_factor s x)) (λ s f k. (z_fits s x h f, set_z_factor x k)) xs n ys e (kept xs r)
 kept _ (krcf_set_lower_threshold {xs} x n ys h e r) = changed_kept (λ s. thresholder_done (with_lower_threshold s x)) (λ s f k. (lower_fits s x h f, set_lower_threshold x k)) xs n ys e (kept xs r)
 kept _ (krcf_set_absolute_threshold {xs} x n ys h e r) =
     changed_kept (λ s. thresholder_done (with_absolute_threshold s x)) (λ s f k. (absolute_fits s x h f, set_absolute_threshold x k)) xs n ys e (kept xs r)

@@ -40,33 +40,33 @@ module _ (f : BasicThresholder → TransformMethod → Answer.Graded) (xs : List
   state_of : (s : BasicThresholder) × Holds xs s
   state_of = graded out ys f (read_thresholder xs) (method_of method) e
 
-sixteenths : (xs : List ℕ) (score factor : Float) (method shingleSize : ℕ) (out ys : List ℕ) → GradedByFactor xs score factor method shingleSize out ys → Sixteenths (grade_in ys)
-sixteenths xs score factor method shingleSize out ys e =
-    let m = method_of_lem (λ s m. threshold_and_grade_with_factor s score factor m shingleSize) xs method out ys e in
-    let s = state_of (λ s m. threshold_and_grade_with_factor s score factor m shingleSize) xs method out ys e in
-    subst Sixteenths (sym (by_factor xs s.0 s.1 score factor method m.0 shingleSize out ys m.1 e)) (higher_scores.sixteenths s.0 score factor m.0 shingleSize)
+sixteenths : (xs : List ℕ) (score factor : Float) (method shingle_size : ℕ) (out ys : List ℕ) → GradedByFactor xs score factor method shingle_size out ys → Sixteenths (grade_in ys)
+sixteenths xs score factor method shingle_size out ys e =
+    let m = method_of_lem (λ s m. threshold_and_grade_with_factor s score factor m shingle_size) xs method out ys e in
+    let s = state_of (λ s m. threshold_and_grade_with_factor s score factor m shingle_size) xs method out ys e in
+    subst Sixteenths (sym (by_factor xs s.0 s.1 score factor method m.0 shingle_size out ys m.1 e)) (higher_scores.sixteenths s.0 score factor m.0 shingle_size)
 
 module _ (xs : List ℕ) (s : BasicThresholder) (k : Holds xs s) (r : Reached s) (n : T (not (is_nan s.initial_threshold))) (x y : Float) (o : Scores x y) where
-  rises : (factor : Float) (method shingleSize : ℕ) (out out' ys ys' : List ℕ) → GradedByFactor xs x factor method shingleSize out ys → GradedByFactor xs y factor method shingleSize out' ys'
+  rises : (factor : Float) (method shingle_size : ℕ) (out out' ys ys' : List ℕ) → GradedByFactor xs x factor method shingle_size out ys → GradedByFactor xs y factor method shingle_size out' ys'
       → T (le (grade_in ys) (grade_in ys'))
-  rises factor method shingleSize out out' ys ys' p q =
-      let m = method_of_lem (λ s m. threshold_and_grade_with_factor s x factor m shingleSize) xs method out ys p in
-      le_by (grade_in ys) (grade_in ys') _ _ (by_factor xs s k x factor method m.0 shingleSize out ys m.1 p) (by_factor xs s k y factor method m.0 shingleSize out' ys' m.1 q)
-      (higher_scores.rises s r n x y o factor m.0 shingleSize)
+  rises factor method shingle_size out out' ys ys' p q =
+      let m = method_of_lem (λ s m. threshold_and_grade_with_factor s x factor m shingle_size) xs method out ys p in
+      le_by (grade_in ys) (grade_in ys') _ _ (by_factor xs s k x factor method m.0 shingle_size out ys m.1 p) (by_factor xs s k y factor method m.0 shingle_size out' ys' m.1 q)
+      (higher_scores.rises s r n x y o factor m.0 shingle_size)
 
-  rises_by_z : (method shingleSize : ℕ) (out out' ys ys' : List ℕ) → GradedByZ xs x method shingleSize out ys → GradedByZ xs y method shingleSize out' ys' → T (le (grade_in ys) (grade_in ys'))
-  rises_by_z method shingleSize out out' ys ys' p q =
-      let m = method_of_lem (λ s m. threshold_and_grade s x m shingleSize) xs method out ys p in
-      le_by (grade_in ys) (grade_in ys') _ _ (by_z xs s k x method m.0 shingleSize out ys m.1 p) (by_z xs s k y method m.0 shingleSize out' ys' m.1 q)
-      (higher_scores.rises s r n x y o s.z_factor m.0 shingleSize)
+  rises_by_z : (method shingle_size : ℕ) (out out' ys ys' : List ℕ) → GradedByZ xs x method shingle_size out ys → GradedByZ xs y method shingle_size out' ys' → T (le (grade_in ys) (grade_in ys'))
+  rises_by_z method shingle_size out out' ys ys' p q =
+      let m = method_of_lem (λ s m. threshold_and_grade s x m shingle_size) xs method out ys p in
+      le_by (grade_in ys) (grade_in ys') _ _ (by_z xs s k x method m.0 shingle_size out ys m.1 p) (by_z xs s k y method m.0 shingle_size out' ys' m.1 q)
+      (higher_scores.rises s r n x y o s.z_factor m.0 shingle_size)
 
-below : (xs : List ℕ) (s : BasicThresholder) → Holds xs s → (score factor : Float) (method shingleSize : ℕ) (out ys : List ℕ) → GradedByFactor xs score factor method shingleSize out ys
-    → (m : TransformMethod) → method_of method ≡ Code.Known m → T (lt score (computed_threshold s factor m shingleSize)) → grade_in ys ≡ zero32
-below xs s k score factor method shingleSize out ys e m c h = by_factor xs s k score factor method m shingleSize out ys c e ∙ higher_scores.below s score factor m shingleSize h
+below : (xs : List ℕ) (s : BasicThresholder) → Holds xs s → (score factor : Float) (method shingle_size : ℕ) (out ys : List ℕ) → GradedByFactor xs score factor method shingle_size out ys
+    → (m : TransformMethod) → method_of method ≡ Code.Known m → T (lt score (computed_threshold s factor m shingle_size)) → grade_in ys ≡ zero32
+below xs s k score factor method shingle_size out ys e m c h = by_factor xs s k score factor method m shingle_size out ys c e ∙ higher_scores.below s score factor m shingle_size h
 
-at_zero : (xs : List ℕ) (s : BasicThresholder) → Holds xs s → (score factor : Float) (method shingleSize : ℕ) (out ys : List ℕ) → GradedByFactor xs score factor method shingleSize out ys
-    → (m : TransformMethod) → method_of method ≡ Code.Known m → T (eq (computed_threshold s factor m shingleSize) zero32) → grade_in ys ≡ zero32
-at_zero xs s k score factor method shingleSize out ys e m c h = by_factor xs s k score factor method m shingleSize out ys c e ∙ higher_scores.at_zero s score factor m shingleSize h
+at_zero : (xs : List ℕ) (s : BasicThresholder) → Holds xs s → (score factor : Float) (method shingle_size : ℕ) (out ys : List ℕ) → GradedByFactor xs score factor method shingle_size out ys
+    → (m : TransformMethod) → method_of method ≡ Code.Known m → T (eq (computed_threshold s factor m shingle_size) zero32) → grade_in ys ≡ zero32
+at_zero xs s k score factor method shingle_size out ys e m c h = by_factor xs s k score factor method m shingle_size out ys c e ∙ higher_scores.at_zero s score factor m shingle_size h
 
 distance_rises : (xs : List ℕ) (x y : Float) → T (le x y) → (out out' ys ys' : List ℕ) → GradedByDistance xs x out ys → GradedByDistance xs y out' ys' → T (le (grade_in ys) (grade_in ys'))
 distance_rises xs x y l out out' ys ys' p q =

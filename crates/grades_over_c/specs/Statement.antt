@@ -23,10 +23,10 @@ use Rattle.grades_over_c.specs.Bytes.{ReachedBytes}
 -- Calls that answered 0 and left ys, by their contracts: `krcf_threshold_and_grade_with_factor`, `krcf_threshold_and_grade` and `krcf_primary_threshold_and_grade`, each over the
 -- thresholder's bytes xs and the slice `out`.
 abbrev pub GradedByFactor : List ℕ → Float → Float → ℕ → ℕ → List ℕ → List ℕ → Type 0
-GradedByFactor xs score factor method shingleSize out ys = left 0 ys ≡ threshold_and_grade_with_factor_into score factor method shingleSize xs out
+GradedByFactor xs score factor method shingle_size out ys = left 0 ys ≡ threshold_and_grade_with_factor_into score factor method shingle_size xs out
 
 abbrev pub GradedByZ : List ℕ → Float → ℕ → ℕ → List ℕ → List ℕ → Type 0
-GradedByZ xs score method shingleSize out ys = left 0 ys ≡ threshold_and_grade_into score method shingleSize xs out
+GradedByZ xs score method shingle_size out ys = left 0 ys ≡ threshold_and_grade_into score method shingle_size xs out
 
 abbrev pub GradedByDistance : List ℕ → Float → List ℕ → List ℕ → Type 0
 GradedByDistance xs score out ys = left 0 ys ≡ primary_threshold_and_grade_into score xs out
@@ -50,15 +50,15 @@ pub record HigherOverC : Type 0 where
   pub graded : (out : List ℕ) → length out ≡ 8 → (ys : List ℕ) × GradedByFactor new_bytes one32 two32 0 1 out ys
   -- Over them the larger score's grade is at least the smaller's, by any factor and by the thresholder's own.
   pub rises : (xs : List ℕ) (s : BasicThresholder) → Holds xs s → Reached s → T (not (is_nan s.initial_threshold)) → (x y : Float) → Scores x y
-      → (factor : Float) (method shingleSize : ℕ) (out out' ys ys' : List ℕ) → GradedByFactor xs x factor method shingleSize out ys → GradedByFactor xs y factor method shingleSize out' ys'
+      → (factor : Float) (method shingle_size : ℕ) (out out' ys ys' : List ℕ) → GradedByFactor xs x factor method shingle_size out ys → GradedByFactor xs y factor method shingle_size out' ys'
       → T (le (grade_in ys) (grade_in ys'))
   pub rises_by_z : (xs : List ℕ) (s : BasicThresholder) → Holds xs s → Reached s → T (not (is_nan s.initial_threshold)) → (x y : Float) → Scores x y
-      → (method shingleSize : ℕ) (out out' ys ys' : List ℕ) → GradedByZ xs x method shingleSize out ys → GradedByZ xs y method shingleSize out' ys' → T (le (grade_in ys) (grade_in ys'))
+      → (method shingle_size : ℕ) (out out' ys ys' : List ℕ) → GradedByZ xs x method shingle_size out ys → GradedByZ xs y method shingle_size out' ys' → T (le (grade_in ys) (grade_in ys'))
   -- Over any bytes: k/16, and 0 below the computed threshold or where that is 0.
-  pub sixteenths : (xs : List ℕ) (score factor : Float) (method shingleSize : ℕ) (out ys : List ℕ) → GradedByFactor xs score factor method shingleSize out ys → Sixteenths (grade_in ys)
-  pub below : (xs : List ℕ) (s : BasicThresholder) → Holds xs s → (score factor : Float) (method shingleSize : ℕ) (out ys : List ℕ) → GradedByFactor xs score factor method shingleSize out ys
-      → (m : TransformMethod) → method_of method ≡ Code.Known m → T (lt score (computed_threshold s factor m shingleSize)) → grade_in ys ≡ zero32
-  pub at_zero : (xs : List ℕ) (s : BasicThresholder) → Holds xs s → (score factor : Float) (method shingleSize : ℕ) (out ys : List ℕ) → GradedByFactor xs score factor method shingleSize out ys
-      → (m : TransformMethod) → method_of method ≡ Code.Known m → T (eq (computed_threshold s factor m shingleSize) zero32) → grade_in ys ≡ zero32
+  pub sixteenths : (xs : List ℕ) (score factor : Float) (method shingle_size : ℕ) (out ys : List ℕ) → GradedByFactor xs score factor method shingle_size out ys → Sixteenths (grade_in ys)
+  pub below : (xs : List ℕ) (s : BasicThresholder) → Holds xs s → (score factor : Float) (method shingle_size : ℕ) (out ys : List ℕ) → GradedByFactor xs score factor method shingle_size out ys
+      → (m : TransformMethod) → method_of method ≡ Code.Known m → T (lt score (computed_threshold s factor m shingle_size)) → grade_in ys ≡ zero32
+  pub at_zero : (xs : List ℕ) (s : BasicThresholder) → Holds xs s → (score factor : Float) (method shingle_size : ℕ) (out ys : List ℕ) → GradedByFactor xs score factor method shingle_size out ys
+      → (m : TransformMethod) → method_of method ≡ Code.Known m → T (eq (computed_threshold s factor m shingle_size) zero32) → grade_in ys ≡ zero32
   -- DISTANCE's grade, over any bytes.
   pub distance_rises : (xs : List ℕ) (x y : Float) → T (le x y) → (out out' ys ys' : List ℕ) → GradedByDistance xs x out ys → GradedByDistance xs y out' ys' → T (le (grade_in ys) (grade_in ys'))

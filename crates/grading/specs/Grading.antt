@@ -10,8 +10,8 @@ use Rattle.grading.specs.Const.{zero32, one32, two32, ten32, sixteen32, twenty32
 
 -- Ten scores; of the primary statistic too unless score differencing is 0.
 unfoldable pub counts_ready : ℤ → Float → ℤ → Bool
-counts_ready count score_differencing primaryCount =
-    cond (lt_z count (pos 10)) false (cond (score_differencing != zero32) (int_le (pos 10) primaryCount) true)
+counts_ready count score_differencing primary_count =
+    cond (lt_z count (pos 10)) false (cond (score_differencing != zero32) (int_le (pos 10) primary_count) true)
 
 -- From 0 at ten scores to 1 at twenty.
 unfoldable pub intermediate_fraction : ℤ → Float
@@ -22,12 +22,12 @@ intermediate_fraction count =
 
 -- 2 in place of a factor below it.
 unfoldable pub at_least_minimum : Float → Float
-at_least_minimum correctedFactor = cond (correctedFactor < two32) two32 correctedFactor
+at_least_minimum corrected_factor = cond (corrected_factor < two32) two32 corrected_factor
 
 -- base is the primary mean as f32.
 unfoldable pub adjusted_factor : Float → Float → Float → Bool → Float
-adjusted_factor base factor factorAdjustmentThreshold none =
-    at_least_minimum (cond (base < factorAdjustmentThreshold && not none) (base * factor / factorAdjustmentThreshold) factor)
+adjusted_factor base factor factor_adjustment_threshold none =
+    at_least_minimum (cond (base < factor_adjustment_threshold && not none) (base * factor / factor_adjustment_threshold) factor)
 
 -- The smaller of two f64, the second where they do not compare: the Rust's `if a < b { first = a }`.
 unfoldable pub smaller : Float → Float → Float
@@ -39,22 +39,22 @@ mixed score_differencing first second = score_differencing * narrow first + (one
 
 -- The absolute threshold, lowered with auto threshold once twenty scores are counted and the mean t is under the limit.
 unfoldable pub eased_absolute : Float → Float → Float → Float → Float
-eased_absolute t intermediate_fraction factorAdjustmentThreshold absolute =
-    cond (intermediate_fraction >= one32 && t < factorAdjustmentThreshold) (t * absolute / factorAdjustmentThreshold) absolute
+eased_absolute t intermediate_fraction factor_adjustment_threshold absolute =
+    cond (intermediate_fraction >= one32 && t < factor_adjustment_threshold) (t * absolute / factor_adjustment_threshold) absolute
 
 -- The threshold from its parts.
 unfoldable pub threshold_from : Bool → Float → Float → Float → Float → Float → Float
-threshold_from ready intermediate_fraction mean scaledDeviation initial_threshold absolute =
-    let t = intermediate_fraction * (mean + scaledDeviation) + (one32 - intermediate_fraction) * initial_threshold in
+threshold_from ready intermediate_fraction mean scaled_deviation initial_threshold absolute =
+    let t = intermediate_fraction * (mean + scaled_deviation) + (one32 - intermediate_fraction) * initial_threshold in
     cond (not ready) (maxf32 initial_threshold absolute) (maxf32 t absolute)
 
 -- How far the score is over `base`, as a part of the factor, 0 to 2; before ten scores, as a part of the absolute threshold, 0 to 1.
 unfoldable pub surprise_index : Bool → Float → Float → Float → Float → Float → Float
 surprise_index ready score base factor deviation absolute_threshold =
     let z = (score - base) / deviation in
-    let tFactor = cond (deviation > zero32) (minf32 z factor) (two32 * factor) in
+    let t_factor = cond (deviation > zero32) (minf32 z factor) (two32 * factor) in
     let t = (score - absolute_threshold) / absolute_threshold in
-    cond ready (maxf32 (tFactor / factor) zero32) (minf32 one32 (maxf32 t zero32))
+    cond ready (maxf32 (t_factor / factor) zero32) (minf32 one32 (maxf32 t zero32))
 
 -- The floor of 20 × surprise over 16, at most 1.
 unfoldable pub sixteenths : Float → Float

@@ -1,6 +1,7 @@
 // The steps of basicthresholder.rs that work on numbers alone: when statistics are ready, the factor, a threshold from its parts, how surprising a score is,
 // and its grade. The crate basicthresholder hands them the fields of its state.
 #![tactic(auto)]
+
 ghost use Rattle.std.specs.Prelude.{◌≡◌};
 ghost use Rattle.grading.specs.Grading as Grading;
 

@@ -14,5 +14,5 @@ pub data ReachedDrawer : PredictorCorrector → Type 0 where
   set_lower_threshold : {s : PredictorCorrector} (lower : Float) → ReachedDrawer s → ReachedDrawer (lower_threshold_set s lower)
   set_initial_threshold : {s : PredictorCorrector} (initial : Float) → ReachedDrawer s → ReachedDrawer (initial_threshold_set s initial)
   set_horizon_call : {s : PredictorCorrector} (horizon : Float) → ReachedDrawer s → ReachedDrawer (set_horizon s horizon).state
-  update_auto_adjust_call : {s : PredictorCorrector} (shingleSize : ℕ) (point : List Float) → ReachedDrawer s → ReachedDrawer (update_auto_adjust s shingleSize point).state
+  update_auto_adjust_call : {s : PredictorCorrector} (shingle_size : ℕ) (point : List Float) → ReachedDrawer s → ReachedDrawer (update_auto_adjust s shingle_size point).state
   judged : {s : PredictorCorrector} (c : Judging) → Contract s c → ReachedDrawer s → ReachedDrawer c.judgment.state

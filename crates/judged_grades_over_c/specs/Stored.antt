@@ -16,5 +16,5 @@ pub data ReachedStored : List ℕ → Type 0 where
   krcf_chain_set_lower_threshold : {xs : List ℕ} (lower : Float) (n : ℕ) (ys : List ℕ) → T (fits binary32 lower) → left n ys ≡ chain_set (λ s. lower_threshold_set s lower) xs → ReachedStored xs → ReachedStored ys
   krcf_chain_set_initial_threshold : {xs : List ℕ} (initial : Float) (n : ℕ) (ys : List ℕ) → T (fits binary32 initial) → left n ys ≡ chain_set (λ s. initial_threshold_set s initial) xs → ReachedStored xs → ReachedStored ys
   krcf_chain_set_horizon : {xs : List ℕ} (horizon : Float) (n : ℕ) (ys : List ℕ) → T (fits binary32 horizon) → left n ys ≡ horizon_set_in horizon xs → ReachedStored xs → ReachedStored ys
-  krcf_update_auto_adjust : {xs : List ℕ} (shingleSize : ℕ) (point : List Float) (n : ℕ) (ys : List ℕ) → left n ys ≡ update_auto_adjust xs shingleSize point → ReachedStored xs → ReachedStored ys
+  krcf_update_auto_adjust : {xs : List ℕ} (shingle_size : ℕ) (point : List Float) (n : ℕ) (ys : List ℕ) → left n ys ≡ update_auto_adjust xs shingle_size point → ReachedStored xs → ReachedStored ys
   krcf_detect_and_modify : {xs : List ℕ} (c : Judging) → Contract xs c → ReachedStored xs → ReachedStored c.state'

@@ -257,18 +257,18 @@ module _ (s : PredictorCorrector) (t : BasicThresholder) where
   adjusted_same point h =
       rw (sym (none_left s.auto_adjust (ltb 0 s.run_length) (leb s.run_length count_limit && row_fits s.base_dimension s.deviations_actual point) h))
 
-  counted_is : (grows : Bool) (row rowExpected : List Float) → state_counts_ok s ≡ true → s.base_dimension ≤ 16 → s.base_dimension ≤ length row → s.base_dimension ≤ length rowExpected
+  counted_is : (grows : Bool) (row row_expected : List Float) → state_counts_ok s ≡ true → s.base_dimension ≤ 16 → s.base_dimension ≤ length row → s.base_dimension ≤ length row_expected
       → s.auto_adjust ≡ true
       → with_run (entered s t grows) (run_after grows s.run_length) (stepped Statistics.counted s.base_dimension s.deviations_actual row)
-      (stepped Statistics.counted s.base_dimension s.deviations_expected rowExpected) ≡ counted s t grows row rowExpected
+      (stepped Statistics.counted s.base_dimension s.deviations_expected row_expected) ≡ counted s t grows row row_expected
   unfolding candidate_counted
-  counted_is grows row rowExpected counts few wide wide' h =
+  counted_is grows row row_expected counts few wide wide' h =
       let ok = lists_ok s counts few h in
-      rw (h, row_fits_lem s.base_dimension s.deviations_actual row few wide ok.0, row_fits_lem s.base_dimension s.deviations_expected rowExpected few wide' ok.1)
+      rw (h, row_fits_lem s.base_dimension s.deviations_actual row few wide ok.0, row_fits_lem s.base_dimension s.deviations_expected row_expected few wide' ok.1)
 
-  counted_same : (grows : Bool) (row rowExpected : List Float) → s.auto_adjust ≡ false → entered s t grows ≡ counted s t grows row rowExpected
+  counted_same : (grows : Bool) (row row_expected : List Float) → s.auto_adjust ≡ false → entered s t grows ≡ counted s t grows row row_expected
   unfolding candidate_counted
-  counted_same grows row rowExpected h = rw h
+  counted_same grows row row_expected h = rw h
 
 most_is : (base : ℕ) → base ≤ 16 → base ≡ most base
 most_is base few = rw (le-leb base 16 few) refl
@@ -352,21 +352,21 @@ module _ (xs : List ℕ) (k : Taking xs) (t : BasicThresholder) (auto : Bool) (f
           lists_are (λ (ds : List Deviation). ds) (λ (ds : List Deviation). ds) run hs ys zs h o p q
           ∙ (λ i. encode_state_over xs (state t (flag_at xs auto_adjust_at) (after i) (le4 xs base_dimension_at) (list_at xs actual_at n) (list_at xs expected_at n)))
 
-      module _ (row rowExpected : List Float) where
-        pub counted_none : (zs : List ℕ) → auto ≡ false → zs ≡ pasted xs 0 (head t auto run base) → zs ≡ encode_state_over xs (counted (decode_state xs) t grows row rowExpected)
-        counted_none zs h o = entered_none zs h o ∙ ap (encode_state_over xs) (counted_same (decode_state xs) t grows row rowExpected (auto_is false h))
+      module _ (row row_expected : List Float) where
+        pub counted_none : (zs : List ℕ) → auto ≡ false → zs ≡ pasted xs 0 (head t auto run base) → zs ≡ encode_state_over xs (counted (decode_state xs) t grows row row_expected)
+        counted_none zs h o = entered_none zs h o ∙ ap (encode_state_over xs) (counted_same (decode_state xs) t grows row row_expected (auto_is false h))
 
-        module _ (hs ys zs : List ℕ) (h : auto ≡ true) (o : hs ≡ pasted xs 0 (head t auto run base)) (p : ys ≡ list_over hs actual_at (stepped Statistics.counted base (list_at hs actual_at base) row) base) (q : zs ≡ list_over ys expected_at (stepped Statistics.counted base (list_at ys expected_at base) rowExpected) base) where
-          counted_over_lem : zs ≡ encode_state_over xs (with_run (entered (decode_state xs) t grows) (run_after grows (decode_state xs).run_length) (stepped Statistics.counted (decode_state xs).base_dimension (decode_state xs).deviations_actual row) (stepped Statistics.counted (decode_state xs).base_dimension (decode_state xs).deviations_expected rowExpected))
+        module _ (hs ys zs : List ℕ) (h : auto ≡ true) (o : hs ≡ pasted xs 0 (head t auto run base)) (p : ys ≡ list_over hs actual_at (stepped Statistics.counted base (list_at hs actual_at base) row) base) (q : zs ≡ list_over ys expected_at (stepped Statistics.counted base (list_at ys expected_at base) row_expected) base) where
+          counted_over_lem : zs ≡ encode_state_over xs (with_run (entered (decode_state xs) t grows) (run_after grows (decode_state xs).run_length) (stepped Statistics.counted (decode_state xs).base_dimension (decode_state xs).deviations_actual row) (stepped Statistics.counted (decode_state xs).base_dimension (decode_state xs).deviations_expected row_expected))
           unfolding decode_state
           counted_over_lem =
-              lists_are (λ (ds : List Deviation). stepped Statistics.counted base ds row) (λ (ds : List Deviation). stepped Statistics.counted base ds rowExpected) run hs ys zs h o p q
-              ∙ (λ i. encode_state_over xs (state t (flag_at xs auto_adjust_at) (after i) (le4 xs base_dimension_at) (stepped Statistics.counted (based i) (list_at xs actual_at n) row) (stepped Statistics.counted (based i) (list_at xs expected_at n) rowExpected)))
+              lists_are (λ (ds : List Deviation). stepped Statistics.counted base ds row) (λ (ds : List Deviation). stepped Statistics.counted base ds row_expected) run hs ys zs h o p q
+              ∙ (λ i. encode_state_over xs (state t (flag_at xs auto_adjust_at) (after i) (le4 xs base_dimension_at) (stepped Statistics.counted (based i) (list_at xs actual_at n) row) (stepped Statistics.counted (based i) (list_at xs expected_at n) row_expected)))
 
-          pub counted_lists : le4 xs base_dimension_at ≤ length row → le4 xs base_dimension_at ≤ length rowExpected → zs ≡ encode_state_over xs (counted (decode_state xs) t grows row rowExpected)
+          pub counted_lists : le4 xs base_dimension_at ≤ length row → le4 xs base_dimension_at ≤ length row_expected → zs ≡ encode_state_over xs (counted (decode_state xs) t grows row row_expected)
           counted_lists wide wide' =
               counted_over_lem
-              ∙ ap (encode_state_over xs) (counted_is (decode_state xs) t grows row rowExpected k.counts few_is (wide_is (length row) wide) (wide_is (length rowExpected) wide') (auto_is true h))
+              ∙ ap (encode_state_over xs) (counted_is (decode_state xs) t grows row row_expected k.counts few_is (wide_is (length row) wide) (wide_is (length row_expected) wide') (auto_is true h))
 
 -- ---- a reading that is not refused: what the bytes hold
 pub record Fitting (xs : List ℕ) (r : Reading) (lengths : Bool) : Type 0 where

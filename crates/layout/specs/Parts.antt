@@ -46,7 +46,7 @@ pub record Taking (xs : List ℕ) : Type 0 where
 
 -- The thresholder of a state with a reading's scores entered: `last` is the last descriptor's.
 abbrev pub entering : PredictorCorrector → ScoringStrategy → (score corrected : Float) → ScoringStrategy → (last : Float) → BasicThresholder
-entering s strategy score corrected lastStrategy last = update_score s.basic_thresholder strategy score corrected lastStrategy last
+entering s strategy score corrected last_strategy last = update_score s.basic_thresholder strategy score corrected last_strategy last
 
 -- The same by its parts: the score that the primary statistic counts, which is the last score too, and the secondary statistic.
 unfoldable pub primary_score : ScoringStrategy → Float → Float

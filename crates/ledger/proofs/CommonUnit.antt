@@ -6,7 +6,7 @@ use native.Mathlib.Nat.{mul_comm, mul-le-mul_right, le_of_mul-le-mul_right, mul-
 use native.Mathlib.Omega.{arith}
 use mathlib.Core.Bool.{false}
 use lib.Ieee.{Format, prec, emax, low, round}
-use lib.Ieee.Positive.{num as num_of, den as denOf, den_pos, value→cross}
+use lib.Ieee.Positive.{num as num_of, den as den_of, den_pos, value→cross}
 use lib.Ieee.Scale.{grid}
 use Rattle.ledger.specs.Fractions.{Fraction, over, plus, times, minus, Le, fraction_of}
 use Rattle.ledger.proofs.Absolute.{Off}
@@ -143,7 +143,7 @@ pub round_off : (f : Format) (D a c e r : ℕ) → 0 < c → a ≤ 2 ^ emax f * 
 round_off f D a c e r C hi p q =
     let x = round f false a c in
     let k = round_abs f a c C hi in
-    let s : grid f a c * D ≡ r * 2 ^ low f = same (num_of x) (denOf x) D r (grid f a c) (2 ^ low f) (den_pos x) q (value→cross x (grid f a c) (2 ^ low f) k.value) in
+    let s : grid f a c * D ≡ r * 2 ^ low f = same (num_of x) (den_of x) D r (grid f a c) (2 ^ low f) (den_pos x) q (value→cross x (grid f a c) (2 ^ low f) k.value) in
     record {
       up = up_in (2 ^ prec f) (2 ^ low f) D a c e (grid f a c) r C p s k.near.hi;
       down = down_in (2 ^ prec f) (2 ^ low f) D a c e (grid f a c) r C p s k.near.lo;

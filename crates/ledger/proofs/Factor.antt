@@ -10,7 +10,7 @@ use lib.Dec.{T, leb, ltb, eqb, lit≤, leb→le, nleb→lt, ltb→lt, nltb→le,
 use lib.Pow.{pow_pos, pow_mono}
 use lib.Ieee.{Float, nan, inf, fin, Format, binary64, prec, emax, low, up, down, round, sum, sub, div, lt, eq, of_int, fits, of_bits, le}
 use lib.Ieee.Fits.{and_l, and_r}
-use lib.Ieee.Positive.{num as num_of, den as denOf, den_pos}
+use lib.Ieee.Positive.{num as num_of, den as den_of, den_pos}
 use Rattle.deviation.specs.Statistics as Statistics
 use Rattle.ledger.specs.Fractions.{Fraction, over, divided_by, minus, Le, fraction_of, unit, smaller, plus_zero, plain}
 use Rattle.ledger.specs.Ledger.{factor}
@@ -30,7 +30,7 @@ opened : (f : Format) (m : ℕ) (e : ℤ) (n : ℕ) (d : ℤ) → sub f (fin fal
 unfolding sub
 opened f m e n d = refl
 
-pub sub_is : (f : Format) (x y : Float) → T (plain x) → T (plain y) → Le (fraction_of y) (fraction_of x) → sub f x y ≡ round f false (num_of x * denOf y - num_of y * denOf x) (denOf x * denOf y)
+pub sub_is : (f : Format) (x y : Float) → T (plain x) → T (plain y) → Le (fraction_of y) (fraction_of x) → sub f x y ≡ round f false (num_of x * den_of y - num_of y * den_of x) (den_of x * den_of y)
 sub_is f nan y p q h = absurd p
 sub_is f (inf s) y p q h = absurd p
 sub_is f (fin true m e) y p q h = absurd p
@@ -43,7 +43,7 @@ sub_is f (fin false m e) (fin false n d) p q h = opened f m e n d ∙ pick f (m 
 abbrev smaller_f : Float → Float → Float
 smaller_f a b = cond (lt a b) a b
 
-lt_is : (x y : Float) → T (plain x) → T (plain y) → lt x y ≡ ltb (num_of x * denOf y) (num_of y * denOf x)
+lt_is : (x y : Float) → T (plain x) → T (plain y) → lt x y ≡ ltb (num_of x * den_of y) (num_of y * den_of x)
 unfolding lt
 lt_is nan y p q = absurd p
 lt_is (inf s) y p q = absurd p
@@ -66,9 +66,9 @@ mixed k x x' v v' X D h l n m = record {
 smaller_near : (k : ℕ) (x y : Float) (v w : Fraction) → 0 < v.den → 0 < w.den → About k x v → About k y w → About k (smaller_f x y) (smaller v w)
 smaller_near k x y v w D E a b =
     subst (λ (t : Bool). About k (cond t x y) (smaller v w)) (sym (lt_is x y a.plain b.plain))
-    (go (ltb (num_of x * denOf y) (num_of y * denOf x)) (leb (v.num * w.den) (w.num * v.den)) (ltb→lt (num_of x * denOf y) (num_of y * denOf x)) (nltb→le (num_of x * denOf y) (num_of y * denOf x)) (leb→le (v.num * w.den) (w.num * v.den)) (nleb→lt (v.num * w.den) (w.num * v.den)))
+    (go (ltb (num_of x * den_of y) (num_of y * den_of x)) (leb (v.num * w.den) (w.num * v.den)) (ltb→lt (num_of x * den_of y) (num_of y * den_of x)) (nltb→le (num_of x * den_of y) (num_of y * den_of x)) (leb→le (v.num * w.den) (w.num * v.den)) (nleb→lt (v.num * w.den) (w.num * v.den)))
   where
-    go : (s t : Bool) → (T s → num_of x * denOf y < num_of y * denOf x) → (T (not s) → num_of y * denOf x ≤ num_of x * denOf y) → (T t → v.num * w.den ≤ w.num * v.den) → (T (not t) → w.num * v.den < v.num * w.den)
+    go : (s t : Bool) → (T s → num_of x * den_of y < num_of y * den_of x) → (T (not s) → num_of y * den_of x ≤ num_of x * den_of y) → (T t → v.num * w.den ≤ w.num * v.den) → (T (not t) → w.num * v.den < v.num * w.den)
         → About k (cond s x y) (cond t v w)
     go true true p q r u = a
     go true false p q r u = record { plain = a.plain; near = mixed k (fraction_of x) (fraction_of y) v w (den_pos y) D (le_of_lt (p tt)) (le_of_lt (u tt)) a.near b.near }
@@ -101,7 +101,7 @@ small_of_fits s (suc m) e h =
 whole_gap : (n : ℕ) → n < 1 → 1 ≤ (1 - n) * 2 ^ 53
 whole_gap n h = omega arith
 
-pub gap : (d : Float) → T (plain d) → T (fits binary64 d) → num_of d < denOf d → denOf d ≤ (denOf d - num_of d) * 2 ^ 53
+pub gap : (d : Float) → T (plain d) → T (fits binary64 d) → num_of d < den_of d → den_of d ≤ (den_of d - num_of d) * 2 ^ 53
 gap nan p f h = absurd p
 gap (inf s) p f h = absurd p
 gap (fin true m e) p f h = absurd p
@@ -117,12 +117,12 @@ less_range a b h = record {
 wide : (v : Fraction) → Range 53 0 v → Fine 1021 1022 v
 wide v r = inr (range_weaken 53 1021 0 1022 v (lit≤ tt) (lit≤ tt) r)
 
-one_less : (d : Float) → T (plain d) → T (fits binary64 d) → num_of d < denOf d → About 1 (sub binary64 plus_one d) (minus unit (fraction_of d))
+one_less : (d : Float) → T (plain d) → T (fits binary64 d) → num_of d < den_of d → About 1 (sub binary64 plus_one d) (minus unit (fraction_of d))
 one_less d p f h =
-    let l : Le (fraction_of d) (fraction_of plus_one) = (let k : num_of d ≤ denOf d = le_of_lt h in omega arith) in
+    let l : Le (fraction_of d) (fraction_of plus_one) = (let k : num_of d ≤ den_of d = le_of_lt h in omega arith) in
     let v = minus unit (fraction_of d) in
     rw (sub_is binary64 plus_one d tt p l)
-    (rounded 0 (1 * denOf d - num_of d * 1) (1 * denOf d) v zero-le (mul-pos (zero-lt-suc 0) (den_pos d)) (mul-pos (zero-lt-suc 0) (den_pos d)) (near_of_eq P53 0 v v refl) (wide v (less_range (num_of d) (denOf d) (gap d p f h))))
+    (rounded 0 (1 * den_of d - num_of d * 1) (1 * den_of d) v zero-le (mul-pos (zero-lt-suc 0) (den_pos d)) (mul-pos (zero-lt-suc 0) (den_pos d)) (near_of_eq P53 0 v v refl) (wide v (less_range (num_of d) (den_of d) (gap d p f h))))
 
 -- ---- 1 - 1/(n + 2)
 -- P = R + 8; t' = a / (a + g) is 1/(n + 2) up to 2 parts in P
@@ -183,7 +183,7 @@ inverse_about n h =
     let m = of_int binary64 (pos (n + 2)) in
     let one : About 0 plus_one unit = record { plain = tt; near = near_of_eq P53 0 (fraction_of plus_one) unit refl } in
     let r = range_near P53 1 0 17 (fraction_of m) (over (n + 2) 1) (pow_pos 53) (lit≤ tt) (zero-lt-suc 0) c.near (count_range n h) in
-    let y : 0 < num_of m = num_pos (num_of m) (denOf m) (2 ^ 1) (den_pos m) r.least in
+    let y : 0 < num_of m = num_pos (num_of m) (den_of m) (2 ^ 1) (den_pos m) r.least in
     subst (λ (z : ℕ). About 2 (div binary64 plus_one m) (over 1 z)) (one-mul (n + 2))
     (div_about 0 1 plus_one m unit (over (n + 2) 1) (lit≤ tt) (zero-lt-suc 0) (omega arith) y one c (inr (range_weaken 17 1021 0 1022 (divided_by unit (over (n + 2) 1)) (lit≤ tt) (lit≤ tt) (inverse_range n h))))
 
@@ -200,10 +200,10 @@ count_less : (n : ℕ) → n ≤ 65536 → About 4 (sub binary64 plus_one (div b
 count_less n h =
     let t = div binary64 plus_one (of_int binary64 (pos (n + 2))) in
     let a = inverse_about n h in
-    let l : Le (fraction_of t) (fraction_of plus_one) = (let k : num_of t ≤ denOf t = inv_le (num_of t) (denOf t) n a.near.hi in omega arith) in
+    let l : Le (fraction_of t) (fraction_of plus_one) = (let k : num_of t ≤ den_of t = inv_le (num_of t) (den_of t) n a.near.hi in omega arith) in
     let v = minus unit (over 1 (n + 2)) in
     rw (sub_is binary64 plus_one t tt a.plain l)
-    (rounded 3 (1 * denOf t - num_of t * 1) (1 * denOf t) v (lit≤ tt) (mul-pos (zero-lt-suc 0) (den_pos t)) (omega arith) (inv_near (num_of t) (denOf t) n a.near) (wide v (count_less_range n)))
+    (rounded 3 (1 * den_of t - num_of t * 1) (1 * den_of t) v (lit≤ tt) (mul-pos (zero-lt-suc 0) (den_pos t)) (omega arith) (inv_near (num_of t) (den_of t) n a.near) (wide v (count_less_range n)))
 
 -- ---- the factor
 same_test : (b c : Bool) → (T b → T c) → (T c → T b) → b ≡ c
@@ -235,7 +235,7 @@ one_about k = record { plain = tt; near = near_of_eq P53 k (fraction_of plus_one
 pub record Discount (d : Float) : Type 0 where
   pub sign : T (eq d plus_zero) ⊎ T (plain d)
   pub fits : T (fits binary64 d)
-  pub below : num_of d < denOf d
+  pub below : num_of d < den_of d
 
 pub zero_num : (x : Float) → T (eq x plus_zero) → num_of x ≡ 0
 unfolding eq
@@ -258,9 +258,9 @@ sign_of (fin true m e) h k = inl (turn (m * up e) (eqb→eq (0 * down e) (m * up
     turn a q = rw (sym q, zero-mul (down e)) tt
 sign_of (fin false m e) h k = inr tt
 
-below_one : (d : Float) → T (eq d plus_zero) ⊎ T (plain d) → T (lt d plus_one) → num_of d < denOf d
+below_one : (d : Float) → T (eq d plus_zero) ⊎ T (plain d) → T (lt d plus_one) → num_of d < den_of d
 unfolding lt
-below_one d (inl z) k = subst (λ (i : ℕ). i < denOf d) (sym (zero_num d z)) (den_pos d)
+below_one d (inl z) k = subst (λ (i : ℕ). i < den_of d) (sym (zero_num d z)) (den_pos d)
 below_one nan (inr p) k = absurd p
 below_one (inf s) (inr p) k = absurd p
 below_one (fin true m e) (inr p) k = absurd p
@@ -322,7 +322,7 @@ factor_range d n D = elim D.sign [
 
     go : T (plain d) → (s t : Bool) → Range 53 0 (cond s unit (cond t x y))
     go p true t = one
-    go p false true = less_range (num_of d) (denOf d) (gap d p D.fits D.below)
+    go p false true = less_range (num_of d) (den_of d) (gap d p D.fits D.below)
     go p false false = count_less_range n
 
 pub factor_den : (d : Float) (n : ℕ) → 0 < (factor (fraction_of d) n).den

@@ -10,7 +10,7 @@ use lib.Pow.{pow_pos, pow_mono}
 use lib.Ieee.{Float, nan, inf, fin, binary32, up, down, round, sub, div, lt, le, of_bits}
 use lib.Ieee.Order.{round_mono}
 use lib.Ieee.Fits.{up_pos}
-use lib.Ieee.Positive.{num as num_of, den as denOf, den_pos, positive, above, above_of_le, between, le→cross}
+use lib.Ieee.Positive.{num as num_of, den as den_of, den_pos, positive, above, above_of_le, between, le→cross}
 use Rattle.util.specs.Util.{minf32}
 use Rattle.basicthresholder.specs.Grades.{grade_over}
 use Rattle.basicthresholder.specs.Const.{tenth32}
@@ -76,9 +76,9 @@ mid_positive a c C h k =
     (subst (λ (x : Float). T (le x (round binary32 false a c))) low_is (round_mono binary32 1 (2 ^ 41) a c (pow_pos 41) C (le_trans (le_of_eq (one-mul c)) h)))
     (subst (λ (x : Float). T (le (round binary32 false a c) x)) high_is (round_mono binary32 a c (2 ^ 31) 1 C (zero-lt-suc 0) (le_trans (le_of_eq (mul-one a)) k)))
 
-mid_least : (a c : ℕ) → 0 < c → c ≤ a * 2 ^ 41 → a ≤ 2 ^ 31 * c → denOf (round binary32 false a c) ≤ num_of (round binary32 false a c) * 2 ^ 41
+mid_least : (a c : ℕ) → 0 < c → c ≤ a * 2 ^ 41 → a ≤ 2 ^ 31 * c → den_of (round binary32 false a c) ≤ num_of (round binary32 false a c) * 2 ^ 41
 mid_least a c C h k =
-    le_trans (le_of_eq (sym (one-mul (denOf (round binary32 false a c)))))
+    le_trans (le_of_eq (sym (one-mul (den_of (round binary32 false a c)))))
     (le→cross (fin false 1 (negsuc 40)) (round binary32 false a c) tt (mid_positive a c C h k)
     (subst (λ (x : Float). T (le x (round binary32 false a c))) low_is (round_mono binary32 1 (2 ^ 41) a c (pow_pos 41) C (le_trans (le_of_eq (one-mul c)) h))))
 
@@ -97,24 +97,24 @@ smaller_above x y p q = go (lt x y)
     go false = q
 
 -- ---- above the threshold by 2 ^ -41 or more: a grade above 0
-pub grade_above : (x t dev : Float) → T (plain x) → T (plain t) → T (plain dev) → Le (fraction_of t) (fraction_of x) → denOf x * denOf t ≤ (num_of x * denOf t - num_of t * denOf x) * 2 ^ 41 → num_of x ≤ 2 ^ 30 * denOf x → num_of dev ≤ 2 ^ 32 * denOf dev
+pub grade_above : (x t dev : Float) → T (plain x) → T (plain t) → T (plain dev) → Le (fraction_of t) (fraction_of x) → den_of x * den_of t ≤ (num_of x * den_of t - num_of t * den_of x) * 2 ^ 41 → num_of x ≤ 2 ^ 30 * den_of x → num_of dev ≤ 2 ^ 32 * den_of dev
     → T (lt plus_zero (grade_over (sub binary32 x t) dev))
 unfolding grade_over of_bits
 grade_above x t dev p q r l h k m =
-    let a = num_of x * denOf t - num_of t * denOf x in
-    let c = denOf x * denOf t in
+    let a = num_of x * den_of t - num_of t * den_of x in
+    let c = den_of x * den_of t in
     let C : 0 < c = mul-pos (den_pos x) (den_pos t) in
-    let hi : a ≤ 2 ^ 31 * c = le_trans (sub-le (num_of x * denOf t) (num_of t * denOf x)) (le_trans (mul-le-mul_right (denOf t) (le_trans k (mul-le-mul_right (denOf x) (pow_mono {i = 30} {j = 31} (lit≤ tt))))) (le_of_eq (mul_assoc (2 ^ 31) (denOf x) (denOf t)))) in
+    let hi : a ≤ 2 ^ 31 * c = le_trans (sub-le (num_of x * den_of t) (num_of t * den_of x)) (le_trans (mul-le-mul_right (den_of t) (le_trans k (mul-le-mul_right (den_of x) (pow_mono {i = 30} {j = 31} (lit≤ tt))))) (le_of_eq (mul_assoc (2 ^ 31) (den_of x) (den_of t)))) in
     let w = round binary32 false a c in
     let wp : T (positive w) = mid_positive a c C h hi in
-    let wl : denOf w ≤ num_of w * 2 ^ 41 = mid_least a c C h hi in
+    let wl : den_of w ≤ num_of w * 2 ^ 41 = mid_least a c C h hi in
     subst T (sym (lt_above (grade_over (sub binary32 x t) dev) (subst (λ (i : Float). T (above (grade_over i dev))) (sym (sub_is binary32 x t p q l))
     (subst (λ (b : Bool). T (above (cond b (cond (lt plus_zero dev) (minf32 (div binary32 w dev) plus_one) tenth32) plus_zero))) (sym (lt_above w (above_of w wp)))
     (subst (λ (b : Bool). T (above (cond b (minf32 (div binary32 w dev) plus_one) tenth32))) (sym (lt_zero dev r)) (go w wp wl (ltb 0 (num_of dev)) (ltb→lt 0 (num_of dev)))))))) tt
   where
-    go : (w : Float) → T (positive w) → denOf w ≤ num_of w * 2 ^ 41 → (b : Bool) → (T b → 0 < num_of dev) → T (above (cond b (minf32 (div binary32 w dev) plus_one) tenth32))
+    go : (w : Float) → T (positive w) → den_of w ≤ num_of w * 2 ^ 41 → (b : Bool) → (T b → 0 < num_of dev) → T (above (cond b (minf32 (div binary32 w dev) plus_one) tenth32))
     go w wp wl false n = tt
     go w wp wl true n =
         smaller_above (div binary32 w dev) plus_one
         (subst (λ (i : Float). T (above i)) (sym (div_is binary32 w dev (plain_of w wp) r (n tt)))
-        (above_round (num_of w * denOf dev) (denOf w * num_of dev) (mul-pos (den_pos w) (n tt)) (quotient_in (num_of w) (denOf w) (num_of dev) (denOf dev) wl m))) tt
+        (above_round (num_of w * den_of dev) (den_of w * num_of dev) (mul-pos (den_pos w) (n tt)) (quotient_in (num_of w) (den_of w) (num_of dev) (den_of dev) wl m))) tt

@@ -8,7 +8,7 @@ use lib.Ieee.{Float, lt, le, eq, of_bits}
 use Rattle.types.specs.declared.Refusal.TheVariants.{Horizon}
 use Rattle.basicthresholder.specs.Const.{zero32, sixteen32, z_factor_default}
 use Rattle.basicthresholder.specs.declared.BasicThresholder.{BasicThresholder}
-use Rattle.basicthresholder.specs.Updates.{fresh_thresholder, primary_counted, with_zFactor, done, refused, is_horizon, with_score_differencing, set_score_differencing}
+use Rattle.basicthresholder.specs.Updates.{fresh_thresholder, primary_counted, with_z_factor, done, refused, is_horizon, with_score_differencing, set_score_differencing}
 use Rattle.ledger.specs.Statement.{most_readings, Told, Shown, accepted, Sizes, InBounds, Demand3}
 use Rattle.ledger.specs.Theorem.{Counts, New}
 
@@ -19,7 +19,7 @@ primary_counts t x = record { primary = refl; count = refl; z_factor = refl }
 pub new_fresh : (d : Float) (adjust : Bool) → New d z_factor_default (fresh_thresholder d adjust)
 new_fresh d adjust = record { primary = refl; count = refl; z_factor = refl }
 
-pub new_z : (d z x : Float) (t : BasicThresholder) → New d z t → New d x (with_zFactor t x)
+pub new_z : (d z x : Float) (t : BasicThresholder) → New d z t → New d x (with_z_factor t x)
 new_z d z x t n = record { primary = n.primary; count = n.count; z_factor = refl }
 
 z_above : T (lt zero32 z_factor_default)

@@ -5,7 +5,7 @@ use native.Mathlib.Nat.{le_of_lt, mul-le-mul_right, le_of_mul-le-mul_right, mul-
 use native.Mathlib.Omega.{arith}
 use lib.Dec.{T, lit≤}
 use lib.Ieee.{Float, binary32, sub, lt}
-use lib.Ieee.Positive.{num as num_of, den as denOf, den_pos}
+use lib.Ieee.Positive.{num as num_of, den as den_of, den_pos}
 use Rattle.ieee.specs.Round.{narrow}
 use Rattle.deviation.specs.declared.Deviation.{Deviation}
 use Rattle.deviation.specs.Statistics as Statistics
@@ -80,7 +80,7 @@ module _ (d : Float) (n : ℕ) (s : Deviation) (b : Ledger) (z : Float) (M : Fra
             let l = far_over y v M (den_pos x) (den_pos w') M_den
             (strictly (minus v (part M 2048)) (minus y (part M 1024)) (mean b) (times (times zf zf) (variance b)) (mul-pos (den_pos w') h2048) (mul-pos (den_pos x) h1024) u hq r.0 a') in
             grade_above x w' (narrow (Statistics.deviation s)) w.plain p (deviation_plain d n s b z M n-one n-le t c M_den M_range z_plain z_le)
-            (le_in (num_of x) (denOf x) (num_of w') (denOf w') M.num M.den M_den l)
-            (gap_in (num_of x) (denOf x) (num_of w') (denOf w') M.num M.den M_den M_range.least l)
+            (le_in (num_of x) (den_of x) (num_of w') (den_of w') M.num M.den M_den l)
+            (gap_in (num_of x) (den_of x) (num_of w') (den_of w') M.num M.den M_den M_range.least l)
             (sized_range x w).most (deviation_cap d n s b z M n-one n-le t c M_den M_range z_plain z_le);
       }

@@ -9,7 +9,7 @@ use mathlib.Core.Bool.{Bool, true, false, ◌&&◌, ◌||◌}
 use lib.Dec.{T, ltb, eqb, lit≤, ltb→lt, eqb→eq}
 use lib.Pow.{pow_pos, pow_mono}
 use lib.Ieee.{Float, nan, inf, fin, binary32, binary64, up, down, add, sub, mul, div, le, of_bits}
-use lib.Ieee.Positive.{num as num_of, den as denOf, den_pos}
+use lib.Ieee.Positive.{num as num_of, den as den_of, den_pos}
 use Rattle.ieee.specs.Round.{narrow}
 use Rattle.deviation.specs.declared.Deviation.{Deviation}
 use Rattle.deviation.specs.Statistics as Statistics
@@ -105,7 +105,7 @@ module _ (d : Float) (n : ℕ) (s : Deviation) (b : Ledger) (z : Float) (M : Fra
   w_pos = num_pos b.weight.num b.weight.den (2 ^ 0) t.weight_held.apart wr.least
 
   W_pos : 0 < num_of s.weight
-  W_pos = num_pos (num_of s.weight) (denOf s.weight) (2 ^ 1) (den_pos s.weight) (range_near P53 (6 * n) 0 17 (fraction_of s.weight) b.weight (pow_pos 53) (le_trans (x n) (small_k n n-le)) t.weight_held.apart t.weight.near wr).least
+  W_pos = num_pos (num_of s.weight) (den_of s.weight) (2 ^ 1) (den_pos s.weight) (range_near P53 (6 * n) 0 17 (fraction_of s.weight) b.weight (pow_pos 53) (le_trans (x n) (small_k n n-le)) t.weight_held.apart t.weight.near wr).least
     where
       x : (n : ℕ) → 2 * (6 * n) ≤ 2 * (6 * n + 6 * n)
       x n = omega arith
@@ -141,10 +141,10 @@ module _ (d : Float) (n : ℕ) (s : Deviation) (b : Ledger) (z : Float) (M : Fra
   y_about = mul_about (suc (6 * n + 6 * n)) (suc (6 * n + 6 * n)) (div binary64 s.sum s.weight) (div binary64 s.sum s.weight) (mean b) (mean b) (small_j n n-le) u_den u_den k_about k_about
       (inr (range_weaken 94 1021 94 1022 (times (mean b) (mean b)) (lit≤ tt) (lit≤ tt) (range_times 47 47 47 47 (mean b) (mean b) u_range u_range)))
 
-  x_cap : num_of (div binary64 s.sum_squared s.weight) ≤ 2 ^ 1023 * denOf (div binary64 s.sum_squared s.weight)
+  x_cap : num_of (div binary64 s.sum_squared s.weight) ≤ 2 ^ 1023 * den_of (div binary64 s.sum_squared s.weight)
   x_cap =
       let r = range_near P53 (suc (6 * n + 6 * n)) 77 77 (fraction_of (div binary64 s.sum_squared s.weight)) (divided_by b.squares b.weight) (pow_pos 53) (le_trans (x n) (small_j n n-le)) X_den x_about.near X_range in
-      le_trans r.most (mul-le-mul_right (denOf (div binary64 s.sum_squared s.weight)) (pow_mono {i = 78} {j = 1023} (lit≤ tt)))
+      le_trans r.most (mul-le-mul_right (den_of (div binary64 s.sum_squared s.weight)) (pow_mono {i = 78} {j = 1023} (lit≤ tt)))
     where
       x : (n : ℕ) → 2 * suc (6 * n + 6 * n) ≤ 2 * (suc (6 * n + 6 * n) + suc (6 * n + 6 * n))
       x n = omega arith
@@ -249,7 +249,7 @@ module _ (d : Float) (n : ℕ) (s : Deviation) (b : Ledger) (z : Float) (M : Fra
   unfolding vs
   i12 = there (there (there (there (there (there (there (there (there (there (there (there here)))))))))))
 
-  x_cap' : num_of x_f ≤ 2 ^ 1023 * denOf x_f
+  x_cap' : num_of x_f ≤ 2 ^ 1023 * den_of x_f
   unfolding x_f
   x_cap' = x_cap
 
@@ -287,8 +287,8 @@ module _ (d : Float) (n : ℕ) (s : Deviation) (b : Ledger) (z : Float) (M : Fra
   pub deviation_plain : T (plain (narrow (Statistics.deviation s)))
   deviation_plain = subst (λ (w : Float). T (plain (narrow w))) deviation_is within_all.spread_number
 
-  pub deviation_cap : num_of (narrow (Statistics.deviation s)) ≤ 2 ^ 32 * denOf (narrow (Statistics.deviation s))
-  deviation_cap = subst (λ (w : Float). num_of (narrow w) ≤ 2 ^ 32 * denOf (narrow w)) deviation_is within_all.spread_most
+  pub deviation_cap : num_of (narrow (Statistics.deviation s)) ≤ 2 ^ 32 * den_of (narrow (Statistics.deviation s))
+  deviation_cap = subst (λ (w : Float). num_of (narrow w) ≤ 2 ^ 32 * den_of (narrow w)) deviation_is within_all.spread_most
 
   pub mean_den : 0 < (mean b).den
   mean_den = u_den

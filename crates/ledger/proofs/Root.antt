@@ -9,7 +9,7 @@ use lib.Dec.{T, leb, ltb, eqb, lit≤, lit<, ltb→lt, leb→le, nleb→lt}
 use lib.Pow.{pow_pos}
 use lib.Ieee.{Float, nan, inf, fin, binary64, prec, emax, low, up, down, round, fits}
 use lib.Ieee.Fits.{and_l, and_r}
-use lib.Ieee.Positive.{num as num_of, den as denOf, den_pos}
+use lib.Ieee.Positive.{num as num_of, den as den_of, den_pos}
 use Rattle.ieee.specs.Round.{sqrt, isqrt}
 use Rattle.ledger.specs.Fractions.{over, times, plain, fraction_of}
 use Rattle.ledger.proofs.Absolute.{sq_le}
@@ -17,7 +17,7 @@ use Rattle.ledger.proofs.Relative.{Near, near_trans, near_times, near_weaken}
 use Rattle.ledger.proofs.Values.{Range, About, P53, rounded, near_of_eq}
 
 -- ---- a positive value of f64 lies between 2 ^ -1074 and 2 ^ 1024
-den_le : (v : Float) → T (plain v) → T (fits binary64 v) → 0 < num_of v → denOf v ≤ 2 ^ 1074
+den_le : (v : Float) → T (plain v) → T (fits binary64 v) → 0 < num_of v → den_of v ≤ 2 ^ 1074
 unfolding fits
 den_le nan p f h = absurd p
 den_le (inf s) p f h = absurd p
@@ -30,7 +30,7 @@ den_le (fin false (suc m) e) p f h =
     let E = ltb (suc m * up e) (2 ^ suc (emax binary64) * down e) in
     leb→le (down e) (2 ^ 1074) (and_r (A && B) C (and_l (A && B && C) E f))
 
-num_lt : (v : Float) → T (plain v) → T (fits binary64 v) → 0 < num_of v → num_of v < 2 ^ 1024 * denOf v
+num_lt : (v : Float) → T (plain v) → T (fits binary64 v) → 0 < num_of v → num_of v < 2 ^ 1024 * den_of v
 unfolding fits
 num_lt nan p f h = absurd p
 num_lt (inf s) p f h = absurd p
@@ -140,7 +140,7 @@ module _ (a b q s : ℕ) (A : 0 < a) (B : 0 < b) (b_le : b ≤ 2 ^ 1074) (a_le :
       twice q s L h k = omega arith
 
 -- ---- the law
-sqrt_is : (v : Float) → T (plain v) → 0 < num_of v → (s : ℕ) × (s ≤ 1) × (sqrt v ≡ round binary64 false (2 * isqrt 1112 (num_of v * 2 ^ 1200 / denOf v) + s) (2 ^ 601))
+sqrt_is : (v : Float) → T (plain v) → 0 < num_of v → (s : ℕ) × (s ≤ 1) × (sqrt v ≡ round binary64 false (2 * isqrt 1112 (num_of v * 2 ^ 1200 / den_of v) + s) (2 ^ 601))
 unfolding sqrt
 sqrt_is nan p h = absurd p
 sqrt_is (inf s) p h = absurd p
@@ -158,7 +158,7 @@ sqrt_is (fin false (suc m) e) p h =
 pub root_law : (v : Float) → T (plain v) → T (fits binary64 v) → 0 < num_of v → T (plain (sqrt v)) × Near P53 4 (times (fraction_of (sqrt v)) (fraction_of (sqrt v))) (fraction_of v)
 root_law v p f h =
     let a = num_of v in
-    let b = denOf v in
+    let b = den_of v in
     let q = isqrt 1112 (a * 2 ^ 1200 / b) in
     let t = sqrt_is v p h in
     let s = t.0 in

@@ -8,7 +8,7 @@ use mathlib.Core.Bool.{true, false}
 use lib.Dec.{T, lit≤}
 use lib.Pow.{pow_pos, pow_mono}
 use lib.Ieee.{Float, nan, inf, fin, binary32, binary64, emax, low, round, add, mul}
-use lib.Ieee.Positive.{num as num_of, den as denOf, den_pos}
+use lib.Ieee.Positive.{num as num_of, den as den_of, den_pos}
 use Rattle.ieee.specs.Round.{narrow}
 use Rattle.ledger.specs.Fractions.{Fraction, over, plus, times, minus, Le, plain, fraction_of, part}
 use Rattle.ledger.proofs.Absolute.{Off, off_weaken, off_times, off_cancel}
@@ -18,7 +18,7 @@ use Rattle.ledger.proofs.Rounding.{round_abs}
 use Rattle.ledger.proofs.Values.{plain_of_value, Range, About, P53, loose, mul_is, add_is}
 use Rattle.ledger.proofs.Variance.{Spread}
 
-narrow_is : (x : Float) → T (plain x) → narrow x ≡ round binary32 false (num_of x) (denOf x)
+narrow_is : (x : Float) → T (plain x) → narrow x ≡ round binary32 false (num_of x) (den_of x)
 unfolding narrow
 narrow_is nan p = absurd p
 narrow_is (inf s) p = absurd p
@@ -70,7 +70,7 @@ added z s k = add binary32 (narrow k) (mul binary32 z (narrow s))
 pub record Within (X u M : Fraction) (z s k : Float) : Type 0 where
   pub number : T (plain (added z s k))
   pub spread_number : T (plain (narrow s))
-  pub spread_most : num_of (narrow s) ≤ 2 ^ 32 * denOf (narrow s)
+  pub spread_most : num_of (narrow s) ≤ 2 ^ 32 * den_of (narrow s)
   pub not_over : Le (times (minus (minus (fraction_of (added z s k)) (part M 2048)) u) (minus (minus (fraction_of (added z s k)) (part M 2048)) u)) (times (times (fraction_of z) (fraction_of z)) (minus X (times u u)))
   pub mean_most : Le u (plus (fraction_of (added z s k)) (part M 2048))
   pub not_under : Le (times (times (fraction_of z) (fraction_of z)) (minus X (times u u))) (times (minus (plus (fraction_of (added z s k)) (part M 2048)) u) (minus (plus (fraction_of (added z s k)) (part M 2048)) u))
@@ -106,13 +106,13 @@ diff_off D MM x y v h l o =
         re : (e D L : ℕ) → (e * L + D * 2 ^ 53) * D ≡ e * D * L + D * D * 2 ^ 53
         re e D L = omega arith
 
-diff_of : (D MM : ℕ) (x y v s : Float) (xn yn vn : ℕ) → 0 < D → xn * D ≤ 2 * MM → D * D ≤ MM * 2 ^ 60 → num_of x ≤ 2 ^ 1023 * denOf x → Spread x y v s
+diff_of : (D MM : ℕ) (x y v s : Float) (xn yn vn : ℕ) → 0 < D → xn * D ≤ 2 * MM → D * D ≤ MM * 2 ^ 60 → num_of x ≤ 2 ^ 1023 * den_of x → Spread x y v s
     → Parts D (fraction_of x) xn → Parts D (fraction_of y) yn → Parts D (fraction_of v) vn → Off (2 ^ 53) (3 * MM) (vn * D) (xn * D - yn * D)
 diff_of D MM x y v s xn yn vn hD h l cap sp ax ay av = elim sp.is [
   | inl i ↦
       diff_off D MM xn yn vn h l
-      (round_off binary64 D (num_of x * denOf y - num_of y * denOf x) (denOf x * denOf y) (xn - yn) vn (mul-pos (den_pos x) (den_pos y))
-      (le_trans (sub-le (num_of x * denOf y) (num_of y * denOf x)) (le_trans (mul-le-mul_right (denOf y) cap) (le_of_eq (mul_assoc (2 ^ 1023) (denOf x) (denOf y)))))
+      (round_off binary64 D (num_of x * den_of y - num_of y * den_of x) (den_of x * den_of y) (xn - yn) vn (mul-pos (den_pos x) (den_pos y))
+      (le_trans (sub-le (num_of x * den_of y) (num_of y * den_of x)) (le_trans (mul-le-mul_right (den_of y) cap) (le_of_eq (mul_assoc (2 ^ 1023) (den_of x) (den_of y)))))
       (at_less D (fraction_of x) (fraction_of y) xn yn ax ay) (subst (λ (w : Float). Parts D (fraction_of w) vn) i.1 av))
   | inr i ↦
       let z : vn ≡ 0 = zero_at vn D (subst (λ (w : Float). Parts D (fraction_of w) vn) i.1 av) in
@@ -127,7 +127,7 @@ diff_of D MM x y v s xn yn vn hD h l cap sp ax ay av = elim sp.is [
     nothing : (D m : ℕ) → Off (2 ^ 53) m (0 * D) 0
     nothing D m = record { up = omega arith; down = omega arith }
 
-module _ (Xf uf Mf : Fraction) (zF x_f y_f vF s_f k_f : Float) (K J : ℕ) (g : Setting Xf uf Mf zF x_f y_f vF s_f k_f K J) (cap : num_of x_f ≤ 2 ^ 1023 * denOf x_f)
+module _ (Xf uf Mf : Fraction) (zF x_f y_f vF s_f k_f : Float) (K J : ℕ) (g : Setting Xf uf Mf zF x_f y_f vF s_f k_f K J) (cap : num_of x_f ≤ 2 ^ 1023 * den_of x_f)
     (D X u M z x y v s k : ℕ) (hD : 0 < D) (aX : Parts D Xf X) (au : Parts D uf u) (aM : Parts D Mf M) (az : Parts D (fraction_of zF) z) (ax : Parts D (fraction_of x_f) x) (ay : Parts D (fraction_of y_f) y)
     (av : Parts D (fraction_of vF) v) (as' : Parts D (fraction_of s_f) s) (ak : Parts D (fraction_of k_f) k) where
   DD : 0 < D * D
@@ -189,20 +189,20 @@ module _ (Xf uf Mf : Fraction) (zF x_f y_f vF s_f k_f : Float) (K J : ℕ) (g : 
   s_cap = (let h = dev_le D X u M z x y v s k K J doubles in let l = M_most in omega arith)
 
   plain_a : T (plain (narrow k_f))
-  plain_a = rw (narrow_is k_f g.k_about.plain) (f32_plain D (num_of k_f) (denOf k_f) k 31 hD (den_pos k_f) k_cap (lit≤ tt) ak)
+  plain_a = rw (narrow_is k_f g.k_about.plain) (f32_plain D (num_of k_f) (den_of k_f) k 31 hD (den_pos k_f) k_cap (lit≤ tt) ak)
 
   plain_d : T (plain (narrow s_f))
-  plain_d = rw (narrow_is s_f g.spread.plain_r) (f32_plain D (num_of s_f) (denOf s_f) s 31 hD (den_pos s_f) s_cap (lit≤ tt) as')
+  plain_d = rw (narrow_is s_f g.spread.plain_r) (f32_plain D (num_of s_f) (den_of s_f) s 31 hD (den_pos s_f) s_cap (lit≤ tt) as')
 
   module _ (a d : ℕ) (aa : Parts D (fraction_of (narrow k_f)) a) (ad : Parts D (fraction_of (narrow s_f)) d) where
     singles : Singles M s k a d
     singles = record {
-      narrow_mean = f32_step D (num_of k_f) (denOf k_f) k a M 31 hD (den_pos k_f) M_least k_cap (lit≤ tt) ak (subst (λ (w : Float). Parts D (fraction_of w) a) (narrow_is k_f g.k_about.plain) aa);
-      narrow_dev = f32_step D (num_of s_f) (denOf s_f) s d M 31 hD (den_pos s_f) M_least s_cap (lit≤ tt) as' (subst (λ (w : Float). Parts D (fraction_of w) d) (narrow_is s_f g.spread.plain_r) ad);
+      narrow_mean = f32_step D (num_of k_f) (den_of k_f) k a M 31 hD (den_pos k_f) M_least k_cap (lit≤ tt) ak (subst (λ (w : Float). Parts D (fraction_of w) a) (narrow_is k_f g.k_about.plain) aa);
+      narrow_dev = f32_step D (num_of s_f) (den_of s_f) s d M 31 hD (den_pos s_f) M_least s_cap (lit≤ tt) as' (subst (λ (w : Float). Parts D (fraction_of w) d) (narrow_is s_f g.spread.plain_r) ad);
     }
 
-    dev_cap : num_of (narrow s_f) ≤ 2 ^ 32 * denOf (narrow s_f)
-    dev_cap = cap_in (num_of (narrow s_f)) (denOf (narrow s_f)) D d (2 ^ 32) hD ad (let h = d_le D X u M z x y v s k K J a d doubles singles in let l = M_most in omega arith)
+    dev_cap : num_of (narrow s_f) ≤ 2 ^ 32 * den_of (narrow s_f)
+    dev_cap = cap_in (num_of (narrow s_f)) (den_of (narrow s_f)) D d (2 ^ 32) hD ad (let h = d_le D X u M z x y v s k K J a d doubles singles in let l = M_most in omega arith)
 
     zd_cap : z * d ≤ 2 ^ 36 * (D * D)
     zd_cap =
@@ -214,12 +214,12 @@ module _ (Xf uf Mf : Fraction) (zF x_f y_f vF s_f k_f : Float) (K J : ℕ) (g : 
     azd = at_times D D (fraction_of zF) (fraction_of (narrow s_f)) z d az ad
 
     plain_p : T (plain (mul binary32 zF (narrow s_f)))
-    plain_p = rw (mul_is binary32 zF (narrow s_f) g.z_plain plain_d) (f32_plain (D * D) (num_of zF * num_of (narrow s_f)) (denOf zF * denOf (narrow s_f)) (z * d) 36 DD (mul-pos (den_pos zF) (den_pos (narrow s_f))) zd_cap (lit≤ tt) azd)
+    plain_p = rw (mul_is binary32 zF (narrow s_f) g.z_plain plain_d) (f32_plain (D * D) (num_of zF * num_of (narrow s_f)) (den_of zF * den_of (narrow s_f)) (z * d) 36 DD (mul-pos (den_pos zF) (den_pos (narrow s_f))) zd_cap (lit≤ tt) azd)
 
     module _ (p : ℕ) (ap' : Parts D (fraction_of (mul binary32 zF (narrow s_f))) p) where
       product : Off (2 ^ 24) (z * d + M * D) (p * D) (z * d)
       product =
-          f32_step (D * D) (num_of zF * num_of (narrow s_f)) (denOf zF * denOf (narrow s_f)) (z * d) (p * D) (M * D) 36 DD (mul-pos (den_pos zF) (den_pos (narrow s_f))) (small M D M_least) zd_cap (lit≤ tt) azd
+          f32_step (D * D) (num_of zF * num_of (narrow s_f)) (den_of zF * den_of (narrow s_f)) (z * d) (p * D) (M * D) 36 DD (mul-pos (den_pos zF) (den_pos (narrow s_f))) (small M D M_least) zd_cap (lit≤ tt) azd
           (subst (λ (w : Float). Parts (D * D) (fraction_of w) (p * D)) (mul_is binary32 zF (narrow s_f) g.z_plain plain_d) (at_scale D D (fraction_of (mul binary32 zF (narrow s_f))) p ap'))
         where
           small : (M D : ℕ) → D ≤ M * 2 ^ 30 → D * D ≤ M * D * 2 ^ 30
@@ -236,13 +236,13 @@ module _ (Xf uf Mf : Fraction) (zF x_f y_f vF s_f k_f : Float) (K J : ℕ) (g : 
 
       plain_t : T (plain (added zF s_f k_f))
       plain_t = rw (add_is binary32 (narrow k_f) (mul binary32 zF (narrow s_f)) plain_a plain_p)
-          (f32_plain D (num_of (narrow k_f) * denOf (mul binary32 zF (narrow s_f)) + num_of (mul binary32 zF (narrow s_f)) * denOf (narrow k_f)) (denOf (narrow k_f) * denOf (mul binary32 zF (narrow s_f))) (a + p) 36 hD
+          (f32_plain D (num_of (narrow k_f) * den_of (mul binary32 zF (narrow s_f)) + num_of (mul binary32 zF (narrow s_f)) * den_of (narrow k_f)) (den_of (narrow k_f) * den_of (mul binary32 zF (narrow s_f))) (a + p) 36 hD
           (mul-pos (den_pos (narrow k_f)) (den_pos (mul binary32 zF (narrow s_f)))) sum_cap (lit≤ tt) aap)
 
       module _ (t : ℕ) (at : Parts D (fraction_of (added zF s_f k_f)) t) where
         total : Off (2 ^ 24) (a + p + M) t (a + p)
         total =
-            f32_step D (num_of (narrow k_f) * denOf (mul binary32 zF (narrow s_f)) + num_of (mul binary32 zF (narrow s_f)) * denOf (narrow k_f)) (denOf (narrow k_f) * denOf (mul binary32 zF (narrow s_f))) (a + p) t M 36 hD
+            f32_step D (num_of (narrow k_f) * den_of (mul binary32 zF (narrow s_f)) + num_of (mul binary32 zF (narrow s_f)) * den_of (narrow k_f)) (den_of (narrow k_f) * den_of (mul binary32 zF (narrow s_f))) (a + p) t M 36 hD
             (mul-pos (den_pos (narrow k_f)) (den_pos (mul binary32 zF (narrow s_f)))) M_least sum_cap (lit≤ tt) aap
             (subst (λ (w : Float). Parts D (fraction_of w) t) (add_is binary32 (narrow k_f) (mul binary32 zF (narrow s_f)) plain_a plain_p) at)
 

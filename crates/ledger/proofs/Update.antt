@@ -8,7 +8,7 @@ use lib.Dec.{T, lit≤}
 use lib.Arith.{le-zero}
 use lib.Pow.{pow-add}
 use lib.Ieee.{Float, binary64, add, mul, of_bits}
-use lib.Ieee.Positive.{num as num_of, den as denOf, den_pos}
+use lib.Ieee.Positive.{num as num_of, den as den_of, den_pos}
 use lib.IntN.{ℤ, pos, ◌+ℤ◌}
 use native.Mathlib.Numerals.{add-one}
 use Rattle.deviation.specs.declared.Deviation.{Deviation}
@@ -83,8 +83,8 @@ moved_about n e S f x s r v N E a h b R q c D t =
 -- ---- all three
 pub sized_range : (x : Float) → Sized x → Range 30 30 (fraction_of x)
 sized_range x w = record {
-  least = le_trans (le_of_eq (sym (one-mul (denOf x)))) (le_trans w.least (mul-le-mul_left (num_of x) (lit≤ tt)));
-  most = le_trans (le_of_eq (sym (mul-one (num_of x)))) (le_trans w.most (mul-le-mul_right (denOf x) (lit≤ tt)));
+  least = le_trans (le_of_eq (sym (one-mul (den_of x)))) (le_trans w.least (mul-le-mul_left (num_of x) (lit≤ tt)));
+  most = le_trans (le_of_eq (sym (mul-one (num_of x)))) (le_trans w.most (mul-le-mul_right (den_of x) (lit≤ tt)));
 }
 
 -- the statistic s of discount d and the ledger b have both counted the same n scores

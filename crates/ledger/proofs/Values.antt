@@ -11,7 +11,7 @@ use lib.Dec.{T, eqb, eqb→eq}
 use lib.Pow.{pow-add, pow_pos, pow_mono}
 use lib.Ieee.{Float, nan, inf, fin, Format, binary32, binary64, prec, emax, low, up, down, round, add, mul, div}
 use lib.Ieee.Exact.{HasValue, round_exact}
-use lib.Ieee.Positive.{num as num_of, den as denOf, den_pos, value→cross}
+use lib.Ieee.Positive.{num as num_of, den as den_of, den_pos, value→cross}
 use Rattle.ledger.specs.Fractions.{Fraction, over, plus, times, divided_by, plain, fraction_of}
 use Rattle.ledger.proofs.Relative.{Near, near_trans, near_weaken, near_plus, near_times, near_by}
 use Rattle.ledger.proofs.Rounding.{round_near}
@@ -170,7 +170,7 @@ round_about a c C (inl e) = round_zero a c C e
 round_about a c C (inr r) = round_range a c C r
 
 -- ---- the operations, exactly
-pub mul_is : (f : Format) (x y : Float) → T (plain x) → T (plain y) → mul f x y ≡ round f false (num_of x * num_of y) (denOf x * denOf y)
+pub mul_is : (f : Format) (x y : Float) → T (plain x) → T (plain y) → mul f x y ≡ round f false (num_of x * num_of y) (den_of x * den_of y)
 unfolding mul
 mul_is f nan y p q = absurd p
 mul_is f (inf s) y p q = absurd p
@@ -180,7 +180,7 @@ mul_is f (fin false m e) (inf t) p q = absurd q
 mul_is f (fin false m e) (fin true n d) p q = absurd q
 mul_is f (fin false m e) (fin false n d) p q = refl
 
-pub add_is : (f : Format) (x y : Float) → T (plain x) → T (plain y) → add f x y ≡ round f false (num_of x * denOf y + num_of y * denOf x) (denOf x * denOf y)
+pub add_is : (f : Format) (x y : Float) → T (plain x) → T (plain y) → add f x y ≡ round f false (num_of x * den_of y + num_of y * den_of x) (den_of x * den_of y)
 unfolding add
 add_is f nan y p q = absurd p
 add_is f (inf s) y p q = absurd p
@@ -194,7 +194,7 @@ not_zero : (n u : ℕ) → 0 < n * u → (b : Bool) → (T b → n ≡ 0) → b 
 not_zero n u h true k = absurd (lt_irrefl 0 (lt_of_lt_of_le h (le_of_eq (ap (λ (x : ℕ). x * u) (k tt) ∙ zero-mul u))))
 not_zero n u h false k = refl
 
-pub div_is : (f : Format) (x y : Float) → T (plain x) → T (plain y) → 0 < num_of y → div f x y ≡ round f false (num_of x * denOf y) (denOf x * num_of y)
+pub div_is : (f : Format) (x y : Float) → T (plain x) → T (plain y) → 0 < num_of y → div f x y ≡ round f false (num_of x * den_of y) (den_of x * num_of y)
 unfolding div
 div_is f nan y p q h = absurd p
 div_is f (inf s) y p q h = absurd p
@@ -225,17 +225,17 @@ rounded k a c v small C D n f =
 pub mul_about : (j k : ℕ) (x y : Float) (v w : Fraction) → 2 * (j + k) ≤ P53 → 0 < v.den → 0 < w.den → About j x v → About k y w → Fine 1021 1022 (times v w) → About (suc (j + k)) (mul binary64 x y) (times v w)
 mul_about j k x y v w small D W a b f =
     rw (mul_is binary64 x y a.plain b.plain)
-    (rounded (j + k) (num_of x * num_of y) (denOf x * denOf y) (times v w) small (mul-pos (den_pos x) (den_pos y)) (mul-pos D W) (near_times P53 (pow_pos 53) j k (fraction_of x) v (fraction_of y) w a.near b.near) f)
+    (rounded (j + k) (num_of x * num_of y) (den_of x * den_of y) (times v w) small (mul-pos (den_pos x) (den_pos y)) (mul-pos D W) (near_times P53 (pow_pos 53) j k (fraction_of x) v (fraction_of y) w a.near b.near) f)
 
 pub add_about : (k : ℕ) (x y : Float) (v w : Fraction) → 2 * k ≤ P53 → 0 < v.den → 0 < w.den → About k x v → About k y w → Fine 1021 1022 (plus v w) → About (suc k) (add binary64 x y) (plus v w)
 add_about k x y v w small D W a b f =
     rw (add_is binary64 x y a.plain b.plain)
-    (rounded k (num_of x * denOf y + num_of y * denOf x) (denOf x * denOf y) (plus v w) small (mul-pos (den_pos x) (den_pos y)) (mul-pos D W) (near_plus P53 (pow_pos 53) k (fraction_of x) v (fraction_of y) w a.near b.near) f)
+    (rounded k (num_of x * den_of y + num_of y * den_of x) (den_of x * den_of y) (plus v w) small (mul-pos (den_pos x) (den_pos y)) (mul-pos D W) (near_plus P53 (pow_pos 53) k (fraction_of x) v (fraction_of y) w a.near b.near) f)
 
 pub div_about : (j k : ℕ) (x y : Float) (v w : Fraction) → 2 * (j + k) ≤ P53 → 0 < v.den → 0 < w.num → 0 < num_of y → About j x v → About k y w → Fine 1021 1022 (divided_by v w) → About (suc (j + k)) (div binary64 x y) (divided_by v w)
 div_about j k x y v w small D W Y a b f =
     rw (div_is binary64 x y a.plain b.plain Y)
-    (rounded (j + k) (num_of x * denOf y) (denOf x * num_of y) (divided_by v w) small (mul-pos (den_pos x) Y) (mul-pos D W) (near_by P53 (pow_pos 53) j k (fraction_of x) v (fraction_of y) w a.near b.near) f)
+    (rounded (j + k) (num_of x * den_of y) (den_of x * num_of y) (divided_by v w) small (mul-pos (den_pos x) Y) (mul-pos D W) (near_by P53 (pow_pos 53) j k (fraction_of x) v (fraction_of y) w a.near b.near) f)
 
 pub about_weaken : (j k : ℕ) (x : Float) (v : Fraction) → j ≤ k → About j x v → About k x v
 about_weaken j k x v h a = record { plain = a.plain; near = near_weaken P53 (pow_pos 53) j k (fraction_of x) v h a.near }

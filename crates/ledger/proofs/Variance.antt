@@ -9,7 +9,7 @@ use lib.Dec.{T, leb, ltb, leb→le, nleb→lt, ltb→lt, nltb→le}
 use lib.Arith.{le-zero}
 use lib.Ieee.{Float, nan, inf, fin, Format, binary64, prec, emax, low, up, down, size, nearest, odd, units, round, sum, sub, lt, fits, of_bits}
 use lib.Ieee.Fits.{round_is, round-fits}
-use lib.Ieee.Positive.{num as num_of, den as denOf, den_pos}
+use lib.Ieee.Positive.{num as num_of, den as den_of, den_pos}
 use Rattle.ieee.specs.Round.{sqrt}
 use Rattle.deviation.specs.Statistics.{positive_root}
 use Rattle.ledger.specs.Fractions.{over, times, Le, plain, fraction_of, plus_zero}
@@ -48,7 +48,7 @@ opened : (f : Format) (m : ℕ) (e : ℤ) (n : ℕ) (d : ℤ) → sub f (fin fal
 unfolding sub
 opened f m e n d = refl
 
-pub sub_neg : (f : Format) (x y : Float) → T (plain x) → T (plain y) → num_of x * denOf y < num_of y * denOf x → lt plus_zero (sub f x y) ≡ false
+pub sub_neg : (f : Format) (x y : Float) → T (plain x) → T (plain y) → num_of x * den_of y < num_of y * den_of x → lt plus_zero (sub f x y) ≡ false
 sub_neg f nan y p q h = absurd p
 sub_neg f (inf s) y p q h = absurd p
 sub_neg f (fin true m e) y p q h = absurd p
@@ -75,7 +75,7 @@ pub record Spread (x y v r : Float) : Type 0 where
   pub plain_v : T (plain v)
   pub plain_r : T (plain r)
   pub near : Near P53 4 (times (fraction_of r) (fraction_of r)) (fraction_of v)
-  pub is : (Le (fraction_of y) (fraction_of x) × (v ≡ round binary64 false (num_of x * denOf y - num_of y * denOf x) (denOf x * denOf y))) ⊎ (Le (fraction_of x) (fraction_of y) × (v ≡ plus_zero))
+  pub is : (Le (fraction_of y) (fraction_of x) × (v ≡ round binary64 false (num_of x * den_of y - num_of y * den_of x) (den_of x * den_of y))) ⊎ (Le (fraction_of x) (fraction_of y) × (v ≡ plus_zero))
 
 root_near : (v : Float) → T (plain v) → T (fits binary64 v) → T (plain (positive_root v)) × Near P53 4 (times (fraction_of (positive_root v)) (fraction_of (positive_root v))) (fraction_of v)
 unfolding positive_root of_bits
@@ -83,25 +83,25 @@ root_near v p f = subst (λ (t : Bool). T (plain (cond t (sqrt v) plus_zero)) ×
   where
     go : (t : Bool) → (T t → 0 < num_of v) → (T (not t) → num_of v ≤ 0) → T (plain (cond t (sqrt v) plus_zero)) × Near P53 4 (times (fraction_of (cond t (sqrt v) plus_zero)) (fraction_of (cond t (sqrt v) plus_zero))) (fraction_of v)
     go true h k = root_law v p f (h tt)
-    go false h k = (tt, near_of_eq P53 4 (over (0 * 0) (1 * 1)) (fraction_of v) (zero-mul (denOf v) ∙ sym (ap (λ (z : ℕ). z * 1) (le-zero (k tt)))))
+    go false h k = (tt, near_of_eq P53 4 (over (0 * 0) (1 * 1)) (fraction_of v) (zero-mul (den_of v) ∙ sym (ap (λ (z : ℕ). z * 1) (le-zero (k tt)))))
 
 less_cap : (a b c d h : ℕ) → a ≤ h * c → a * d - b ≤ h * (c * d)
 less_cap a b c d h l = le_trans (sub-le (a * d) b) (le_trans (mul-le-mul_right d l) (le_of_eq (mul_assoc h c d)))
 
-pub spread_of : (x y : Float) → T (plain x) → T (plain y) → num_of x ≤ 2 ^ 1023 * denOf x → (v : Float) × Spread x y v (positive_root (sub binary64 x y))
+pub spread_of : (x y : Float) → T (plain x) → T (plain y) → num_of x ≤ 2 ^ 1023 * den_of x → (v : Float) × Spread x y v (positive_root (sub binary64 x y))
 unfolding positive_root of_bits
-spread_of x y p q cap = go (leb (num_of y * denOf x) (num_of x * denOf y)) (leb→le (num_of y * denOf x) (num_of x * denOf y)) (nleb→lt (num_of y * denOf x) (num_of x * denOf y))
+spread_of x y p q cap = go (leb (num_of y * den_of x) (num_of x * den_of y)) (leb→le (num_of y * den_of x) (num_of x * den_of y)) (nleb→lt (num_of y * den_of x) (num_of x * den_of y))
   where
     a : ℕ
-    a = num_of x * denOf y - num_of y * denOf x
+    a = num_of x * den_of y - num_of y * den_of x
 
     c : ℕ
-    c = denOf x * denOf y
+    c = den_of x * den_of y
 
-    go : (t : Bool) → (T t → num_of y * denOf x ≤ num_of x * denOf y) → (T (not t) → num_of x * denOf y < num_of y * denOf x) → (v : Float) × Spread x y v (positive_root (sub binary64 x y))
+    go : (t : Bool) → (T t → num_of y * den_of x ≤ num_of x * den_of y) → (T (not t) → num_of x * den_of y < num_of y * den_of x) → (v : Float) × Spread x y v (positive_root (sub binary64 x y))
     go true h k =
         let e = sub_is binary64 x y p q (h tt) in
-        let r = round_abs binary64 a c (mul-pos (den_pos x) (den_pos y)) (less_cap (num_of x) (num_of y * denOf x) (denOf x) (denOf y) (2 ^ 1023) cap) in
+        let r = round_abs binary64 a c (mul-pos (den_pos x) (den_pos y)) (less_cap (num_of x) (num_of y * den_of x) (den_of x) (den_of y) (2 ^ 1023) cap) in
         let w : T (plain (round binary64 false a c)) = plain_of_value (round binary64 false a c) _ (2 ^ low binary64) r.value in
         let n = root_near (round binary64 false a c) w (round-fits binary64 false a c) in
         (round binary64 false a c, record { plain_v = w; plain_r = rw e n.0; near = rw e n.1; is = inl (h tt, refl) })

@@ -10,7 +10,7 @@ use mathlib.Core.Bool.{Bool, true, false, not, ◌&&◌, cond}
 use lib.IntN.{ℤ, pos}
 use lib.Dec.{T, leb, ltb, eqb, lit≤, leb→le, nleb→lt, eqb→eq, le→leb, ltb→lt, lt→ltb}
 use lib.Ieee.{Float, nan, inf, fin, up, down, eq, lt, le, ne, of_bits}
-use lib.Ieee.Positive.{num as num_of, den as denOf, den_pos, positive, le→cross}
+use lib.Ieee.Positive.{num as num_of, den as den_of, den_pos, positive, le→cross}
 use Rattle.deviation.specs.declared.Deviation.{Deviation}
 use Rattle.deviation.specs.Const.{count_limit}
 use Rattle.deviation.specs.Statistics as Statistics
@@ -37,7 +37,7 @@ pick_either true A B f g = f tt
 pick_either false A B f g = g tt
 
 sized_pos : (x : Float) → Sized x → 0 < num_of x
-sized_pos x w = num_pos (num_of x) (denOf x) (2 ^ 30) (den_pos x) (sized_range x w).least
+sized_pos x w = num_pos (num_of x) (den_of x) (2 ^ 30) (den_pos x) (sized_range x w).least
 
 split_and : (a b : Bool) → T (not a && not b) → T (not a) × T (not b)
 split_and true b h = absurd h

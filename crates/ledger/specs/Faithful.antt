@@ -6,7 +6,7 @@ use Rattle.std.specs.Float.Ieee.{lt, eq}
 use Rattle.basicthresholder.specs.Const.{zero32, z_factor_default}
 use Rattle.basicthresholder.specs.declared.BasicThresholder.{BasicThresholder}
 use Rattle.basicthresholder.specs.Grades.{threshold, primary_grade, primary_threshold_and_grade}
-use Rattle.basicthresholder.specs.Updates.{fresh_thresholder, primary_counted, with_zFactor}
+use Rattle.basicthresholder.specs.Updates.{fresh_thresholder, primary_counted, with_z_factor}
 use Rattle.ledger.specs.Fractions.{Fraction, times, divided_by, Le, fraction_of, plus_zero}
 use Rattle.ledger.specs.Ledger.{Ledger, blank, enter, mean, Under, At, Over, AtOrUnder, AtOrOver}
 use Rattle.ledger.specs.Statement.{most_readings, Told, Shown, Demand3, accepted, Sizes, InBounds, Judge, showed}
@@ -95,7 +95,7 @@ in_turn (suc n) = one ∷ two ∷ in_turn n
 
 -- A new thresholder, its z set to 3.
 abbrev pub at_three : Bool → BasicThresholder
-at_three adjust = with_zFactor (fresh_thresholder plus_zero adjust) three
+at_three adjust = with_z_factor (fresh_thresholder plus_zero adjust) three
 
 abbrev pub takes : (BasicThresholder → Float → BasicThresholder) → BasicThresholder → List Float → BasicThresholder
 takes update t [] = t

@@ -1,7 +1,7 @@
 -- Fractions over whole numbers: none is negative, none is rounded, none is reduced. Definitions only.
 use Rattle.std.specs.Prelude.{◌≡◌, Bool, true, false, cond, ℕ, ◌+◌, ◌-◌, ◌*◌, ◌≤◌, ◌<◌, pos, leb, Float}
 use Rattle.std.specs.Float.{nan, inf, fin}
-use Rattle.std.specs.Float.Ieee.Positive.{num as num_of, den as denOf}
+use Rattle.std.specs.Float.Ieee.Positive.{num as num_of, den as den_of}
 
 pub record Fraction : Type 0 where
   pub num : ℕ
@@ -51,7 +51,7 @@ larger x y = cond (leb (x.num * y.den) (y.num * x.den)) y x
 
 -- The exact fraction that a float's bits mean, its sign left out: m * 2 ^ e for the float `fin s m e`. Only floats that are `plain` are read so, and zeros.
 abbrev pub fraction_of : Float → Fraction
-fraction_of x = over (num_of x) (denOf x)
+fraction_of x = over (num_of x) (den_of x)
 
 -- A number, not NaN and no infinity, with the sign plus.
 abbrev pub plain : Float → Bool

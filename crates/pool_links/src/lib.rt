@@ -1,6 +1,7 @@
 // What is decided of a record pool by numbers alone: which drawer numbers there are, whether the chains' lengths agree, and the links that an opening or a removal
 // leaves.
 #![tactic(auto)]
+
 ghost use Rattle.std.specs.Prelude.{◌≡◌, cond, ◌-◌, eqb};
 ghost use Rattle.pool_links.specs.Numbers as Numbers;
 ghost use Rattle.pool_links.specs.Links as Links;

@@ -8,7 +8,7 @@ use lib.IntN.{ℤ, pos, negsuc}
 use lib.Ieee.{Float, nan, inf, fin, eq, ne, is_nan}
 use borrow.Author.Tests.{eq-eqb}
 use Rattle.deviation.specs.declared.Deviation.{Deviation}
-use Rattle.basicthresholder.specs.Updates.{with_zFactor, with_absolute_threshold, with_initial_threshold, with_score_differencing}
+use Rattle.basicthresholder.specs.Updates.{with_z_factor, with_absolute_threshold, with_initial_threshold, with_score_differencing}
 use Rattle.basicthresholder.specs.declared.BasicThresholder.{BasicThresholder}
 use Rattle.predictorcorrector.specs.State.{with_thresholder, z_factor_set, lower_threshold_set, initial_threshold_set}
 use Rattle.predictorcorrector.specs.declared.PredictorCorrector.{PredictorCorrector}
@@ -68,7 +68,7 @@ state_same s = thresholder_told s s.basic_thresholder ∙ thresholder_same s.bas
 
 -- ---- the settings.
 module _ (t : BasicThresholder) (x : Float) where
-  z_factor_told : same_thresholder t (with_zFactor t x) ≡ same_float t.z_factor x
+  z_factor_told : same_thresholder t (with_z_factor t x) ≡ same_float t.z_factor x
   unfolding same_thresholder
   z_factor_told = simp (float_same, whole_same, deviation_same, flag_same)
 
@@ -91,7 +91,7 @@ module _ (x : Float) (ys : List ℕ) where
 
   pub z_factor_compared : same_state held (z_factor_set held x) ≡ same_float (f32_at ys z_factor_at) x
   unfolding decode_state decode_thresholder
-  z_factor_compared = thresholder_told held (with_zFactor held.basic_thresholder x) ∙ z_factor_told held.basic_thresholder x
+  z_factor_compared = thresholder_told held (with_z_factor held.basic_thresholder x) ∙ z_factor_told held.basic_thresholder x
 
   pub lower_threshold_compared : same_state held (lower_threshold_set held x) ≡ same_float (f32_at ys absolute_threshold_at) x
   unfolding decode_state decode_thresholder

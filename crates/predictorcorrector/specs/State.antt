@@ -9,7 +9,7 @@ use Rattle.deviation.specs.Const.{zero64, count_limit}
 use Rattle.deviation.specs.Statistics.{fresh, is_discount, counted, reset}
 use Rattle.deviation.specs.declared.Deviation.{Deviation}
 use Rattle.basicthresholder.specs.Const.{zero32}
-use Rattle.basicthresholder.specs.Updates.{fresh_thresholder, counts_ok, update_primary, update, with_zFactor, with_absolute_threshold, with_initial_threshold, set_score_differencing}
+use Rattle.basicthresholder.specs.Updates.{fresh_thresholder, counts_ok, update_primary, update, with_z_factor, with_absolute_threshold, with_initial_threshold, set_score_differencing}
 use Rattle.basicthresholder.specs.declared.BasicThresholder.{BasicThresholder}
 use Rattle.predictorcorrector.specs.Lists.{changed, stepped, row_fits, list_countable}
 use Rattle.predictorcorrector.specs.declared.PredictorCorrector.{PredictorCorrector}
@@ -65,7 +65,7 @@ new discount auto base =
 
 -- ---- setters
 abbrev pub z_factor_set : PredictorCorrector → Float → PredictorCorrector
-z_factor_set s x = with_thresholder s (with_zFactor s.basic_thresholder x)
+z_factor_set s x = with_thresholder s (with_z_factor s.basic_thresholder x)
 
 -- The chain's lower threshold is the thresholder's absolute threshold.
 abbrev pub lower_threshold_set : PredictorCorrector → Float → PredictorCorrector
@@ -140,7 +140,7 @@ height_score strategy score = cond (is_height strategy) score zero32
 
 -- Every accepted reading with a score enters the statistics once. The height strategy caps the score at 2, DISTANCE does not.
 unfoldable pub update_score : BasicThresholder → ScoringStrategy → Float → Float → ScoringStrategy → Float → BasicThresholder
-update_score t strategy score corrected_score lastStrategy lastScore =
+update_score t strategy score corrected_score last_strategy last_score =
     cond (is_height strategy)
-    (update t score corrected_score (height_score lastStrategy lastScore)).thresholder
+    (update t score corrected_score (height_score last_strategy last_score)).thresholder
     (update_primary t score).thresholder

@@ -1,5 +1,6 @@
 // A scan over places that ends at its first hit: how many places it reads, for any test.
 #![tactic(auto)]
+
 ghost use Rattle.std.specs.Prelude.{◌≡◌, eqb};
 ghost use Rattle.scan.specs.Read.{read_until, ReadLaws};
 

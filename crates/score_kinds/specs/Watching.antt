@@ -5,7 +5,7 @@ use Rattle.std.specs.Float.Ieee.{of_bits, round}
 use Rattle.std.specs.Float.{binary32, binary64}
 use Rattle.basicthresholder.specs.Const.{zero32}
 use Rattle.basicthresholder.specs.Grades.{primary_threshold_and_grade}
-use Rattle.basicthresholder.specs.Updates.{fresh_thresholder, with_zFactor, update_primary}
+use Rattle.basicthresholder.specs.Updates.{fresh_thresholder, with_z_factor, update_primary}
 use Rattle.basicthresholder.specs.declared.BasicThresholder.{BasicThresholder}
 use Rattle.basicthresholder.specs.declared.Graded.{Graded}
 use Rattle.score_kinds.specs.declared.Kind.{Kind}
@@ -20,7 +20,7 @@ unfolding three32 of_bits round
 constants = refl
 
 unfoldable pub settings : BasicThresholder
-settings = with_zFactor (fresh_thresholder (of_bits binary64 0) false) three32
+settings = with_z_factor (fresh_thresholder (of_bits binary64 0) false) three32
 
 -- What a score comes to: zero, of either sign, is skipped; any other is judged by threshold and opening grade before it is counted, and quiet if that grade is 0.
 unfoldable pub by_grade : Graded → Kind

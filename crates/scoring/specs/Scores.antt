@@ -19,14 +19,14 @@ use Rattle.predictorcorrector.specs.declared.PredictorCorrector.{PredictorCorrec
 
 -- Readings since the last anomaly; without one, since the start.
 unfoldable pub gap_of : ℕ → Bool → ℕ → ℕ
-gap_of seen hasAnomaly lastSeen = seen - cond hasAnomaly lastSeen 0
+gap_of seen has_anomaly last_seen = seen - cond has_anomaly last_seen 0
 
 abbrev pub gap : Reading → LastDescriptor → ℕ
 gap r l = gap_of r.values_seen l.has_anomaly l.anomaly.values_seen
 
 -- The last anomaly is at most a shingle of readings back: in the shingle, or just out of it. The Rust asks for a gap above 0 besides, which every accepted reading has.
 unfoldable pub is_recent : Bool → ℕ → ℕ → Bool
-is_recent hasAnomaly gap shingle = hasAnomaly && nat_le gap shingle
+is_recent has_anomaly gap shingle = has_anomaly && nat_le gap shingle
 
 abbrev pub recent : Reading → LastDescriptor → Bool
 recent r l = is_recent l.has_anomaly (gap r l) r.shingle_size
@@ -76,10 +76,10 @@ abbrev pub auto_explained : Bool → (box point : List Float) → ℕ → (scale
 auto_explained auto box point start scale neighbours = auto && explained_by_conditional_field box point start scale neighbours (length point)
 
 -- The last anomaly is in the shingle, and the reading does not trigger anew.
-abbrev pub explained_by_last : Reading → LastDescriptor → (high low idealHigh idealLow : List Float) → Float → Bool
-explained_by_last r l high low idealHigh idealLow threshold =
+abbrev pub explained_by_last : Reading → LastDescriptor → (high low ideal_high ideal_low : List Float) → Float → Bool
+explained_by_last r l high low ideal_high ideal_low threshold =
     nat_lt (gap r l) r.shingle_size
-    && not (trigger high low (gap r l) r.base_dimension idealHigh idealLow l.has_anomaly l.anomaly.has_attribution l.anomaly.score threshold)
+    && not (trigger high low (gap r l) r.base_dimension ideal_high ideal_low l.has_anomaly l.anomaly.has_attribution l.anomaly.score threshold)
 
 -- What a raised reading leaves in the three buffers, e (the point with its expected row), h and w (normalised attribution) at entry and e', h' and w' at exit.
 pub record Written (r : Reading) (start : ℕ) (point row high low e h w e' h' w' : List Float) : Type 0 where

@@ -25,14 +25,14 @@ no_wrap base most p room line b good =
     ap (λ (n : ℕ). n % 2 ^ 64) (sym (number_snoc base 0 line b)) ∙ mod-eq_of_lt (lt_of_lt_of_le (below (line ++ (b ∷ [])) good) l)
 
 -- The line's base and most digits, the run in it, its number where it is bad, and what is due for a list of lines that begins with it.
-module _ (base most : ℕ) (inLine : ℕ → ℕ → Run) (bad : ℕ) (due : List (List ℕ) → List ℕ)
+module _ (base most : ℕ) (in_line : ℕ → ℕ → Run) (bad : ℕ) (due : List (List ℕ) → List ℕ)
     (positive : 0 < base) (room : base ^ most ≤ 2 ^ 64)
-    (inside : (n digits b : ℕ) → (b ≡ 10 → ⊥) → step (inLine n digits) b ≡ cond (ltb digits most && is_digit base b) (inLine (pushed n base (digit_of b)) (digits + 1)) (Bad bad))
-    (at_end : (line bs : List ℕ) → Good base most line → closing (fed (step (inLine (number base 0 line) (length line)) 10) bs) ≡ due (line ∷ lines_from [] bs))
-    (at_last : (line : List ℕ) → Good base most line → closing (inLine (number base 0 line) (length line)) ≡ due (lines_from line []))
+    (inside : (n digits b : ℕ) → (b ≡ 10 → ⊥) → step (in_line n digits) b ≡ cond (ltb digits most && is_digit base b) (in_line (pushed n base (digit_of b)) (digits + 1)) (Bad bad))
+    (at_end : (line bs : List ℕ) → Good base most line → closing (fed (step (in_line (number base 0 line) (length line)) 10) bs) ≡ due (line ∷ lines_from [] bs))
+    (at_last : (line : List ℕ) → Good base most line → closing (in_line (number base 0 line) (length line)) ≡ due (lines_from line []))
     (faulty : (line : List ℕ) (rest : List (List ℕ)) → Faulty base most line → due (line ∷ rest) ≡ bad_line bad) where
   abbrev here : List ℕ → Run
-  here line = inLine (number base 0 line) (length line)
+  here line = in_line (number base 0 line) (length line)
 
   -- A faulty line is bad, whatever follows.
   faulty_line : (bs : List ℕ) (a : ℕ) (line : List ℕ) → Faulty base most (a ∷ line) → due (lines_from (a ∷ line) bs) ≡ bad_line bad
@@ -50,7 +50,7 @@ module _ (base most : ℕ) (inLine : ℕ → ℕ → Run) (bad : ℕ) (due : Lis
   one_digit : (line : List ℕ) (b : ℕ) → (b ≡ 10 → ⊥) → Good base most (line ++ (b ∷ [])) → ltb (length line) most ≡ true → is_digit base b ≡ true → step (here line) b ≡ here (line ++ (b ∷ []))
   one_digit line b i g t d =
       inside (number base 0 line) (length line) b i
-      ∙ simp (t, d) (λ k. inLine (no_wrap base most positive room line b g k) (sym (length-append line (b ∷ [])) k))
+      ∙ simp (t, d) (λ k. in_line (no_wrap base most positive room line b g k) (sym (length-append line (b ∷ [])) k))
 
   -- A byte inside a line, the rest of the input settled for a line that is still good.
   inner : (bs line : List ℕ) (b : ℕ) → (b ≡ 10 → ⊥) → (Good base most (line ++ (b ∷ [])) → closing (fed (here (line ++ (b ∷ []))) bs) ≡ due (lines_from (line ++ (b ∷ [])) bs))

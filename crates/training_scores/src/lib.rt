@@ -1,5 +1,6 @@
 // The scores of the training load (document 02, A6): a linear congruential generator of 64 bits, of whose state the top 24 are a score from 0 to below 1.
 #![tactic(auto)]
+
 ghost use Rattle.std.specs.Prelude.{◌≡◌, ◌*◌, ◌%◌, ◌^◌};
 ghost use Rattle.training_scores.specs.Recurrence as Recurrence;
 ghost use Rattle.training_scores.specs.Exact.{ExactScores};

@@ -1,5 +1,6 @@
 // The chain's small enums, in the order of trcf/types.rs, and the refusals: document 01's eight, then document 02's.
 #![tactic(auto)]
+
 ghost use Rattle.std.specs.Prelude.{◌≡◌};
 ghost use Rattle.types.specs.Refusals as Refusals;
 ghost use Rattle.types.specs.Codes as Codes;

@@ -64,9 +64,9 @@ path_deviation point start index base differenced =
 
 -- An edge of the box: the larger of path gap and noise gap, and the shift's share on top.
 unfoldable pub edge_of : Float → Float → Float → Float → Float
-edge_of scale pathGap shift deviation =
+edge_of scale path_gap shift deviation =
     Ieee.add binary32
-    (maxf32 (Ieee.mul binary32 scale pathGap) (Ieee.mul binary32 noise_factor deviation))
+    (maxf32 (Ieee.mul binary32 scale path_gap) (Ieee.mul binary32 noise_factor deviation))
     (Ieee.mul binary32 (Ieee.mul binary32 precision scale) (absf32 shift))
 
 -- Edge y of a box of `base` edges.

@@ -1,5 +1,6 @@
 // util.rs as far as the decision chain uses it.
 #![tactic(auto)]
+
 ghost use Rattle.std.specs.Prelude.{◌≡◌};
 ghost use Rattle.util.specs.Util as Util;
 

@@ -90,20 +90,20 @@ module _ (s : PredictorCorrector) (r : Reading) (l : LastDescriptor) (x : Float)
   entered_enters true = refl
   entered_enters false = refl
 
-  module _ (newest rowExpected : List Float) where
+  module _ (newest row_expected : List Float) where
     abbrev fit : Bool
-    fit = s.auto_adjust && (row_fits s.base_dimension s.deviations_actual newest && row_fits s.base_dimension s.deviations_expected rowExpected)
+    fit = s.auto_adjust && (row_fits s.base_dimension s.deviations_actual newest && row_fits s.base_dimension s.deviations_expected row_expected)
 
-    counted_enters : (grows : Bool) → InPlace.counted s (InPlace.scored s r l x) grows newest rowExpected ≡ entered (cond grows (run_grown (candidate_counted s newest rowExpected)) (candidate_counted s newest rowExpected)) r l x
+    counted_enters : (grows : Bool) → InPlace.counted s (InPlace.scored s r l x) grows newest row_expected ≡ entered (cond grows (run_grown (candidate_counted s newest row_expected)) (candidate_counted s newest row_expected)) r l x
     unfolding candidate_counted entered update_score run_grown run_after
     counted_enters true = go fit refl
       where
-        go : (b : Bool) → fit ≡ b → InPlace.counted s (InPlace.scored s r l x) true newest rowExpected ≡ entered (run_grown (candidate_counted s newest rowExpected)) r l x
+        go : (b : Bool) → fit ≡ b → InPlace.counted s (InPlace.scored s r l x) true newest row_expected ≡ entered (run_grown (candidate_counted s newest row_expected)) r l x
         go true h = rw h
         go false h = rw h
     counted_enters false = go fit refl
       where
-        go : (b : Bool) → fit ≡ b → InPlace.counted s (InPlace.scored s r l x) false newest rowExpected ≡ entered (candidate_counted s newest rowExpected) r l x
+        go : (b : Bool) → fit ≡ b → InPlace.counted s (InPlace.scored s r l x) false newest row_expected ≡ entered (candidate_counted s newest row_expected) r l x
         go true h = rw h
         go false h = rw h
 

@@ -13,7 +13,7 @@ use Rattle.deviation.specs.declared.Deviation.{Deviation}
 use Rattle.types.specs.declared.Refusal.TheVariants.{Count}
 use Rattle.types.specs.declared.Answer.TheVariants as Answers
 use Rattle.deviation.specs.declared.Updated.{Updated}
-use Rattle.deviation.specs.Statistics.{counted as oneCounted, update, next, countable, one_more}
+use Rattle.deviation.specs.Statistics.{counted as one_counted, update, next, countable, one_more}
 use Rattle.deviation.specs.Const.{count_limit}
 use Rattle.basicthresholder.specs.Const.{zero32}
 use Rattle.basicthresholder.specs.declared.BasicThresholder.{BasicThresholder}
@@ -76,7 +76,7 @@ one_more_lem : (k : ℕ) (z : ℤ) → AtMost k z → AtMost (suc k) (one_more z
 unfolding one_more
 one_more_lem k z h = either (countable z) (suc k) (z +ℤ pos 1) z (plus_one k z h) (more k z h)
 
-score_more : (k : ℕ) (d : Deviation) (x : Float) → AtMost k d.count → AtMost (suc k) (oneCounted d x).count
+score_more : (k : ℕ) (d : Deviation) (x : Float) → AtMost k d.count → AtMost (suc k) (one_counted d x).count
 unfolding update next
 score_more k d x h = go (countable d.count)
   where
@@ -88,7 +88,7 @@ gap_more : (k : ℕ) (d : Deviation) (gap : Float) → AtMost k d.count → AtMo
 unfolding counted_gap
 gap_more k d gap h = go (F32.◌>◌ gap zero32)
   where
-    go : (t : Bool) → AtMost (suc k) (cond {A = Deviation} t (oneCounted d gap) d).count
+    go : (t : Bool) → AtMost (suc k) (cond {A = Deviation} t (one_counted d gap) d).count
     go true = score_more k d gap h
     go false = more k d.count h
 

@@ -1,5 +1,6 @@
 // What a run of the export watch decides of a row by numbers alone: whether it is of the watched drawer, whether that drawer may have one more, and its number.
 #![tactic(auto)]
+
 ghost use Rattle.std.specs.Prelude.{◌≡◌};
 ghost use Rattle.watched_rows.specs.Deciding as Deciding;
 

@@ -1,6 +1,6 @@
 use mathlib.Core.Path.{sym, ◌∙◌}
 use Rattle.basicthresholder.specs.declared.BasicThresholder.{BasicThresholder}
-use Rattle.basicthresholder.specs.Updates.{with_zFactor}
+use Rattle.basicthresholder.specs.Updates.{with_z_factor}
 use Rattle.c_chain.proofs.Steps.{chain_set_lem, chain_kept}
 use borrow.Author.Rules.{rules}
 use Rattle.c_chain.proofs.krcf_chain_set_z_factor.Statement.{statement}
@@ -28,7 +28,7 @@ same_length : tie.Need-same-length
 same_length c = search rules
 
 returns : tie.Need-returns
-returns c = chain_set_lem c.before.before.before.before.before.before.before.before.before.before.before.before.args.state.now _ (sym c.before.before.before.before.before.before.before.before.before.read-standing.ensures ∙ c.before.before.before.before.before.before.before.k.given.1) (λ (t : BasicThresholder). with_zFactor t c.before.before.before.before.before.before.before.before.before.before.before.before.args.factor) _ _ c.before.before.before.set_z_factor.ensures c.before.before.write-Kept.ensures
+returns c = chain_set_lem c.before.before.before.before.before.before.before.before.before.before.before.before.args.state.now _ (sym c.before.before.before.before.before.before.before.before.before.read-standing.ensures ∙ c.before.before.before.before.before.before.before.k.given.1) (λ (t : BasicThresholder). with_z_factor t c.before.before.before.before.before.before.before.before.before.before.before.before.args.factor) _ _ c.before.before.before.set_z_factor.ensures c.before.before.write-Kept.ensures
 
 same-length-2 : tie.Need-same-length-2
 same-length-2 c = search rules

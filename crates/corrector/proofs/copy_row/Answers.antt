@@ -1,0 +1,10 @@
+use Rattle.std.proofs.Common.{◌≡◌, ℕ, ◌-◌, ◌≤◌, [], length, ap, ◌∙◌, arith, length-set, rules}
+use Rattle.ieee.specs.F32.{zero32}
+use Rattle.attributors.proofs.Laws.{at_end, length_padded}
+use Rattle.corrector.proofs.Rows.{row_of, row_more}
+use Rattle.corrector.proofs.copy_row.Goals as goal
+
+pub loop-i-preserved : goal.loop-i-preserved
+loop-i-preserved c =
+    let a = c.args in
+    (omega arith, simp length-set c.loop-i.invariant.1, row_more _ a.point.now a.start c.loop-i.i (omega arith) c.loop-i.invariant.2)

@@ -1,0 +1,7 @@
+use Rattle.csv_fields.specs.Pushing.{score}
+use borrow.Author.Rules.{rules}
+use Rattle.csv_fields.proofs.score.Goals as goal
+
+pub returns : goal.returns
+unfolding score
+returns c = c.to_f32.ensures

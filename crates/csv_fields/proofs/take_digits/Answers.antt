@@ -1,0 +1,20 @@
+use Prim.Native.Nat.{◌-◌}
+use mathlib.Core.Path.{◌≡◌, refl, sym, ◌∙◌}
+use lib.ListN.{length, drop}
+use borrow.Author.Rules.{rules}
+use Rattle.csv_fields.specs.Pushing.{digits_from}
+use Rattle.csv_fields.proofs.Numbers.{digit_from}
+use Rattle.csv_fields.proofs.InOneGo.{digit_more, digit_last, digit_none}
+use Rattle.csv_fields.proofs.take_digits.Goals as goal
+
+pub grown-number-requires : goal.grown-number-requires
+grown-number-requires c = digit_from _ (sym c.is_digit.ensures ∙ c.if-is_digit.true)
+
+pub loop-i-preserved : goal.loop-i-preserved
+loop-i-preserved c = rw c.grown-number.ensures (sym (digit_more c.loop-i.number c.args.input.now c.loop-i.i c.loop-i-test.true (sym c.is_digit.ensures ∙ c.if-is_digit.true)) ∙ c.loop-i.invariant)
+
+pub returns-in-loop-i : goal.returns-in-loop-i
+returns-in-loop-i c = sym (digit_last c.loop-i.number c.args.input.now c.loop-i.i c.loop-i-test.true (sym c.is_digit.ensures ∙ c.if-is_digit.false)) ∙ c.loop-i.invariant
+
+pub returns : goal.returns
+returns c = sym (digit_none c.loop-i.number c.args.input.now c.loop-i.i c.loop-i-test.false) ∙ c.loop-i.invariant

@@ -1,0 +1,7 @@
+use Rattle.csv_rows.specs.Scanning.{begin}
+use borrow.Author.Rules.{rules}
+use Rattle.csv_rows.proofs.begin.Goals as goal
+
+pub returns : goal.returns
+unfolding begin
+returns c = c.begin_row.ensures

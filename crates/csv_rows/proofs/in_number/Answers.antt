@@ -1,0 +1,7 @@
+use Rattle.csv_rows.specs.Steps.{in_number}
+use borrow.Author.Rules.{rules}
+use Rattle.csv_rows.proofs.in_number.Goals as goal
+
+pub returns : goal.returns
+unfolding in_number
+returns c = simp c.is_plain.ensures

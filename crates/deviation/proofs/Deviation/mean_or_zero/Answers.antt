@@ -1,0 +1,7 @@
+use mathlib.Core.Path.{ap, ◌∙◌}
+use Rattle.deviation.specs.Statistics.{or_zero}
+use Rattle.deviation.proofs.Measuring.{or_zero_mean}
+use Rattle.deviation.proofs.Deviation.mean_or_zero.Goals as goal
+
+pub returns : goal.returns
+returns c = c.or_zero.ensures ∙ ap or_zero c.mean.ensures ∙ or_zero_mean c.args.self

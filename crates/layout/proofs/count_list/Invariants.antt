@@ -1,0 +1,14 @@
+use Rattle.std.proofs.Common.{◌≡◌, ℕ, ◌+◌, ◌-◌, ◌≤◌, length, refl, ap, ◌∙◌, le_antisymm, arith, rules}
+use lib.Ieee.{nan}
+use Rattle.deviation.specs.Statistics.{counted}
+use Rattle.predictorcorrector.specs.Lists.{stepped}
+use Rattle.layout.specs.Places.{expected_at, list_length}
+use Rattle.layout.specs.Chain.{list_at, list_over}
+use Rattle.layout.proofs.InPlace.{counted_turn}
+use Rattle.layout.proofs.count_list.Given as goal
+
+abbrev pub invariant-loop-i : goal.invariant-loop-i
+invariant-loop-i l = (l.i ≤ l.n) × (l.n ≤ 16) × (l.at ≤ expected_at) × (l.at + list_length ≤ length l.initial.out) × (length l.out ≡ length l.initial.out) × (l.out ≡ list_over l.initial.out l.at (stepped counted l.n (list_at l.initial.out l.at l.n) l.row) l.i) × (l.n ≤ length l.row)
+
+abbrev pub decreases-loop-i : goal.decreases-loop-i
+decreases-loop-i l = l.n - l.i

@@ -1,0 +1,15 @@
+use Rattle.std.proofs.Common.{sym, ◌∙◌, rules, eq-eqb, ne_eqb}
+use Rattle.layout.specs.Chain.{read_state}
+use Rattle.layout.proofs.read_state.Goals as goal
+
+pub returns-then-state_codes_ok : goal.returns-then-state_codes_ok
+unfolding read_state
+returns-then-state_codes_ok c = simp (eq-eqb _ _ c.if-bytes-eq-STATE_LENGTH.true, sym c.state_codes_ok.ensures ∙ c.if-state_codes_ok.true, c.state_of.ensures)
+
+pub returns-then-bytes-eq-STATE_LENGTH : goal.returns-then-bytes-eq-STATE_LENGTH
+unfolding read_state
+returns-then-bytes-eq-STATE_LENGTH c = simp (eq-eqb _ _ c.if-bytes-eq-STATE_LENGTH.true, sym c.state_codes_ok.ensures ∙ c.if-state_codes_ok.false, c.unread.ensures)
+
+pub returns : goal.returns
+unfolding read_state
+returns c = simp (ne_eqb _ _ c.if-bytes-eq-STATE_LENGTH.false, c.unread-2.ensures)

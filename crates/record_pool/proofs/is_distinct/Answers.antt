@@ -1,0 +1,16 @@
+use borrow.Author.Rules.{rules}
+use Rattle.record_pool.proofs.Apart.{SoFar, so_far_none, so_far_more, twice, all_apart}
+use lib.ListN.{length}
+use native.Mathlib.Omega.{arith}
+use Prim.Native.Nat.{◌≤◌, ◌-◌}
+use mathlib.Core.Path.{◌≡◌, refl}
+use Rattle.record_pool.proofs.is_distinct.Goals as goal
+
+pub returns-then-is_taken : goal.returns-then-is_taken
+returns-then-is_taken c = twice c.loop-k.taken _ _ _ _ _ c.loop-k-test.true c.requires c.loop-k.invariant.1 refl c.is_taken.ensures c.if-is_taken.true
+
+pub loop-k-preserved : goal.loop-k-preserved
+loop-k-preserved c = (omega arith, c.loop-k.invariant.1, search rules, so_far_more c.loop-k.taken _ _ _ _ _ c.loop-k.invariant.2 (omega arith) refl refl c.loop-k.invariant.3 c.is_taken.ensures c.if-is_taken.false)
+
+pub returns : goal.returns
+returns c = all_apart _ _ _ _ c.loop-k.invariant.0 c.loop-k-test.false c.loop-k.invariant.3
