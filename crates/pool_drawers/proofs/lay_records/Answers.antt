@@ -1,0 +1,15 @@
+use borrow.Author.Rules.{rules}
+use Rattle.pool_drawers.specs.Drawers.{laid_records}
+use Rattle.pool_drawers.proofs.Calls.{laid_more, laid_all}
+use lib.ListN.{length}
+use native.Mathlib.Omega.{arith}
+use Prim.Native.Nat.{◌≤◌, ◌-◌}
+use mathlib.Core.Path.{◌≡◌, refl}
+use Rattle.pool_drawers.proofs.lay_records.Goals as goal
+
+pub loop-k-init : goal.loop-k-init
+unfolding laid_records
+loop-k-init c = (omega arith, c.requires, refl)
+
+pub loop-k-preserved : goal.loop-k-preserved
+loop-k-preserved c = (omega arith, search rules, laid_more _ _ _ _ _ c.loop-k.invariant.2 c.after.ensures c.put_next.ensures)

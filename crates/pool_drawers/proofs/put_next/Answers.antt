@@ -1,0 +1,9 @@
+use Rattle.record_pool.specs.Pool.{with_next}
+use Prim.Native.Nat.{◌-◌}
+use mathlib.Core.Path.{◌∙◌}
+use borrow.Author.Rules.{rules}
+use Rattle.pool_drawers.proofs.put_next.Goals as goal
+
+pub returns : goal.returns
+unfolding with_next
+returns c = c.put4.ensures ∙ simp c.place.ensures.0
