@@ -12,7 +12,7 @@ use Rattle.score_rows.specs.Steps.{Put}
 use Rattle.score_rows.proofs.Bytes.{put_none}
 use Rattle.score_rows.proofs.Feeding.{still_run, still_all}
 use Rattle.export_bytes.specs.Feeding.{run_of, step, said, fed, printed}
-use Rattle.export_bytes.proofs.Parts.{not_true, not_false, over_step, over_said, next_more, passed_over_lem, turn}
+use Rattle.export_bytes.proofs.Parts.{over_step, over_said, next_more, passed_over_lem, turn}
 use Prim.Native.Nat.{ℕ}
 use Rattle.export_rows.specs.declared.Line.TheVariants as Lines
 use Rattle.export_rows.specs.Taking as Taking
