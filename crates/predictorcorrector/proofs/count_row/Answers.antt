@@ -1,4 +1,4 @@
-use Rattle.std.proofs.Common.{◌≡◌, ℕ, ◌-◌, ◌≤◌, length, refl, ap, ◌∙◌, le_antisymm, arith, rules}
+use Rattle.std.proofs.Common.{◌≡◌, length, refl, arith, rules}
 use lib.Ieee.{nan}
 use Rattle.deviation.specs.Statistics.{counted}
 use Rattle.predictorcorrector.specs.Lists.{stepped}

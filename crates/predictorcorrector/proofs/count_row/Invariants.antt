@@ -1,8 +1,6 @@
-use Rattle.std.proofs.Common.{◌≡◌, ℕ, ◌-◌, ◌≤◌, length, refl, ap, ◌∙◌, le_antisymm, arith, rules}
-use lib.Ieee.{nan}
+use Rattle.std.proofs.Common.{◌≡◌, ◌-◌, ◌≤◌, length}
 use Rattle.deviation.specs.Statistics.{counted}
 use Rattle.predictorcorrector.specs.Lists.{stepped}
-use Rattle.predictorcorrector.proofs.Rows.{stepped_more}
 use Rattle.predictorcorrector.proofs.count_row.Given as goal
 
 abbrev pub invariant-loop-i : goal.invariant-loop-i

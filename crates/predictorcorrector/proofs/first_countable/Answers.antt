@@ -1,4 +1,4 @@
-use Rattle.std.proofs.Common.{◌≡◌, ℕ, ◌+◌, ◌-◌, ◌≤◌, Bool, ◌&&◌, length, drop, sym, ap, ◌∙◌, arith, rules}
+use Rattle.std.proofs.Common.{◌≡◌, ◌+◌, ◌-◌, Bool, ◌&&◌, length, drop, sym, ap, ◌∙◌, arith, rules}
 use Rattle.predictorcorrector.specs.Lists.{first_countable}
 use Rattle.predictorcorrector.proofs.Rows.{countable_next, countable_end}
 use Rattle.predictorcorrector.proofs.first_countable.Goals as goal

@@ -1,6 +1,5 @@
-use Rattle.std.proofs.Common.{◌≡◌, ℕ, ◌+◌, ◌-◌, ◌≤◌, Bool, ◌&&◌, length, drop, sym, ap, ◌∙◌, arith, rules}
+use Rattle.std.proofs.Common.{◌≡◌, ◌-◌, ◌≤◌, drop}
 use Rattle.predictorcorrector.specs.Lists.{first_countable}
-use Rattle.predictorcorrector.proofs.Rows.{countable_next, countable_end}
 use Rattle.predictorcorrector.proofs.first_countable.Given as goal
 
 abbrev pub invariant-loop-i : goal.invariant-loop-i

@@ -1,5 +1,5 @@
 use Rattle.deviation.specs.Const.{zero64}
-use Rattle.std.proofs.Common.{◌≡◌, ℕ, ◌-◌, ◌≤◌, List, length, replicate, refl, ap, ◌∙◌, ap₂, le_antisymm, arith, rules}
+use Rattle.std.proofs.Common.{ℕ, List, replicate, refl, ap, ◌∙◌, ap₂, le_antisymm, arith, rules}
 use Rattle.deviation.specs.declared.Deviation.{Deviation}
 use Rattle.deviation.specs.Statistics.{fresh}
 use Rattle.predictorcorrector.specs.Lists.{changed}

@@ -1,10 +1,7 @@
-use Rattle.deviation.specs.Const.{zero64}
-use Rattle.std.proofs.Common.{◌≡◌, ℕ, ◌-◌, ◌≤◌, List, length, replicate, refl, ap, ◌∙◌, ap₂, le_antisymm, arith, rules}
+use Rattle.std.proofs.Common.{◌≡◌, ◌-◌, ◌≤◌, length}
 use Rattle.deviation.specs.declared.Deviation.{Deviation}
 use Rattle.deviation.specs.Statistics.{fresh}
 use Rattle.predictorcorrector.specs.Lists.{changed}
-use Rattle.predictorcorrector.specs.State.{fresh_list}
-use Rattle.predictorcorrector.proofs.Rows.{changed_more}
 use Rattle.predictorcorrector.proofs.fresh_row.Given as goal
 
 abbrev pub invariant-loop-i : goal.invariant-loop-i

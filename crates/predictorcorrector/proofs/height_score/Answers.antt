@@ -1,4 +1,4 @@
-use Rattle.std.proofs.Common.{sym, ◌∙◌, rules}
+use Rattle.std.proofs.Common.{sym, ◌∙◌}
 use Rattle.predictorcorrector.specs.State.{height_score}
 use Rattle.predictorcorrector.proofs.height_score.Goals as goal
 

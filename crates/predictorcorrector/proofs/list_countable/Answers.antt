@@ -1,4 +1,4 @@
-use Rattle.std.proofs.Common.{rules, le-leb}
+use Rattle.std.proofs.Common.{le-leb}
 use borrow.Author.Tests.{lt-leb}
 use Rattle.predictorcorrector.specs.Lists.{list_countable}
 use Rattle.predictorcorrector.proofs.list_countable.Goals as goal

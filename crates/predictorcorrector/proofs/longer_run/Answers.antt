@@ -1,4 +1,4 @@
-use Rattle.std.proofs.Common.{rules, le-leb}
+use Rattle.std.proofs.Common.{le-leb}
 use borrow.Author.Tests.{lt-leb}
 use Rattle.predictorcorrector.specs.State.{longer_run}
 use Rattle.predictorcorrector.proofs.longer_run.Goals as goal

@@ -1,4 +1,4 @@
-use Rattle.std.proofs.Common.{◌≡◌, ℕ, ◌-◌, ◌≤◌, length, refl, ap, ◌∙◌, le_antisymm, arith, rules}
+use Rattle.std.proofs.Common.{◌≡◌, length, refl, arith, rules}
 use Rattle.deviation.specs.Statistics.{reset}
 use Rattle.predictorcorrector.specs.Lists.{changed}
 use Rattle.predictorcorrector.proofs.Rows.{changed_more}

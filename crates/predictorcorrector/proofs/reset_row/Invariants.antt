@@ -1,7 +1,6 @@
-use Rattle.std.proofs.Common.{◌≡◌, ℕ, ◌-◌, ◌≤◌, length, refl, ap, ◌∙◌, le_antisymm, arith, rules}
+use Rattle.std.proofs.Common.{◌≡◌, ◌-◌, ◌≤◌}
 use Rattle.deviation.specs.Statistics.{reset}
 use Rattle.predictorcorrector.specs.Lists.{changed}
-use Rattle.predictorcorrector.proofs.Rows.{changed_more}
 use Rattle.predictorcorrector.proofs.reset_row.Given as goal
 
 abbrev pub invariant-loop-i : goal.invariant-loop-i

@@ -1,6 +1,6 @@
-use Rattle.std.proofs.Common.{leb, length, ◌∙◌, leb-true}
+use Rattle.std.proofs.Common.{leb, length, ◌∙◌}
 use Rattle.predictorcorrector.specs.Lists.{first_countable, row_fits}
-use Rattle.predictorcorrector.proofs.Rows.{both, third_left, none_left}
+use Rattle.predictorcorrector.proofs.Rows.{third_left, none_left}
 use Rattle.predictorcorrector.proofs.row_fits.Goals as goal
 
 pub returns-then-n-row : goal.returns-then-n-row

@@ -1,4 +1,4 @@
-use Rattle.std.proofs.Common.{sym, ap, ◌∙◌, rules}
+use Rattle.std.proofs.Common.{sym, ap, ◌∙◌}
 use Rattle.basicthresholder.specs.declared.Updated.{Updated}
 use Rattle.predictorcorrector.specs.State.{update_score}
 use Rattle.predictorcorrector.proofs.update_score.Goals as goal

@@ -1,4 +1,4 @@
-use Rattle.std.proofs.Common.{◌≡◌, ℕ, Bool, true, ◌&&◌, ltb, leb, List, sym, ap, ◌∙◌, ap₂, rules}
+use Rattle.std.proofs.Common.{◌≡◌, ℕ, Bool, true, ◌&&◌, ltb, leb, List, sym, ap, ◌∙◌, ap₂}
 use Rattle.deviation.specs.Const.{count_limit}
 use Rattle.deviation.specs.declared.Deviation.{Deviation}
 use Rattle.deviation.proofs.Laws.{picked, passed}

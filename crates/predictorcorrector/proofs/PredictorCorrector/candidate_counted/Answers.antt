@@ -1,4 +1,4 @@
-use Rattle.std.proofs.Common.{◌≡◌, Bool, true, ◌&&◌, sym, ◌∙◌, ap₂, rules}
+use Rattle.std.proofs.Common.{◌≡◌, Bool, true, ◌&&◌, sym, ◌∙◌, ap₂}
 use Rattle.deviation.proofs.Laws.{picked, passed}
 use Rattle.predictorcorrector.specs.State.{candidate_counted, with_run}
 use Rattle.predictorcorrector.specs.declared.PredictorCorrector.{PredictorCorrector}

@@ -1,5 +1,4 @@
-use Rattle.predictorcorrector.specs.State.{state_counts_ok, existing}
-use Rattle.std.proofs.Common.{rules}
+use Rattle.predictorcorrector.specs.State.{state_counts_ok}
 use Rattle.predictorcorrector.proofs.PredictorCorrector.counts_ok.Goals as goal
 
 pub returns : goal.returns

@@ -1,6 +1,5 @@
-use Rattle.std.proofs.Common.{ap, ◌∙◌, rules}
-use Rattle.predictorcorrector.specs.State.{fresh_state, fresh_list, existing, state}
-use Rattle.predictorcorrector.proofs.Rows.{existing_most}
+use Rattle.std.proofs.Common.{ap, ◌∙◌}
+use Rattle.predictorcorrector.specs.State.{fresh_state, fresh_list, state}
 use Rattle.predictorcorrector.proofs.PredictorCorrector.fresh.Goals as goal
 
 pub returns : goal.returns

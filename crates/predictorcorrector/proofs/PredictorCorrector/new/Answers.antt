@@ -1,9 +1,8 @@
-use Rattle.std.proofs.Common.{◌≤◌, false, sym, ap, ◌∙◌, rules}
+use Rattle.std.proofs.Common.{false, sym, ap, ◌∙◌}
 use Rattle.types.specs.declared.Refusal.{Refusal}
 use Rattle.types.specs.declared.Answer.TheVariants.{Refused}
 use Rattle.basicthresholder.proofs.Laws.{made_ready, made_refused}
 use Rattle.predictorcorrector.specs.State.{new, refused_new}
-use Rattle.predictorcorrector.proofs.Rows.{base_most}
 use Rattle.predictorcorrector.proofs.PredictorCorrector.new.Goals as goal
 
 pub fresh-requires-clause-fact_1 : goal.fresh-requires-clause-fact_1

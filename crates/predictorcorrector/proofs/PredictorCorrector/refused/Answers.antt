@@ -1,4 +1,4 @@
-use Rattle.std.proofs.Common.{ap, rules}
+use Rattle.std.proofs.Common.{ap}
 use Rattle.types.specs.declared.Answer.TheVariants.{Refused}
 use Rattle.predictorcorrector.specs.State.{refused_new, updated}
 use Rattle.predictorcorrector.proofs.PredictorCorrector.refused.Goals as goal

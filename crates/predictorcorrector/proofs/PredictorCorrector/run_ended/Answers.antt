@@ -1,7 +1,6 @@
-use Rattle.std.proofs.Common.{refl, ◌∙◌, ap₂, rules, leb-true}
+use Rattle.std.proofs.Common.{refl, ◌∙◌, ap₂}
 use Rattle.deviation.proofs.Laws.{picked, passed}
 use Rattle.predictorcorrector.specs.State.{run_ended, with_run}
-use Rattle.predictorcorrector.proofs.Rows.{both}
 use Rattle.predictorcorrector.proofs.PredictorCorrector.run_ended.Goals as goal
 
 pub returns-then-self-n : goal.returns-then-self-n

@@ -1,4 +1,4 @@
-use Rattle.std.proofs.Common.{ℕ, ap, rules}
+use Rattle.std.proofs.Common.{ℕ, ap}
 use Rattle.predictorcorrector.specs.State.{run_grown, with_run}
 use Rattle.predictorcorrector.proofs.PredictorCorrector.run_grown.Goals as goal
 

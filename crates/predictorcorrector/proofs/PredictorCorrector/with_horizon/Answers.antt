@@ -1,4 +1,4 @@
-use Rattle.std.proofs.Common.{ap, ◌∙◌, rules}
+use Rattle.std.proofs.Common.{ap, ◌∙◌}
 use Rattle.basicthresholder.specs.declared.Updated as Thresholders
 use Rattle.predictorcorrector.specs.State.{set_horizon, with_thresholder, updated}
 use Rattle.predictorcorrector.proofs.PredictorCorrector.with_horizon.Goals as goal
