@@ -12,8 +12,8 @@ pub returns : goal.returns
 returns c =
     let a = c.args in
     let l : length c.sixteen-out.result ≡ 16 = search rules in
-    let long : length c.construct_uncertainty_box.new.1.1.1.1.1.1.0 ≡ a.r.base_dimension = c.construct_uncertainty_box.auto.1.1.1.1.1.1.0 ∙ length-take-le a.r.base_dimension c.sixteen-out.result (omega (arith, c.requires)) in
-    front_is c.sixteen-out.result c.construct_uncertainty_box.new.1.1.1.1.1.1.0 _ a.r.base_dimension long
+    let long : length c.construct_uncertainty_box.new.out ≡ a.r.base_dimension = c.construct_uncertainty_box.auto.out ∙ length-take-le a.r.base_dimension c.sixteen-out.result (omega (arith, c.requires)) in
+    front_is c.sixteen-out.result c.construct_uncertainty_box.new.out _ a.r.base_dimension long
     (c.construct_uncertainty_box.ensures
     ∙ ap₂ (uncertainty_box a.point.now a.start a.scale.now a.shift.now a.difference_deviations.now)
     c.is_differenced.ensures

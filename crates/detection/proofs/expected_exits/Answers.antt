@@ -63,7 +63,7 @@ returns c =
     let q = within_is r l b f a.block.start at c.expected_row-row.result c.expected_row-row.ensures u c.within_expected.result wide c.within_expected.ensures in
     let row = newest_is r l b f a.block.start at c.expected_row-row.result c.expected_row-row.ensures c.newest_with-newest_expected.result c.newest_with-newest_expected.ensures in
     let d = drift_is a.k r l b a.working.threshold c.is_drift.result _ (ap (take r.base_dimension) row ∙ row_front r l b f) c.is_drift.ensures in
-    let n = to_z-of_z w32 c.relative_index.result (record { sfits = c.relative_index.type-inv }) ∙ c.relative_index.ensures in
+    let n = to_z-of_z w32 c.relative_index.result (record { sfits = c.relative_index.type_inv }) ∙ c.relative_index.ensures in
     let p = buffers_are r l b a.block.start c.expected_row-row.result at c.expected_row-row.ensures a.expected.now a.out_high.now a.out_low.now _ _ _ f c.requires.fact_2 c.write_raised.ensures in
     at_raised a.k r l b u a.working.threshold a.working.grade _ a.expected.now a.out_high.now a.out_low.now _ _ _ (sym q ∙ c.if-within_expected.false) (sym d ∙ c.if-is_drift.false)
     (raised_left r l b a.expected.now a.out_high.now a.out_low.now a.working.threshold a.working.grade _ c.newest_with-newest_expected.result a.block.index row c.requires.fact_3 n _ _ _ p)

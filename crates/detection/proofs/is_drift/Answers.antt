@@ -14,4 +14,4 @@ unfolding drift_by
 returns c =
     let a = c.args in
     c.is_data_drift.ensures
-    ∙ ap (λ (xs : List Float). drift_by a.k a.r a.l a.threshold xs (take a.r.base_dimension a.t6) a.difference_deviations.now) (tail_is a.point.now (length a.point.now - a.r.base_dimension))
+    ∙ ap (λ (xs : List Float). drift_by a.k a.r a.l a.threshold xs (take a.r.base_dimension a.newest_expected) a.difference_deviations.now) (tail_is a.point.now (length a.point.now - a.r.base_dimension))

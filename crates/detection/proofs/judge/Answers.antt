@@ -20,7 +20,8 @@ pub past_noise-requires : goal.past_noise-requires
 past_noise-requires c =
     let a = c.args in
     let b = lent a.point.now a.scale.now a.shift.now a.difference_deviations.now a.last_expected.now a.last_anomalous.now a.high.now a.low.now a.median.now a.ideal_high.now a.ideal_low.now a.neighbours.now in
-    past_fits a.k a.r a.l b (length a.expected.now) (length a.out_high.now) (length a.out_low.now) c.answer-answer.result c.answer-answer.ensures c.find_way-way.result _ _ (c.find_way-way.ensures ∙ way_lent a.r a.l b a.k.basic_thresholder c.answer-answer.result) c.in-Past.is
+    let p = past_fits a.k a.r a.l b (length a.expected.now) (length a.out_high.now) (length a.out_low.now) c.answer-answer.result c.answer-answer.ensures c.find_way-way.result _ _ (c.find_way-way.ensures ∙ way_lent a.r a.l b a.k.basic_thresholder c.answer-answer.result) c.in-Past.is in
+    record { fact_1 = p.0; fact_2 = p.1 }
 
 pub returns-in-Refused : goal.returns-in-Refused
 unfolding ended

@@ -18,7 +18,6 @@ block_start-start-requires-clause-fact_1 c = let b = late c.args.point.now c.arg
     let k = block_is r l b c.anomaly_block-index.result c.anomaly_block-index.ensures in
     subst (λ (n : ℕ). n ≤ 1024) (sym k) c.requires.fact_1.block_small
 
-
 pub returns-then-auto_explained : goal.returns-then-auto_explained
 returns-then-auto_explained c =
     let b = late c.args.point.now c.args.scale.now c.args.shift.now c.args.difference_deviations.now c.args.high.now c.args.low.now c.args.median.now c.args.ideal_high.now c.args.ideal_low.now c.args.neighbours.now in
@@ -54,7 +53,13 @@ expected_exits-requires c =
     let k = block_is r l b c.anomaly_block-index.result c.anomaly_block-index.ensures in
     let b₂ = branch c.args.point.now c.args.scale.now c.args.difference_deviations.now c.args.high.now c.args.low.now c.args.median.now in
     let k₂ = block_is r l b₂ c.anomaly_block-index.result c.anomaly_block-index.ensures in
-    (branch_fits r l b c.requires.fact_1, (branch_writes b _ _ _ c.requires.fact_2, (k₂, (start_by r l b₂ c.anomaly_block-index.result c.block_start-start.result k₂ c.block_start-start.ensures, search rules))))
+    record {
+      fact_1 = branch_fits r l b c.requires.fact_1;
+      fact_2 = branch_writes b _ _ _ c.requires.fact_2;
+      fact_3 = k₂;
+      fact_4 = start_by r l b₂ c.anomaly_block-index.result c.block_start-start.result k₂ c.block_start-start.ensures;
+      fact_5 = search rules;
+    }
 
 pub returns : goal.returns
 returns c =
