@@ -1,6 +1,5 @@
 use Rattle.deviation.proofs.Laws.{picked, passed}
 use Rattle.basicthresholder.specs.Updates.{updated}
-use Rattle.std.proofs.Common.{rules}
 use Rattle.basicthresholder.proofs.by_counts.Goals as goal
 
 pub returns-then-counts_ok : goal.returns-then-counts_ok

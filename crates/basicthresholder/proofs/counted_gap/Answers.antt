@@ -1,5 +1,4 @@
 use Rattle.basicthresholder.specs.Updates.{counted_gap}
-use Rattle.std.proofs.Common.{rules}
 use Rattle.basicthresholder.proofs.counted_gap.Goals as goal
 
 pub returns-then-gap : goal.returns-then-gap

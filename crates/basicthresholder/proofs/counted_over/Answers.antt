@@ -1,5 +1,4 @@
 use Rattle.basicthresholder.specs.Updates.{counted_over}
-use Rattle.std.proofs.Common.{rules}
 use Rattle.basicthresholder.proofs.counted_over.Goals as goal
 
 pub returns : goal.returns

@@ -1,5 +1,4 @@
 use Rattle.basicthresholder.specs.Grades.{grade_against}
-use Rattle.std.proofs.Common.{rules}
 use Rattle.basicthresholder.proofs.grade_against.Goals as goal
 
 pub returns-then-score-threshold : goal.returns-then-score-threshold

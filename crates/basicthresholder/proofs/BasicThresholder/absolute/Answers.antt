@@ -1,4 +1,4 @@
-use Rattle.std.proofs.Common.{ap, ◌∙◌, rules}
+use Rattle.std.proofs.Common.{ap, ◌∙◌}
 use lib.Ieee.{Float}
 use Rattle.basicthresholder.specs.Grades.{eased_absolute}
 use Rattle.basicthresholder.proofs.Steps.{absolute_on, absolute_off}

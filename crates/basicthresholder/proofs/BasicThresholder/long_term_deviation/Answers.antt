@@ -1,5 +1,4 @@
 use Rattle.basicthresholder.specs.Grades.{long_term_deviation}
-use Rattle.std.proofs.Common.{rules}
 use Rattle.basicthresholder.proofs.BasicThresholder.long_term_deviation.Goals as goal
 
 pub returns-then-shingle_size-differenced : goal.returns-then-shingle_size-differenced

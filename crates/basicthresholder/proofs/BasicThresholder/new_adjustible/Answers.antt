@@ -1,5 +1,4 @@
 use Rattle.basicthresholder.specs.Updates.{new_adjustible}
-use Rattle.std.proofs.Common.{rules}
 use Rattle.basicthresholder.proofs.BasicThresholder.new_adjustible.Goals as goal
 
 pub returns-then-discount : goal.returns-then-discount

@@ -2,7 +2,7 @@ use Rattle.std.proofs.Common.{ap, ◌∙◌, ap₂, w32, rules}
 use mir.ValLaws.{to_z-of_z}
 use lib.Ieee.{Float}
 use Rattle.deviation.specs.declared.Deviation.{Deviation}
-use Rattle.deviation.specs.Statistics.{one_more, counted}
+use Rattle.deviation.specs.Statistics.{one_more}
 use Rattle.basicthresholder.specs.Updates.{primary_counted, with_counted, counted_over}
 use Rattle.basicthresholder.proofs.BasicThresholder.primary_counted.Goals as goal
 

@@ -1,4 +1,4 @@
-use Rattle.std.proofs.Common.{ap, rules}
+use Rattle.std.proofs.Common.{ap}
 use Rattle.basicthresholder.specs.Grades.{primary_threshold_and_grade}
 use Rattle.basicthresholder.specs.declared.Graded.{Graded}
 use Rattle.basicthresholder.proofs.BasicThresholder.primary_grade.Goals as goal

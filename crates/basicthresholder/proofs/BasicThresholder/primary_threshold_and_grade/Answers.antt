@@ -1,4 +1,4 @@
-use Rattle.std.proofs.Common.{sym, ◌∙◌, rules}
+use Rattle.std.proofs.Common.{sym, ◌∙◌}
 use Rattle.basicthresholder.specs.Grades.{primary_threshold_and_grade, primary_grade, threshold}
 use Rattle.basicthresholder.proofs.BasicThresholder.primary_threshold_and_grade.Goals as goal
 

@@ -1,6 +1,5 @@
 use Rattle.deviation.proofs.Laws.{picked, passed}
 use Rattle.basicthresholder.specs.Updates.{set_score_differencing}
-use Rattle.std.proofs.Common.{rules}
 use Rattle.basicthresholder.proofs.BasicThresholder.set_score_differencing.Goals as goal
 
 pub returns-then-is_horizon : goal.returns-then-is_horizon

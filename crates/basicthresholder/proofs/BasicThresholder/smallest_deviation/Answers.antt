@@ -1,5 +1,4 @@
 use Rattle.basicthresholder.specs.Grades.{smallest_deviation}
-use Rattle.std.proofs.Common.{rules}
 use Rattle.basicthresholder.proofs.BasicThresholder.smallest_deviation.Goals as goal
 
 pub returns : goal.returns

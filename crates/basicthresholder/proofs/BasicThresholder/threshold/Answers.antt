@@ -1,5 +1,4 @@
 use Rattle.basicthresholder.specs.Grades.{threshold}
-use Rattle.std.proofs.Common.{rules}
 use Rattle.basicthresholder.proofs.BasicThresholder.threshold.Goals as goal
 
 pub returns : goal.returns

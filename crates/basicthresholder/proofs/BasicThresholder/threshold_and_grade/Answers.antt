@@ -1,5 +1,4 @@
 use Rattle.basicthresholder.specs.Grades.{threshold_and_grade}
-use Rattle.std.proofs.Common.{rules}
 use Rattle.basicthresholder.proofs.BasicThresholder.threshold_and_grade.Goals as goal
 
 pub returns : goal.returns

@@ -1,4 +1,3 @@
-use Rattle.ieee.specs.Round.{narrow}
 use Rattle.std.proofs.Common.{ap, ◌∙◌, w32, rules}
 use mir.ValLaws.{to_z-of_z}
 use Rattle.basicthresholder.specs.Grades.{threshold_and_grade_with_factor, intermediate_fraction}

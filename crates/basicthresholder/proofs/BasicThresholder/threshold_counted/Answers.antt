@@ -1,4 +1,4 @@
-use Rattle.std.proofs.Common.{ap, rules}
+use Rattle.std.proofs.Common.{ap}
 use Rattle.deviation.specs.declared.Deviation.{Deviation}
 use Rattle.basicthresholder.specs.Updates.{threshold_counted, with_counted}
 use Rattle.basicthresholder.proofs.BasicThresholder.threshold_counted.Goals as goal

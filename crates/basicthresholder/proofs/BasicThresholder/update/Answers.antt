@@ -1,5 +1,4 @@
 use Rattle.basicthresholder.specs.Updates.{update}
-use Rattle.std.proofs.Common.{rules}
 use Rattle.basicthresholder.proofs.BasicThresholder.update.Goals as goal
 
 pub returns : goal.returns

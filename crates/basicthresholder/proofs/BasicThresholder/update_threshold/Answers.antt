@@ -1,4 +1,4 @@
-use Rattle.std.proofs.Common.{ap, ◌∙◌, rules}
+use Rattle.std.proofs.Common.{ap, ◌∙◌}
 use Rattle.basicthresholder.specs.Updates.{updated, update_threshold}
 use Rattle.basicthresholder.proofs.BasicThresholder.update_threshold.Goals as goal
 
