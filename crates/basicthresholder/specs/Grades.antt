@@ -66,10 +66,16 @@ computed_threshold s factor method shingle_size =
 
 unfoldable pub threshold_and_grade_with_factor : BasicThresholder → Float → Float → TransformMethod → ℕ → Graded
 threshold_and_grade_with_factor s score factor method shingle_size =
-    let new_factor = new_factor_of s factor method in
-    let scaled_deviation = scaled_deviation_of s factor method shingle_size in
-    let threshold = computed_threshold s factor method shingle_size in
-    grade_against score threshold (surprise_index (is_deviation_ready s) score threshold new_factor (scaled_deviation /₃₂ new_factor) s.absolute_threshold)
+    let ready = is_deviation_ready s in
+    let fraction = intermediate_fraction s.count in
+    let t = narrow (mean s.primary_deviation) in
+    let new_factor = adjusted_factor t factor s.factor_adjustment_threshold (is_none method) in
+    let long_term = long_term_deviation s (is_differenced method) shingle_size in
+    let scaled_deviation = (new_factor -₃₂ one32) *₃₂ long_term +₃₂ narrow (deviation s.primary_deviation) in
+    let absolute = absolute_of s t in
+    let threshold = threshold_from ready fraction t scaled_deviation s.initial_threshold absolute in
+    let surprise = surprise_index ready score threshold new_factor (scaled_deviation /₃₂ new_factor) s.absolute_threshold in
+    grade_against score threshold surprise
 
 unfoldable pub threshold_and_grade : BasicThresholder → Float → TransformMethod → ℕ → Graded
 threshold_and_grade s score method shingle_size = threshold_and_grade_with_factor s score s.z_factor method shingle_size
