@@ -1,6 +1,7 @@
 // basicthresholder.rs: turns the statistics of past scores into a threshold, and a score into a grade. `&mut self` becomes the
 // state in and the state out; each statistic's root is computed at most once in a call.
 #![tactic(auto)]
+
 ghost use Rattle.std.specs.Prelude.{◌≡◌, false};
 ghost use Rattle.std.specs.Float.{binary32};
 ghost use Rattle.std.specs.Float.Ieee as Ieee;
@@ -421,7 +422,7 @@ impl BasicThresholder {
     }
 
     pub fn set_z_factor(self, factor: f32) -> BasicThresholder
-        ensures { result ≡ Updates.with_zFactor self factor }
+        ensures { result ≡ Updates.with_z_factor self factor }
     {
         let mut out = self;
         out.z_factor = factor;

@@ -462,7 +462,7 @@ fn done(s: BasicThresholder) -> basicthresholder::Updated
 
 #[unsafe(no_mangle)]
 pub extern "C" fn krcf_set_z_factor(state: &mut [u8], factor: f32) -> u8
-    ensures { left result state.new ≡ thresholder_changed (λ s. thresholder_done (Updates.with_zFactor s factor)) (read_thresholder state.old) state.old }
+    ensures { left result state.new ≡ thresholder_changed (λ s. thresholder_done (Updates.with_z_factor s factor)) (read_thresholder state.old) state.old }
 {
     match layout::read_thresholder(state) {
         ThresholderRead::Read(s) => store_thresholder(state, done(s.set_z_factor(factor))),

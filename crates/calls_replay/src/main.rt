@@ -8,7 +8,11 @@
 // lowest first, in the order of the lengths. Behind a call of auto adjust stands the state, 1310 bytes; behind one of 4 the state, the reading and the last
 // descriptor, 23 bytes each.
 #![tactic(auto)]
+
 ghost use Rattle.std.specs.Prelude.{◌<◌};
+
+use std::io;
+use std::io::{ErrorKind, Read};
 
 // The bytes of a stored state.
 const STATE_LENGTH: usize = 1310;
@@ -194,19 +198,32 @@ fn blank_state() -> [u8; STATE_LENGTH] {
     [0u8; STATE_LENGTH]
 }
 
-fn update_auto_adjust(h: Head, x: &[f32]) -> Said {
+// Fills `out`; no where the input ends before.
+fn fill(input: &mut impl Read, out: &mut [u8]) -> io::Result<bool> {
+    match input.read_exact(out) {
+        Ok(()) => Ok(true),
+        Err(e) => {
+            if e.kind() == ErrorKind::UnexpectedEof {
+                return Ok(false);
+            }
+            Err(e)
+        }
+    }
+}
+
+fn update_auto_adjust(input: &mut impl Read, h: Head, x: &[f32]) -> io::Result<Said> {
     let mut state = blank_state();
-    io::read_full(0, &mut state);
+    fill(input, &mut state)?;
     let n = STATE_LENGTH - h.out % 2;
     let number = c_calls::krcf_update_auto_adjust(
         &mut state[..n],
         h.shingle_size,
         row(x, 0, h.point),
     );
-    Said {
+    Ok(Said {
         number,
         sum: mix_bytes(state),
-    }
+    })
 }
 
 fn likely_missing_indices(h: Head, w: &[f64]) -> Said {
@@ -230,13 +247,13 @@ fn blank_numbers() -> [u8; 23] {
     [0u8; 23]
 }
 
-fn asked_of_forest(h: Head) -> Said {
+fn asked_of_forest(input: &mut impl Read, h: Head) -> io::Result<Said> {
     let mut state = blank_state();
-    io::read_full(0, &mut state);
+    fill(input, &mut state)?;
     let mut reading = blank_numbers();
-    io::read_full(0, &mut reading);
+    fill(input, &mut reading)?;
     let mut last = blank_numbers();
-    io::read_full(0, &mut last);
+    fill(input, &mut last)?;
     let mut out = [9usize; 8];
     let s = STATE_LENGTH - h.shingle_size % 2;
     let r = 23 - h.base_dimension % 2;
@@ -248,31 +265,33 @@ fn asked_of_forest(h: Head) -> Said {
         &last[..l],
         &mut out[..n],
     );
-    Said {
+    Ok(Said {
         number,
         sum: mix_numbers(out),
-    }
+    })
 }
 
-fn call(b: &[u8; 336]) -> Said {
+fn call(input: &mut impl Read, b: &[u8; 336]) -> io::Result<Said> {
     let h = head_of(b);
     let singles = reals(b);
     let doubles = wides(&singles);
     let x = &singles[..];
     let w = &doubles[..];
     match b[0] {
-        0 => expected_point(h, x, w),
-        1 => apply_basic_corrector(h, x),
-        2 => update_auto_adjust(h, x),
-        3 => likely_missing_indices(h, w),
-        _ => asked_of_forest(h),
+        0 => Ok(expected_point(h, x, w)),
+        1 => Ok(apply_basic_corrector(h, x)),
+        2 => update_auto_adjust(input, h, x),
+        3 => Ok(likely_missing_indices(h, w)),
+        _ => asked_of_forest(input, h),
     }
 }
 
-fn write_line(operation: u8, said: Said) {
-    io::print_hex(1, (wide(operation) * 0x100 + wide(said.number)) as u64, 4);
-    io::print_hex(1, said.sum, 16);
-    io::write_all(1, b"\n");
+fn write_line(rt: &impl Print, operation: u8, said: Said) -> io::Result<()> {
+    println!(rt;
+        "{:04x}{:016x}",
+        wide(operation) * 0x100 + wide(said.number),
+        said.sum
+    )
 }
 
 fn blank() -> [u8; 336] {
@@ -280,15 +299,16 @@ fn blank() -> [u8; 336] {
 }
 
 // Up to 1000 calls, to the end of the input.
-fn main() {
+fn main(rt: HostRuntime) -> io::Result<()> {
+    let mut input = rt.reader();
     let mut k = 0usize;
     while k < 1000 {
         let mut bytes = blank();
-        let n = io::read_full(0, &mut bytes);
-        if n < 336 {
-            return;
+        if !fill(&mut input, &mut bytes)? {
+            return Ok(());
         }
-        write_line(bytes[0], call(&bytes));
+        write_line(&rt, bytes[0], call(&mut input, &bytes)?)?;
         k += 1;
     }
+    Ok(())
 }

@@ -1,6 +1,7 @@
 // The course's drawers (docs/COURSE.md) that the score watch cannot show: a discount, a drawer's mean and deviation, sums that were cleared without their count,
 // a first score under either strategy. Floats are printed as their bits.
 #![tactic(auto)]
+
 use basicthresholder::{BasicThresholder, Graded};
 use deviation::{Deviation, Measured};
 use std::io;
@@ -97,5 +98,8 @@ fn main(rt: HostRuntime) -> io::Result<()> {
     say(&rt, "a new drawer's first score, 1.75\nDISTANCE:")?;
     say_graded(&rt, fresh().primary_threshold_and_grade(1.75))?;
     say(&rt, "height:")?;
-    say_graded(&rt, fresh().threshold_and_grade(1.75, TransformMethod::NONE, 1))
+    say_graded(
+        &rt,
+        fresh().threshold_and_grade(1.75, TransformMethod::NONE, 1),
+    )
 }

@@ -1,5 +1,6 @@
 // deviation.rs: discounted statistics of a run of scores. `&mut self` becomes the record in and the record out.
 #![tactic(auto)]
+
 ghost use Rattle.std.specs.Prelude.{◌≡◌, T, pos, ◌+ℤ◌};
 ghost use Rattle.std.specs.Float.Ieee as Ieee;
 ghost use Rattle.std.specs.Float.{binary64};

@@ -7,7 +7,6 @@ use borrow.Author.Tests.{eqb-false}
 use Rattle.types.specs.declared.Refusal.TheVariants.{Length, Blocks}
 use Rattle.types.specs.declared.Answer.TheVariants.{Done}
 use Rattle.divector.specs.declared.Block.{Block}
-use Rattle.divector.specs.declared.Block.TheVariants as Block
 use Rattle.divector.specs.declared.Block.TheVariants.{At}
 use Rattle.ieee.specs.F64.{zero64}
 use Rattle.divector.proofs.Blocks.{first_within}

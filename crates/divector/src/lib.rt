@@ -1,5 +1,6 @@
 // divector.rs over two lent slices, high and low, in place of the two vectors. The two functions on bounding boxes are the forest's.
 #![tactic(auto)]
+
 ghost use Rattle.std.specs.Prelude.{◌≡◌, ◌+◌, ◌-◌, ◌*◌, ◌<◌, ◌≤◌, length, replicate};
 ghost use Rattle.divector.specs.DiVector as DiVector;
 ghost use Rattle.divector.specs.DiVector.{after};

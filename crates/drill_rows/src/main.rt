@@ -1,6 +1,7 @@
 // Document 01's drill sheet, every row worked by the library; floats are printed as their bits. What it is to print is what `oracle/run SOURCES drill` printed
 // from the Rust.
 #![tactic(auto)]
+
 use basicthresholder::BasicThresholder;
 use deviation::{Deviation, Measured};
 use divector::Block;
@@ -147,10 +148,16 @@ fn steps(rt: &impl Print) -> io::Result<()> {
     corrected(rt, 5)?;
     let path = [1.0f32, 3.0, 6.0];
     rt.print("path deviation:")?;
-    single(rt, uncertainty_box::calculate_path_deviation(&path, 0, 0, 1, false))?;
+    single(
+        rt,
+        uncertainty_box::calculate_path_deviation(&path, 0, 0, 1, false),
+    )?;
     end(rt)?;
     rt.print("path deviation, differenced:")?;
-    single(rt, uncertainty_box::calculate_path_deviation(&path, 0, 0, 1, true))?;
+    single(
+        rt,
+        uncertainty_box::calculate_path_deviation(&path, 0, 0, 1, true),
+    )?;
     end(rt)
 }
 

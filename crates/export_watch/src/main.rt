@@ -1,6 +1,7 @@
 // The export watch: a cabinet's CSV export on standard input, thresholds and opening grades of its first drawer on standard output. What is printed is the
 // library's; here it is read and written.
 #![tactic(auto)]
+
 use export_bytes::Run;
 use score_rows::{PART, ROOM};
 use std::io::Read;

@@ -5,7 +5,11 @@
 // A reading is 1783 bytes: the title (40), the state (1310), the reading (23) and the last descriptor (23) as the crate layout has them, the lengths of the
 // buffers of D floats, of base floats and of the neighbours (one each), then 12 rows of 8 floats, 4 bytes each, the lowest first.
 #![tactic(auto)]
+
 ghost use Rattle.std.specs.Prelude.{◌<◌};
+
+use std::io;
+use std::io::{ErrorKind, Read};
 
 fn blank() -> [u8; 1783] {
     [0u8; 1783]
@@ -95,27 +99,32 @@ fn mix_buffers(expected: [f32; 8], high: [f64; 8], low: [f64; 8]) -> u64 {
     sum
 }
 
-fn write_verdict(verdict: &[u8; 14]) {
+fn write_verdict(rt: &impl Print, verdict: &[u8; 14]) -> io::Result<()> {
     let mut i = 0usize;
     while i < 14 {
-        io::print_hex(1, wide(verdict[i]) as u64, 2);
+        print!(rt; "{:02x}", verdict[i])?;
         i += 1;
     }
+    Ok(())
 }
 
-fn write_line(b: &[u8; 1783], number: u8, verdict: &[u8; 14], buffers: u64) {
-    io::write_all(1, part(b, 0, 40));
-    io::print_decimal(1, wide(number) as u64);
-    io::write_all(1, b" ");
-    write_verdict(verdict);
-    io::write_all(1, b" ");
-    io::print_hex(1, mix_bytes(part(b, 40, layout::STATE_LENGTH)), 16);
-    io::write_all(1, b" ");
-    io::print_hex(1, buffers, 16);
-    io::write_all(1, b"\n");
+fn write_line(
+    rt: &impl Print,
+    b: &[u8; 1783],
+    number: u8,
+    verdict: &[u8; 14],
+    buffers: u64,
+) -> io::Result<()> {
+    rt.write_all(part(b, 0, 40))?;
+    print!(rt; "{number} ")?;
+    write_verdict(rt, verdict)?;
+    println!(rt;
+        " {:016x} {buffers:016x}",
+        mix_bytes(part(b, 40, layout::STATE_LENGTH))
+    )
 }
 
-fn show(given: [u8; 1783]) {
+fn show(rt: &impl Print, given: [u8; 1783]) -> io::Result<()> {
     let mut b = given;
     let singles = reals(&b);
     let doubles = wides(&singles);
@@ -151,19 +160,33 @@ fn show(given: [u8; 1783]) {
         &mut low[..d],
         &mut verdict,
     );
-    write_line(&b, number, &verdict, mix_buffers(expected, high, low));
+    write_line(rt, &b, number, &verdict, mix_buffers(expected, high, low))
+}
+
+// Fills `out`; no where the input ends before.
+fn fill(input: &mut impl Read, out: &mut [u8]) -> io::Result<bool> {
+    match input.read_exact(out) {
+        Ok(()) => Ok(true),
+        Err(e) => {
+            if e.kind() == ErrorKind::UnexpectedEof {
+                return Ok(false);
+            }
+            Err(e)
+        }
+    }
 }
 
 // Up to 32 readings, to the end of the input.
-fn main() {
+fn main(rt: HostRuntime) -> io::Result<()> {
+    let mut input = rt.reader();
     let mut k = 0usize;
     while k < 32 {
         let mut bytes = blank();
-        let n = io::read_full(0, &mut bytes);
-        if n < 1783 {
-            return;
+        if !fill(&mut input, &mut bytes)? {
+            return Ok(());
         }
-        show(bytes);
+        show(&rt, bytes)?;
         k += 1;
     }
+    Ok(())
 }

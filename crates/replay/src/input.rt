@@ -1,9 +1,13 @@
 // A case: 48 bytes, then for a call on a state that state's bytes and the bytes it is to have afterwards.
+ghost use Rattle.std.specs.Io.{ReadsAtMost};
 ghost use Rattle.std.specs.Prelude.{◌+◌, ◌<◌, ◌≤◌, length};
+
+use std::io;
+use std::io::Read;
 
 // Byte 0 is the operation, byte 1 the number that the call answers; from byte 8 on four arguments and the result, of eight bytes each, the
 // lowest first. What a call does not have is 0.
-#[derive(Drop)]
+#[derive(Clone, Copy)]
 pub(crate) struct Case {
     pub operation: u8,
     pub number: u8,
@@ -33,6 +37,21 @@ pub(crate) fn word_at(b: &[u8], at: usize) -> u64
     let low = four(b[at], b[at + 1], b[at + 2], b[at + 3]);
     let high = four(b[at + 4], b[at + 5], b[at + 6], b[at + 7]);
     low + 0x1_0000_0000 * high
+}
+
+// Reads until `out` is full or the input ends, and tells how many bytes there were.
+pub(crate) fn read_full(from: &mut impl Read, out: &mut [u8]) -> io::Result<usize>
+    ensures { ReadsAtMost result out.new }
+{
+    let mut done = 0usize;
+    while done < out.len() {
+        let n = from.read(&mut out[done..])?;
+        if n == 0 {
+            break;
+        }
+        done += n;
+    }
+    Ok(done)
 }
 
 pub(crate) fn read(b: &[u8; 48]) -> Case {
@@ -91,7 +110,7 @@ pub(crate) fn is_equal(a: &[u8], b: &[u8]) -> bool {
 }
 
 // What a call answered: its number, and its result, 0 where it has none.
-#[derive(Drop)]
+#[derive(Clone, Copy)]
 pub(crate) struct Answer {
     pub number: u8,
     pub result: u64,

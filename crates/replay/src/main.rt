@@ -1,6 +1,7 @@
 // Asks the library what the Rust was asked, and counts the answers that differ. Standard input has the questions with the Rust's answers, as
 // `oracle/run SOURCES sample` writes them; nothing of them is in here.
 #![tactic(auto)]
+
 mod input;
 mod numbers;
 mod statistics;
@@ -9,20 +10,21 @@ mod thresholds;
 ghost use Rattle.std.specs.Prelude.{◌+◌, ◌<◌, ◌≤◌};
 
 use input::Case;
-use libc::STDOUT_FILENO;
+use std::io;
+use std::io::Read;
 
 // More cases than a sample has.
 const MOST: u64 = 1_000_000;
 
 // Whether the library answers a case as the Rust did. Which of the three kinds it is, its operation says.
-fn is_same(case: Case) -> bool {
+fn is_same(from: &mut impl Read, case: Case) -> io::Result<bool> {
     if case.operation < 32 {
-        return numbers::is_same(case);
+        return Ok(numbers::is_same(case));
     }
     if case.operation < 64 {
-        return statistics::is_same(case);
+        return statistics::is_same(from, case);
     }
-    thresholds::is_same(case)
+    thresholds::is_same(from, case)
 }
 
 // What a turn found.
@@ -33,22 +35,22 @@ const SAME: u8 = 1;
 const DIFFERS: u8 = 2;
 
 // A case that is cut off counts as one that differs.
-fn turn() -> u8 {
+fn turn(from: &mut impl Read) -> io::Result<u8> {
     let mut bytes = [0u8; 48];
-    let n = io::read_full(0, &mut bytes);
+    let n = input::read_full(from, &mut bytes)?;
     if n == 0 {
-        return END;
+        return Ok(END);
     }
     if n != 48 {
-        return DIFFERS;
+        return Ok(DIFFERS);
     }
-    if is_same(input::read(&bytes)) {
-        return SAME;
+    if is_same(from, input::read(&bytes))? {
+        return Ok(SAME);
     }
-    DIFFERS
+    Ok(DIFFERS)
 }
 
-#[derive(Drop)]
+#[derive(Clone, Copy)]
 struct Count {
     cases: u64,
     differ: u64,
@@ -66,27 +68,24 @@ fn more(n: u64, is_more: bool) -> u64
 }
 
 // Reads to the end of the input, at most MOST cases.
-fn all() -> Count {
+fn all(from: &mut impl Read) -> io::Result<Count> {
     let mut cases = 0u64;
     let mut differ = 0u64;
     while cases < MOST {
-        let t = turn();
+        let t = turn(from)?;
         if t == END {
             break;
         }
         differ = more(differ, t == DIFFERS);
         cases += 1;
     }
-    Count {
+    Ok(Count {
         cases: cases,
         differ: differ,
-    }
+    })
 }
 
-fn main() {
-    let count = all();
-    io::print_decimal(STDOUT_FILENO, count.cases);
-    io::write_all(STDOUT_FILENO, b" cases, ");
-    io::print_decimal(STDOUT_FILENO, count.differ);
-    io::write_all(STDOUT_FILENO, b" differ\n");
+fn main(rt: HostRuntime) -> io::Result<()> {
+    let count = all(&mut rt.reader())?;
+    println!(rt; "{} cases, {} differ", count.cases, count.differ)
 }

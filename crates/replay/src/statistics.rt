@@ -1,5 +1,9 @@
 // The calls on a stored statistic.
-use crate::input::{Answer, Case, byte, double, is_answer, is_equal, only, wide, word_at};
+use crate::input::{
+    Answer, Case, byte, double, is_answer, is_equal, only, read_full, wide, word_at,
+};
+use std::io;
+use std::io::Read;
 
 // What stands behind a yes/no before the call that writes it.
 const BEFORE: u8 = 0xa5;
@@ -51,17 +55,17 @@ fn call(case: Case, state: &mut [u8]) -> Answer {
     }
 }
 
-pub(crate) fn is_same(case: Case) -> bool {
+pub(crate) fn is_same(from: &mut impl Read, case: Case) -> io::Result<bool> {
     let mut state = [0u8; 36];
     let mut after = [0u8; 36];
-    if io::read_full(0, &mut state) != 36 {
-        return false;
+    if read_full(from, &mut state)? != 36 {
+        return Ok(false);
     }
-    if io::read_full(0, &mut after) != 36 {
-        return false;
+    if read_full(from, &mut after)? != 36 {
+        return Ok(false);
     }
     if is_answer(case, call(case, &mut state)) {
-        return is_equal(&state, &after);
+        return Ok(is_equal(&state, &after));
     }
-    false
+    Ok(false)
 }

@@ -1,7 +1,11 @@
 // The calls on a stored thresholder.
 ghost use Rattle.std.specs.Prelude.{◌≡◌, length};
 
-use crate::input::{Answer, Case, byte, double, is_answer, is_equal, only, single, size, word_at};
+use crate::input::{
+    Answer, Case, byte, double, is_answer, is_equal, only, read_full, single, size, word_at,
+};
+use std::io;
+use std::io::Read;
 
 // The calls that answer a number about a state, 65 to 70, write it to the front of `out`.
 fn question(case: Case, state: &[u8], out: &mut [u8]) -> u8
@@ -77,17 +81,17 @@ fn call(case: Case, state: &mut [u8]) -> Answer {
     only(set(case.operation, single(case.a), state))
 }
 
-pub(crate) fn is_same(case: Case) -> bool {
+pub(crate) fn is_same(from: &mut impl Read, case: Case) -> io::Result<bool> {
     let mut state = [0u8; 149];
     let mut after = [0u8; 149];
-    if io::read_full(0, &mut state) != 149 {
-        return false;
+    if read_full(from, &mut state)? != 149 {
+        return Ok(false);
     }
-    if io::read_full(0, &mut after) != 149 {
-        return false;
+    if read_full(from, &mut after)? != 149 {
+        return Ok(false);
     }
     if is_answer(case, call(case, &mut state)) {
-        return is_equal(&state, &after);
+        return Ok(is_equal(&state, &after));
     }
-    false
+    Ok(false)
 }

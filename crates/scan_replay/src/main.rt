@@ -4,7 +4,11 @@
 // A case is six numbers of 2 bytes, the lowest first: the operation (0 the noise pass, 1 the box), the base or the start position, and the lengths of four slices, up
 // to 1,100 each: scale, shift, deviations and point; or box, scale, point and other point. Their floats follow one after the other, 4 bytes each, the lowest first.
 #![tactic(auto)]
+
 ghost use Rattle.std.specs.Prelude.{◌≤◌, ◌<◌};
+
+use std::io;
+use std::io::{ErrorKind, Read};
 
 // The bytes of a case's head, and the most that can follow it.
 const HEAD: usize = 12;
@@ -182,32 +186,46 @@ fn blank() -> [u8; ROOM] {
     [0u8; ROOM]
 }
 
-// Reads the floats of a case and writes its line; no where one of the two fails.
-fn replayed(head: &[u8; HEAD]) -> bool {
+// Fills `out`; no where the input ends before.
+fn fill(input: &mut impl Read, out: &mut [u8]) -> io::Result<bool> {
+    match input.read_exact(out) {
+        Ok(()) => Ok(true),
+        Err(e) => {
+            if e.kind() == ErrorKind::UnexpectedEof {
+                return Ok(false);
+            }
+            Err(e)
+        }
+    }
+}
+
+// Reads the floats of a case and writes its line; no where the input ends before.
+fn replayed(rt: &impl Print, input: &mut impl Read, head: &[u8; HEAD]) -> io::Result<bool> {
     let ends = ends_of(head);
     let n = ends.fourth;
     let mut bytes = blank();
-    let got = io::read_full(0, &mut bytes[..4 * n]);
-    if got < 4 * n {
-        return false;
+    if !fill(input, &mut bytes[..4 * n])? {
+        return Ok(false);
     }
     let floats = reals(&bytes, n);
     let out = line(head[0], answer(head, ends, &floats[..]));
-    io::write_all(1, &out)
+    rt.write_all(&out)?;
+    Ok(true)
 }
 
 // Up to a million cases, to the end of the input.
-fn main() {
+fn main(rt: HostRuntime) -> io::Result<()> {
+    let mut input = rt.reader();
     let mut k = 0u32;
     while k < 1000000 {
         let mut head = blank_head();
-        let n = io::read_full(0, &mut head);
-        if n < HEAD {
-            return;
+        if !fill(&mut input, &mut head)? {
+            return Ok(());
         }
-        if !replayed(&head) {
-            return;
+        if !replayed(&rt, &mut input, &head)? {
+            return Ok(());
         }
         k += 1;
     }
+    Ok(())
 }

@@ -56,7 +56,7 @@ one_of_three (Raised g ∷ ks) = omega (arith, one_of_three ks)
 kinds_length : (s : BasicThresholder) (rs : List Reading) → length (kinds s rs) ≡ length rs
 unfolding kinds
 kinds_length s [] = refl
-kinds_length s (r ∷ rs) = ap suc (kinds_length _ rs)
+kinds_length s (r ∷ rs) = ap suc (kinds_length (counted s r.score) rs)
 
 pub add_up : AddUp
 add_up s rs = one_of_three (kinds s rs) ∙ kinds_length s rs

@@ -1,6 +1,7 @@
 // The score watch: scores as lines of eight hexadecimal digits on standard input, thresholds and opening grades on standard output. What is printed is
 // the library's; here it is read and written.
 #![tactic(auto)]
+
 use score_lines::Run;
 use score_rows::{PART, ROOM};
 use std::io::Read;

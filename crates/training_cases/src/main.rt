@@ -1,6 +1,7 @@
 // Runs the training load's library on stored cases. Standard input has them one after the other, each up to a `%`. Of each it prints how many of its bytes were taken and how
 // many were printed, and then these, or of a long load the last line.
 #![tactic(auto)]
+
 ghost use Rattle.std.specs.Io.{ReadsAtMost};
 ghost use Rattle.std.specs.Prelude.{◌≤◌, length};
 

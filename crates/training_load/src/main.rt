@@ -1,6 +1,7 @@
 // The training load: a seed and a count on standard input, scores on standard output, a line each, as the score watch reads them. What is printed is the library's; here it
 // is read and written. It is read a byte at a time, so that what stands behind the second line is left to whoever reads next.
 #![tactic(auto)]
+
 ghost use Rattle.std.specs.Prelude.{◌≡◌, true};
 ghost use Rattle.training_lines.specs.Feeding.{is_over};
 ghost use Rattle.training_load.specs.declared.Lines.TheVariants as Variants;

@@ -4,9 +4,12 @@
 // A call is 40 words of 8 bytes, the lowest first: the operation, the lengths of high and low, a size (index, number or base), the gap, a float, two zeros, then
 // high, low, other high and other low with room for 8 floats each. The others are as long as high.
 #![tactic(auto)]
+
 ghost use Rattle.std.specs.Prelude.{◌<◌, ◌≤◌};
 
 use divector::{Block, Number};
+use std::io;
+use std::io::{ErrorKind, Read};
 use types::Answer;
 
 fn wide(b: u8) -> u64
@@ -167,18 +170,11 @@ fn mix_list(before: u64, x: [f64; 8]) -> u64 {
     sum
 }
 
-fn write_line(operation: u64, said: Said, sum: u64) {
-    io::print_decimal(1, operation);
-    io::write_all(1, b" ");
-    io::print_decimal(1, said.number as u64);
-    io::write_all(1, b" ");
-    io::print_hex(1, said.bits, 16);
-    io::write_all(1, b" ");
-    io::print_hex(1, sum, 16);
-    io::write_all(1, b"\n");
+fn write_line(rt: &impl Print, operation: u64, said: Said, sum: u64) -> io::Result<()> {
+    println!(rt; "{operation} {} {:016x} {sum:016x}", said.number, said.bits)
 }
 
-fn show(b: &[u8; 320]) {
+fn show(rt: &impl Print, b: &[u8; 320]) -> io::Result<()> {
     let mut high = eight(b, 8);
     let mut low = eight(b, 16);
     let mut other_high = eight(b, 24);
@@ -197,26 +193,41 @@ fn show(b: &[u8; 320]) {
     );
     let first = mix_list(mix_list(0, high), low);
     write_line(
+        rt,
         word(b, 0),
         said,
         mix_list(mix_list(first, other_high), other_low),
-    );
+    )
 }
 
 fn blank() -> [u8; 320] {
     [0u8; 320]
 }
 
+// Fills `out`; no where the input ends before.
+fn fill(input: &mut impl Read, out: &mut [u8]) -> io::Result<bool> {
+    match input.read_exact(out) {
+        Ok(()) => Ok(true),
+        Err(e) => {
+            if e.kind() == ErrorKind::UnexpectedEof {
+                return Ok(false);
+            }
+            Err(e)
+        }
+    }
+}
+
 // Up to 1000 calls, to the end of the input.
-fn main() {
+fn main(rt: HostRuntime) -> io::Result<()> {
+    let mut input = rt.reader();
     let mut k = 0usize;
     while k < 1000 {
         let mut bytes = blank();
-        let n = io::read_full(0, &mut bytes);
-        if n < 320 {
-            return;
+        if !fill(&mut input, &mut bytes)? {
+            return Ok(());
         }
-        show(&bytes);
+        show(&rt, &bytes)?;
         k += 1;
     }
+    Ok(())
 }

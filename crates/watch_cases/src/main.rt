@@ -3,6 +3,7 @@
 // `.zeros` an export behind 65,536 rows of its drawer, judged or skipped, `.million` one behind a million rows of another drawer. Every case is run once for
 // each place at which its input can be cut in two.
 #![tactic(auto)]
+
 ghost use Rattle.std.specs.Io.{ReadsAtMost};
 ghost use Rattle.std.specs.Prelude.{◌-◌, ◌≤◌, length};
 

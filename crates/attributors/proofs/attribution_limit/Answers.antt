@@ -1,4 +1,3 @@
-use borrow.Author.Rules.{rules}
 use Rattle.attributors.specs.Attributors.{attribution_limit}
 use Rattle.attributors.proofs.attribution_limit.Goals as goal
 

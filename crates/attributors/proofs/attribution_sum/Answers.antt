@@ -1,9 +1,8 @@
-use mathlib.Core.Path.{◌≡◌, refl}
-use Prim.Native.Nat.{◌-◌, ◌≤◌}
+use mathlib.Core.Path.{refl}
 use native.Mathlib.Omega.{arith}
 use borrow.Author.Rules.{rules}
 use Rattle.attributors.specs.Attributors.{attribution_sum, for_up_to}
-use Rattle.attributors.proofs.Laws.{for_more, at_end}
+use Rattle.attributors.proofs.Laws.{for_more}
 use Rattle.attributors.proofs.attribution_sum.Goals as goal
 
 pub loop-i-init : goal.loop-i-init

@@ -1,9 +1,6 @@
-use mathlib.Core.Path.{◌≡◌, refl}
+use mathlib.Core.Path.{◌≡◌}
 use Prim.Native.Nat.{◌-◌, ◌≤◌}
-use native.Mathlib.Omega.{arith}
-use borrow.Author.Rules.{rules}
-use Rattle.attributors.specs.Attributors.{attribution_sum, for_up_to}
-use Rattle.attributors.proofs.Laws.{for_more, at_end}
+use Rattle.attributors.specs.Attributors.{attribution_sum}
 use Rattle.attributors.proofs.attribution_sum.Given as goal
 
 abbrev pub invariant-loop-i : goal.invariant-loop-i

@@ -1,9 +1,8 @@
-use mathlib.Core.Path.{◌≡◌, ◌∙◌}
-use Prim.Native.Nat.{ℕ, ◌-◌, ◌≤◌}
+use mathlib.Core.Path.{◌∙◌}
 use native.Mathlib.Omega.{arith}
 use borrow.Author.Rules.{rules}
 use Rattle.attributors.specs.Attributors.{reaching, missing, for_up_to, padded}
-use Rattle.attributors.proofs.Laws.{reaching_more, reaching_few, count_is, at_end}
+use Rattle.attributors.proofs.Laws.{reaching_more, reaching_few, count_is}
 use Rattle.attributors.proofs.reaching.Goals as goal
 
 pub loop-i-init : goal.loop-i-init

@@ -1,9 +1,6 @@
-use mathlib.Core.Path.{◌≡◌, ◌∙◌}
-use Prim.Native.Nat.{ℕ, ◌-◌, ◌≤◌}
-use native.Mathlib.Omega.{arith}
-use borrow.Author.Rules.{rules}
-use Rattle.attributors.specs.Attributors.{reaching, missing, for_up_to, padded}
-use Rattle.attributors.proofs.Laws.{reaching_more, reaching_few, count_is, at_end}
+use mathlib.Core.Path.{◌≡◌}
+use Prim.Native.Nat.{◌-◌, ◌≤◌}
+use Rattle.attributors.specs.Attributors.{reaching, missing}
 use Rattle.attributors.proofs.reaching.Given as goal
 
 abbrev pub invariant-loop-i : goal.invariant-loop-i

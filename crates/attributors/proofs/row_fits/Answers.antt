@@ -1,4 +1,3 @@
-use borrow.Author.Rules.{rules}
 use Rattle.attributors.specs.Attributors.{row_fits}
 use Rattle.attributors.proofs.row_fits.Goals as goal
 

@@ -1,7 +1,6 @@
 use Rattle.deviation.specs.Statistics.{factor}
 use mir.Syntax.{w32}
 use mir.ValLaws.{to_z-of_z}
-use borrow.Author.Rules.{rules}
 use Rattle.deviation.proofs.factor.Goals as goal
 
 pub returns-then-discount : goal.returns-then-discount

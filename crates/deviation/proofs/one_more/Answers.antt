@@ -1,10 +1,8 @@
-use mathlib.Core.Path.{◌∙◌, sym, subst}
-use lib.Dec.{T}
+use mathlib.Core.Path.{◌∙◌}
 use mir.Syntax.{w32}
 use mir.ValLaws.{to_z-of_z}
 use Rattle.deviation.proofs.Laws.{picked, passed}
 use Rattle.deviation.specs.Statistics.{one_more}
-use borrow.Author.Rules.{rules}
 use Rattle.deviation.proofs.one_more.Goals as goal
 
 pub returns-then-countable : goal.returns-then-countable

@@ -1,5 +1,4 @@
 use Rattle.deviation.specs.Statistics.{positive_root}
-use borrow.Author.Rules.{rules}
 use Rattle.deviation.proofs.positive_root.Goals as goal
 
 pub returns-then-x : goal.returns-then-x

@@ -1,8 +1,8 @@
-use Rattle.std.proofs.Common.{◌-◌, length, rules}
+use Rattle.std.proofs.Common.{rules}
 use lib.Ieee.{nan}
 use Rattle.divector.specs.DiVector.{added_scaled}
 use Rattle.divector.proofs.Laws.{added_scaled_length}
-use Rattle.divector.proofs.Loops.{Half, begin, zip_next, end}
+use Rattle.divector.proofs.Loops.{begin, zip_next}
 use Rattle.divector.proofs.add_scaled_one.Goals as goal
 
 pub loop-i-init : goal.loop-i-init

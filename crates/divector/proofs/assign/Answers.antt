@@ -1,4 +1,4 @@
-use Rattle.std.proofs.Common.{sym, ◌∙◌, arith, rules}
+use Rattle.std.proofs.Common.{sym, ◌∙◌, arith}
 use Rattle.divector.proofs.Laws.{done, one_length_lem}
 use Rattle.divector.specs.DiVector.{assign}
 use Rattle.divector.proofs.assign.Goals as goal

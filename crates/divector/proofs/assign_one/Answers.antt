@@ -1,6 +1,6 @@
-use Rattle.std.proofs.Common.{◌-◌, length, refl, rules}
+use Rattle.std.proofs.Common.{refl, rules}
 use lib.Ieee.{nan}
-use Rattle.divector.proofs.Loops.{Half, begin, next, end}
+use Rattle.divector.proofs.Loops.{next}
 use Rattle.divector.proofs.assign_one.Goals as goal
 
 pub loop-i-preserved : goal.loop-i-preserved

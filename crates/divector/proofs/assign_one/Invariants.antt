@@ -1,6 +1,5 @@
-use Rattle.std.proofs.Common.{◌-◌, length, refl, rules}
-use lib.Ieee.{nan}
-use Rattle.divector.proofs.Loops.{Half, begin, next, end}
+use Rattle.std.proofs.Common.{◌-◌, length}
+use Rattle.divector.proofs.Loops.{Half}
 use Rattle.divector.proofs.assign_one.Given as goal
 
 abbrev pub invariant-loop-i : goal.invariant-loop-i

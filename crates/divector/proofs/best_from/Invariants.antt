@@ -1,6 +1,5 @@
-use Rattle.std.proofs.Common.{◌-◌, true, false, sym, refl, ◌∙◌, ⊎_elim, arith, rules}
-use Rattle.divector.specs.DiVector.{winner}
-use Rattle.divector.proofs.Blocks.{Searched, row_within, turn, best_end}
+use Rattle.std.proofs.Common.{◌-◌}
+use Rattle.divector.proofs.Blocks.{Searched}
 use Rattle.divector.proofs.best_from.Given as goal
 
 abbrev pub invariant-loop-j : goal.invariant-loop-j

@@ -1,4 +1,4 @@
-use Rattle.std.proofs.Common.{◌≡◌, ◌+◌, ◌-◌, ◌*◌, ◌≤◌, length, refl, ap, ◌∙◌, le_antisymm, add-one, rules}
+use Rattle.std.proofs.Common.{refl, ap, ◌∙◌, le_antisymm, add-one, rules}
 use Rattle.divector.specs.DiVector.{pair_sum, block_sum}
 use Rattle.divector.proofs.block_sum.Goals as goal
 

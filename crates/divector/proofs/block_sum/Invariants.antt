@@ -1,5 +1,5 @@
-use Rattle.std.proofs.Common.{◌≡◌, ◌+◌, ◌-◌, ◌*◌, ◌≤◌, length, refl, ap, ◌∙◌, le_antisymm, add-one, rules}
-use Rattle.divector.specs.DiVector.{pair_sum, block_sum}
+use Rattle.std.proofs.Common.{◌≡◌, ◌+◌, ◌-◌, ◌*◌, ◌≤◌, length}
+use Rattle.divector.specs.DiVector.{pair_sum}
 use Rattle.divector.proofs.block_sum.Given as goal
 
 abbrev pub invariant-loop-i : goal.invariant-loop-i

@@ -1,4 +1,3 @@
-use Rattle.std.proofs.Common.{rules}
 use Rattle.divector.specs.DiVector.{divide}
 use Rattle.divector.proofs.divide.Goals as goal
 

@@ -1,7 +1,5 @@
-use Rattle.std.proofs.Common.{◌-◌, length, replicate, rules}
-use lib.Ieee.{nan}
-use lib.ListN.{length-replicate}
-use Rattle.divector.proofs.Loops.{Half, begin, fill_next, end}
+use Rattle.std.proofs.Common.{◌-◌, length, replicate}
+use Rattle.divector.proofs.Loops.{Half}
 use Rattle.divector.proofs.fill_one.Given as goal
 
 abbrev pub invariant-loop-i : goal.invariant-loop-i

@@ -1,5 +1,4 @@
 use Rattle.divector.specs.DiVector.{max_contribution}
-use Rattle.std.proofs.Common.{rules}
 use Rattle.divector.proofs.max_contribution.Goals as goal
 
 pub returns : goal.returns

@@ -1,5 +1,5 @@
-use Rattle.std.proofs.Common.{pos_of_ne-zero, arith, rules, eq-eqb, ne_eqb}
-use Rattle.divector.proofs.Blocks.{whole, some, first_far, first_near}
+use Rattle.std.proofs.Common.{eq-eqb, ne_eqb}
+use Rattle.divector.proofs.Blocks.{first_far, first_near}
 use Rattle.divector.specs.DiVector.{max_gap_contribution, bad_blocks}
 use Rattle.divector.proofs.max_gap_contribution.Goals as goal
 

@@ -1,4 +1,4 @@
-use Rattle.std.proofs.Common.{sym, refl, rules, eq-eqb, ne_eqb}
+use Rattle.std.proofs.Common.{sym, refl, eq-eqb, ne_eqb}
 use Rattle.divector.proofs.Laws.{done, shared, rescaled}
 use Rattle.divector.specs.DiVector.{normalize}
 use Rattle.divector.proofs.normalize.Goals as goal

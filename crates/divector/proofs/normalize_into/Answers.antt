@@ -1,4 +1,4 @@
-use Rattle.std.proofs.Common.{sym, ◌∙◌, arith, rules}
+use Rattle.std.proofs.Common.{sym, ◌∙◌, arith}
 use Rattle.divector.proofs.Laws.{done, shared, rescaled, one_length_lem}
 use Rattle.divector.specs.DiVector.{normalize_into}
 use Rattle.divector.proofs.normalize_into.Goals as goal

@@ -1,4 +1,4 @@
-use Rattle.std.proofs.Common.{rules, eq-eqb, ne_eqb}
+use Rattle.std.proofs.Common.{eq-eqb, ne_eqb}
 use Rattle.divector.proofs.Laws.{done}
 use Rattle.divector.specs.DiVector.{scale}
 use Rattle.divector.proofs.scale.Goals as goal

@@ -1,8 +1,8 @@
-use Rattle.std.proofs.Common.{◌-◌, length, sym, ◌∙◌, rules}
+use Rattle.std.proofs.Common.{sym, ◌∙◌, rules}
 use lib.Ieee.{nan}
 use Rattle.divector.specs.DiVector.{scaled}
 use Rattle.divector.proofs.Laws.{scaled_length}
-use Rattle.divector.proofs.Loops.{Half, begin, into_next, end}
+use Rattle.divector.proofs.Loops.{begin, into_next}
 use Rattle.divector.proofs.scale_into.Goals as goal
 
 pub loop-i-init : goal.loop-i-init

@@ -1,8 +1,6 @@
-use Rattle.std.proofs.Common.{◌-◌, length, sym, ◌∙◌, rules}
-use lib.Ieee.{nan}
+use Rattle.std.proofs.Common.{◌-◌, length}
 use Rattle.divector.specs.DiVector.{scaled}
-use Rattle.divector.proofs.Laws.{scaled_length}
-use Rattle.divector.proofs.Loops.{Half, begin, into_next, end}
+use Rattle.divector.proofs.Loops.{Half}
 use Rattle.divector.proofs.scale_into.Given as goal
 
 abbrev pub invariant-loop-i : goal.invariant-loop-i

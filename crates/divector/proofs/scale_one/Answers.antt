@@ -1,8 +1,8 @@
-use Rattle.std.proofs.Common.{◌-◌, length, rules}
+use Rattle.std.proofs.Common.{rules}
 use lib.Ieee.{nan}
 use Rattle.divector.specs.DiVector.{scaled}
 use Rattle.divector.proofs.Laws.{scaled_length}
-use Rattle.divector.proofs.Loops.{Half, begin, map_next, end}
+use Rattle.divector.proofs.Loops.{begin, map_next}
 use Rattle.divector.proofs.scale_one.Goals as goal
 
 pub loop-i-init : goal.loop-i-init

@@ -1,8 +1,6 @@
-use Rattle.std.proofs.Common.{◌-◌, length, rules}
-use lib.Ieee.{nan}
+use Rattle.std.proofs.Common.{◌-◌, length}
 use Rattle.divector.specs.DiVector.{scaled}
-use Rattle.divector.proofs.Laws.{scaled_length}
-use Rattle.divector.proofs.Loops.{Half, begin, map_next, end}
+use Rattle.divector.proofs.Loops.{Half}
 use Rattle.divector.proofs.scale_one.Given as goal
 
 abbrev pub invariant-loop-i : goal.invariant-loop-i

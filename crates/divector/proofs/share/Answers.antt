@@ -1,5 +1,4 @@
 use Rattle.divector.specs.DiVector.{share}
-use Rattle.std.proofs.Common.{rules}
 use Rattle.divector.proofs.share.Goals as goal
 
 pub returns : goal.returns

@@ -1,4 +1,4 @@
-use Rattle.std.proofs.Common.{rules, eq-eqb, ne_eqb}
+use Rattle.std.proofs.Common.{eq-eqb, ne_eqb}
 use Rattle.divector.specs.DiVector.{total}
 use Rattle.divector.proofs.total.Goals as goal
 

@@ -1,7 +1,6 @@
-use Rattle.std.proofs.Common.{◌≡◌, ◌-◌, length, drop, refl, ◌∙◌, arith, rules}
+use Rattle.std.proofs.Common.{◌∙◌, arith}
 use lib.Ieee.{nan}
-use Rattle.ieee.specs.F64.{zero64}
-use Rattle.divector.specs.DiVector.{sum_from, total_of}
+use Rattle.divector.specs.DiVector.{total_of}
 use Rattle.divector.proofs.Loops.{sum_step, sum_end}
 use Rattle.divector.proofs.total_of.Goals as goal
 

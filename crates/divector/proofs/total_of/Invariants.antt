@@ -1,8 +1,6 @@
-use Rattle.std.proofs.Common.{◌≡◌, ◌-◌, length, drop, refl, ◌∙◌, arith, rules}
-use lib.Ieee.{nan}
+use Rattle.std.proofs.Common.{◌≡◌, ◌-◌, length, drop}
 use Rattle.ieee.specs.F64.{zero64}
-use Rattle.divector.specs.DiVector.{sum_from, total_of}
-use Rattle.divector.proofs.Loops.{sum_step, sum_end}
+use Rattle.divector.specs.DiVector.{sum_from}
 use Rattle.divector.proofs.total_of.Given as goal
 
 abbrev pub invariant-loop-i : goal.invariant-loop-i

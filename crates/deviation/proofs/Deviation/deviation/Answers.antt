@@ -1,5 +1,4 @@
 use Rattle.deviation.proofs.Measuring.{deviation_empty, deviation_number}
-use borrow.Author.Rules.{rules}
 use Rattle.deviation.proofs.Deviation.deviation.Goals as goal
 
 pub returns-in-Empty : goal.returns-in-Empty

@@ -1,6 +1,5 @@
 use Rattle.deviation.specs.Statistics.{mean, measured_mean}
 use mathlib.Core.Path.{sym, ◌∙◌}
-use borrow.Author.Rules.{rules}
 use Rattle.deviation.proofs.Deviation.mean.Goals as goal
 
 pub returns-then-is_empty : goal.returns-then-is_empty

@@ -1,7 +1,6 @@
 use mathlib.Core.Path.{ap, ◌∙◌}
 use Rattle.deviation.specs.Statistics.{or_zero}
 use Rattle.deviation.proofs.Measuring.{or_zero_mean}
-use borrow.Author.Rules.{rules}
 use Rattle.deviation.proofs.Deviation.mean_or_zero.Goals as goal
 
 pub returns : goal.returns

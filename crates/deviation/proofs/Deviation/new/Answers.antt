@@ -1,5 +1,4 @@
 use Rattle.deviation.specs.Statistics.{new}
-use borrow.Author.Rules.{rules}
 use Rattle.deviation.proofs.Deviation.new.Goals as goal
 
 pub returns-then-discount : goal.returns-then-discount

@@ -1,5 +1,4 @@
 use Rattle.deviation.specs.Statistics.{reset}
-use borrow.Author.Rules.{rules}
 use Rattle.deviation.proofs.Deviation.reset.Goals as goal
 
 pub returns : goal.returns

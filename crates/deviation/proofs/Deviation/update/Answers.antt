@@ -1,5 +1,4 @@
-use mathlib.Core.Path.{◌∙◌, ap, sym, subst}
-use lib.Dec.{T}
+use mathlib.Core.Path.{◌∙◌, ap}
 use mir.Syntax.{w32}
 use mir.ValLaws.{to_z-of_z}
 use Rattle.types.specs.declared.Answer.TheVariants as Answers
