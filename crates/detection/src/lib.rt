@@ -28,7 +28,7 @@ pub enum Verdict {
     Skipped,
 }
 
-#[derive(Drop)]
+#[derive(Clone, Copy)]
 pub enum Outcome {
     Accepted(Verdict),
     Refused(Refusal),
