@@ -1,5 +1,6 @@
 // The rows of a cabinet's export, CSV after RFC 4180, read in parts of any size. Nothing of the input is kept: a scan has a fixed size.
 #![tactic(auto)]
+
 ghost use Rattle.std.specs.Prelude.{◌≡◌, drop};
 ghost use Rattle.csv_rows.specs.Scanning as Scanning;
 ghost use Rattle.csv_rows.specs.Sizes as Sizes;
