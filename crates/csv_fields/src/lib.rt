@@ -1,6 +1,7 @@
 // A field of a cabinet's export, read byte by byte: its quotes, and its content, which is a word of the header, a whole number or a score. Nothing is kept of it but what
 // it says so far.
 #![tactic(auto)]
+
 ghost use Rattle.std.specs.Prelude.{◌≡◌, ◌≤◌, ◌<◌, true, eqb, length, get_or, drop};
 ghost use Rattle.csv_fields.specs.Contents as Contents;
 ghost use Rattle.csv_fields.specs.Pushing as Pushing;

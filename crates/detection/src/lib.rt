@@ -1,5 +1,6 @@
 // predictorcorrector.rs: what `detect_and_modify` decides on a reading. The stages are functions of their own; what the forest answers is lent.
 #![tactic(auto)]
+
 ghost use Rattle.std.specs.Prelude.{◌≡◌, cond, eqb, ◌≤◌, ◌*◌, ◌+◌, ◌-◌, pos, ◌+ℤ◌, ◌-ℤ◌, length, take, drop, replicate};
 ghost use Rattle.types.specs.Codes.{is_differenced};
 ghost use Rattle.attributors.specs.Attributors.{padded};

@@ -1,5 +1,6 @@
 // predictorcorrector.rs: the state, its construction and setters, and what a reading does to it.
 #![tactic(auto)]
+
 ghost use Rattle.std.specs.Prelude.{◌≡◌, ◌≤◌, false, length};
 ghost use Rattle.deviation.specs.Const.{zero64};
 ghost use Rattle.deviation.specs.Statistics as Statistics;
