@@ -1,6 +1,7 @@
 // The stored state's bytes, in document 02's order, and those of a reading, the last descriptor and a verdict: little-endian, without gaps. Reading and writing are
 // straight code, so that the bytes of a number become one load or one store.
 #![tactic(auto)]
+
 ghost use Rattle.std.specs.Prelude.{◌≡◌, ◌+◌, ◌*◌, ◌<◌, ◌≤◌, true, length, replicate};
 ghost use Rattle.deviation.specs.Statistics.{reset, counted};
 ghost use Rattle.predictorcorrector.specs.Lists.{changed, stepped, first_countable};
