@@ -1,5 +1,6 @@
 // The export watch row by row: what a row of a cabinet's export does to the run, and what it prints. Bytes are read below, in `csv_rows`, and written above.
 #![tactic(auto)]
+
 ghost use Rattle.std.specs.Prelude.{◌≡◌, ◌<◌};
 ghost use Rattle.score_kinds.specs.Counting as Counting;
 ghost use Rattle.export_rows.specs.Taking as Taking;

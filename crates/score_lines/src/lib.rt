@@ -1,6 +1,7 @@
 // The score watch on bytes: lines of eight hexadecimal digits in, rows of thresholds and grades out. A run is fed its input in parts, cut anywhere, and
 // hands back what it prints; a program above has only to read and to write.
 #![tactic(auto)]
+
 ghost use Rattle.std.specs.Prelude.{◌≡◌, ◌+◌, ◌*◌, ◌≤◌, ◌<◌, length, take};
 ghost use Rattle.score_lines.specs.Output as Output;
 ghost use Rattle.score_lines.specs.Feeding as Feeding;
