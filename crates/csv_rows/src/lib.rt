@@ -45,14 +45,14 @@ pub enum Row {
 }
 
 // The scan behind a byte, and the row that the byte ended.
-#[derive(Drop)]
+#[derive(Clone, Copy)]
 pub struct Stepped {
     pub scan: Scan,
     pub row: Row,
 }
 
 // The scan where reading stopped, the row that ended there, and the place behind it.
-#[derive(Drop)]
+#[derive(Clone, Copy)]
 pub struct Reached {
     pub scan: Scan,
     pub row: Row,

@@ -36,7 +36,7 @@ pub struct Course {
 }
 
 // What a row prints, its number apart.
-#[derive(Drop)]
+#[derive(Clone, Copy)]
 pub enum Line {
     Nothing,
     Shown(Kind),
@@ -45,7 +45,7 @@ pub enum Line {
 }
 
 // The run after a row, and what the row prints.
-#[derive(Drop)]
+#[derive(Clone, Copy)]
 pub struct Taken {
     pub course: Course,
     pub line: Line,

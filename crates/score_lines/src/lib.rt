@@ -16,7 +16,7 @@ const LINE_END: u8 = b'\n';
 const MOST_LINES: u64 = 65536;
 
 // What a line holds.
-#[derive(Drop)]
+#[derive(Clone, Copy)]
 pub enum Line {
     Score(f32),
     Fault,
@@ -33,7 +33,7 @@ pub struct Run {
 }
 
 // What a call that prints answers: the run after it, and where in the lent buffer the written bytes end.
-#[derive(Drop)]
+#[derive(Clone, Copy)]
 pub struct Fed {
     pub run: Run,
     pub written: usize,

@@ -9,7 +9,7 @@ overflow_add-upto c = record { fits = omega (arith, (found_room _ _ _ _ _ c.find
 pub returns-in-At : goal.returns-in-At
 returns-in-At c =
     let a = c.args in
-    horizon_other a.pool.now a.drawer a.horizon _ c.find.ensures _ c.in-At.is _ _ c.krcf_chain_set_horizon.auto.0 c.krcf_chain_set_horizon.ensures
+    horizon_other a.pool.now a.drawer a.horizon _ c.find.ensures _ c.in-At.is _ _ c.krcf_chain_set_horizon.auto.state c.krcf_chain_set_horizon.ensures
 
 pub returns-in-Same : goal.returns-in-Same
 returns-in-Same c = horizon_same c.args.pool.now c.args.drawer c.args.horizon _ c.find.ensures c.in-Same.is _ c.horizon_answer.ensures

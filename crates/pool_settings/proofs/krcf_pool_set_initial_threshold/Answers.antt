@@ -15,7 +15,7 @@ pub returns-in-At : goal.returns-in-At
 returns-in-At c =
     let a = c.args in
     set_other a.pool.now a.drawer _ a.initial (omega arith) (initial_threshold a.initial) (λ (s : PredictorCorrector). initial_threshold_set s a.initial) (λ (s : PredictorCorrector). refl)
-    (initial_threshold_compared a.initial) _ c.find.ensures _ c.in-At.is _ _ c.krcf_chain_set_initial_threshold.auto.0 c.krcf_chain_set_initial_threshold.ensures
+    (initial_threshold_compared a.initial) _ c.find.ensures _ c.in-At.is _ _ c.krcf_chain_set_initial_threshold.auto.state c.krcf_chain_set_initial_threshold.ensures
 
 pub returns-in-Same : goal.returns-in-Same
 returns-in-Same c =
@@ -25,3 +25,8 @@ returns-in-Same c =
 
 pub returns-in-Refused : goal.returns-in-Refused
 returns-in-Refused c = set_refused _ _ _ _ _ _ c.find.ensures _ _ c.in-Refused.is c.number.ensures
+
+pub slice_bounds-krcf_chain_set_initial_threshold-end : goal.slice_bounds-krcf_chain_set_initial_threshold-end
+slice_bounds-krcf_chain_set_initial_threshold-end c =
+    let r = found_room _ _ _ _ _ c.find.ensures _ c.in-At.is in
+    omega (arith, r.0, r.1)

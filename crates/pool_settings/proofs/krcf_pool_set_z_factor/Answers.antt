@@ -15,7 +15,7 @@ pub returns-in-At : goal.returns-in-At
 returns-in-At c =
     let a = c.args in
     set_other a.pool.now a.drawer _ a.factor (omega arith) (z_factor a.factor) (λ (s : PredictorCorrector). z_factor_set s a.factor) (λ (s : PredictorCorrector). refl)
-    (z_factor_compared a.factor) _ c.find.ensures _ c.in-At.is _ _ c.krcf_chain_set_z_factor.auto.0 c.krcf_chain_set_z_factor.ensures
+    (z_factor_compared a.factor) _ c.find.ensures _ c.in-At.is _ _ c.krcf_chain_set_z_factor.auto.state c.krcf_chain_set_z_factor.ensures
 
 pub returns-in-Same : goal.returns-in-Same
 returns-in-Same c =
