@@ -1,4 +1,4 @@
-use Rattle.std.proofs.Common.{arith, rules, eq-eqb, ne_eqb, le-leb}
+use Rattle.std.proofs.Common.{arith, eq-eqb, ne_eqb, le-leb}
 use borrow.Author.Tests.{lt-leb}
 use Rattle.score_rows.proofs.Bytes.{with_room}
 use Rattle.training_lines.specs.Feeding.{closing}

@@ -1,5 +1,4 @@
 use Rattle.training_lines.specs.Feeding.{is_over}
-use Rattle.std.proofs.Common.{rules}
 use Rattle.training_lines.proofs.is_over.Goals as goal
 
 pub returns-in-Seed : goal.returns-in-Seed

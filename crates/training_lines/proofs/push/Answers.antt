@@ -1,5 +1,4 @@
 use Rattle.training_lines.specs.Feeding.{step}
-use Rattle.std.proofs.Common.{rules}
 use Rattle.training_lines.proofs.push.Goals as goal
 
 pub returns-in-Seed : goal.returns-in-Seed

@@ -1,4 +1,4 @@
-use Rattle.std.proofs.Common.{arith, rules, le-ltb, lt-ltb, eq-eqb, ne_eqb, le-leb}
+use Rattle.std.proofs.Common.{arith, le-ltb, lt-ltb, eq-eqb, ne_eqb, le-leb}
 use borrow.Author.Tests.{lt-leb}
 use Rattle.score_lines.specs.Output.{digit_of, is_digit}
 use Rattle.training_lines.specs.Feeding.{count_step}

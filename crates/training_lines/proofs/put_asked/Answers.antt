@@ -1,4 +1,4 @@
-use Rattle.std.proofs.Common.{arith, rules, le-leb}
+use Rattle.std.proofs.Common.{arith, le-leb}
 use borrow.Author.Tests.{lt-leb}
 use Rattle.score_rows.proofs.Bytes.{with_room}
 use Rattle.training_lines.specs.Feeding.{asked}

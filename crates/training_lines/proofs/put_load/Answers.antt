@@ -1,9 +1,7 @@
-use Rattle.std.proofs.Common.{◌≡◌, ◌-◌, ◌*◌, ◌≤◌, [], length, sym, refl, ap, ◌∙◌, add-one, arith, rules}
-use Rattle.score_rows.specs.Steps.{Put}
+use Rattle.std.proofs.Common.{[], sym, refl, ap, ◌∙◌, add-one, arith, rules}
 use Rattle.score_rows.proofs.Bytes.{put_none}
 use Rattle.training_scores.specs.declared.Stepped.{Stepped}
 use Rattle.training_scores.specs.Recurrence.{next, stepped}
-use Rattle.training_lines.specs.Output.{load}
 use Rattle.training_lines.proofs.Load.{line_length, after, after_last, load_none, load_more}
 use Rattle.training_lines.proofs.put_load.Goals as goal
 

@@ -1,10 +1,7 @@
-use Rattle.std.proofs.Common.{◌≡◌, ◌-◌, ◌*◌, ◌≤◌, [], length, sym, refl, ap, ◌∙◌, add-one, arith, rules}
+use Rattle.std.proofs.Common.{◌≡◌, ◌-◌, ◌*◌, ◌≤◌, length}
 use Rattle.score_rows.specs.Steps.{Put}
-use Rattle.score_rows.proofs.Bytes.{put_none}
-use Rattle.training_scores.specs.declared.Stepped.{Stepped}
-use Rattle.training_scores.specs.Recurrence.{next, stepped}
 use Rattle.training_lines.specs.Output.{load}
-use Rattle.training_lines.proofs.Load.{line_length, after, after_last, load_none, load_more}
+use Rattle.training_lines.proofs.Load.{after}
 use Rattle.training_lines.proofs.put_load.Given as goal
 
 abbrev pub invariant-loop-i : goal.invariant-loop-i

@@ -1,6 +1,5 @@
-use Rattle.std.proofs.Common.{◌≡◌, ◌+◌, ◌-◌, ◌≤◌, length, take, rules}
-use Rattle.score_rows.specs.Steps.{Put}
-use Rattle.score_rows.proofs.Bytes.{put_none, put_next, put_last}
+use Rattle.std.proofs.Common.{◌≡◌, length, rules}
+use Rattle.score_rows.proofs.Bytes.{put_next}
 use Rattle.training_lines.proofs.put_score.Goals as goal
 
 pub loop-i-preserved : goal.loop-i-preserved

@@ -1,6 +1,5 @@
-use Rattle.std.proofs.Common.{◌≡◌, ◌+◌, ◌-◌, ◌≤◌, length, take, rules}
+use Rattle.std.proofs.Common.{◌≡◌, ◌+◌, ◌-◌, ◌≤◌, length, take}
 use Rattle.score_rows.specs.Steps.{Put}
-use Rattle.score_rows.proofs.Bytes.{put_none, put_next, put_last}
 use Rattle.training_lines.proofs.put_score.Given as goal
 
 abbrev pub invariant-loop-i : goal.invariant-loop-i

@@ -1,6 +1,5 @@
 use Rattle.score_rows.specs.Text.{bits}
 use Rattle.training_lines.specs.Output.{score_line}
-use Rattle.std.proofs.Common.{rules}
 use Rattle.training_lines.proofs.score_line.Goals as goal
 
 pub returns : goal.returns
