@@ -10,7 +10,7 @@ use lib.ListN.{length, get_or, length-append}
 use lib.Dec.{T, leb, ltb, eqb}
 use borrow.Author.Tests.{leb-true, eqb-true, eqb-false, lt-ltb}
 use lib.Ieee.{Float, nan}
-use Rattle.ieee.specs.F64.{◌>=◌}
+use Rattle.ieee.specs.F64.{◌>=₆₄◌}
 use Rattle.attributors.specs.Const.{max_attributors}
 use Rattle.attributors.specs.Attributors.{for_up_to, high_low_sum, attribution_limit, reaches, reaching, likely_missing_indices}
 use Rattle.attributors.specs.Sorted.{sums, how_many, Sorted, pick_of, from_cutoff, picked, SortedPick}
@@ -53,25 +53,25 @@ module _ (test : Float → Bool) where
         by_test false q z before = elim (eq-or-lt_of_le (le_of_suc-le-suc h)) [ inl p ↦ ap (λ (j : ℕ). test (at j)) p ∙ q | inr p ↦ before z i p ]
 
 -- ---- sorted values
-module _ (values : List Float) (decreasing : (k : ℕ) → suc k < length values → (get_or values k nan >= get_or values (suc k) nan) ≡ true) where
-  ordered : (j k : ℕ) → j < k → k < length values → T (get_or values j nan >= get_or values k nan)
+module _ (values : List Float) (decreasing : (k : ℕ) → suc k < length values → (get_or values k nan >=₆₄ get_or values (suc k) nan) ≡ true) where
+  ordered : (j k : ℕ) → j < k → k < length values → T (get_or values j nan >=₆₄ get_or values k nan)
   ordered j zero h l = absurd (omega arith)
   ordered j (suc k) h l = by_place (eq-or-lt_of_le (le_of_suc-le-suc h)) (ordered j k)
     where
-      next : T (get_or values k nan >= get_or values (suc k) nan)
+      next : T (get_or values k nan >=₆₄ get_or values (suc k) nan)
       next = holds _ (decreasing k l)
 
-      by_place : (j ≡ k) ⊎ (j < k) → (j < k → k < length values → T (get_or values j nan >= get_or values k nan)) → T (get_or values j nan >= get_or values (suc k) nan)
+      by_place : (j ≡ k) ⊎ (j < k) → (j < k → k < length values → T (get_or values j nan >=₆₄ get_or values k nan)) → T (get_or values j nan >=₆₄ get_or values (suc k) nan)
       by_place (inl p) before = rw p next
       by_place (inr p) before = transitive _ _ _ next (before p (omega arith))
 
 -- Where a value reaches the limit, so does each before it.
 abbrev Closed : Float → List Float → Type 0
-Closed limit xs = (j k : ℕ) → j < k → k < length xs → (get_or xs k nan >= limit) ≡ true → (get_or xs j nan >= limit) ≡ true
+Closed limit xs = (j k : ℕ) → j < k → k < length xs → (get_or xs k nan >=₆₄ limit) ≡ true → (get_or xs j nan >=₆₄ limit) ≡ true
 
 module _ (limit : Float) where
   abbrev test : Float → Bool
-  test x = x >= limit
+  test x = x >=₆₄ limit
 
   behind : (x : Float) (xs : List Float) → Closed limit (x ∷ xs) → Closed limit xs
   behind x xs c j k h l = c (suc j) (suc k) (omega arith) (omega arith)
@@ -114,10 +114,10 @@ module _ (limit : Float) where
 
 -- ---- the row
 module _ (high low : List Float) (position : ℕ) where
-  length_reaching : (limit : Float) (n : ℕ) → length (reaching high low limit position n) ≡ how_many (λ x. x >= limit) (sums high low position n)
+  length_reaching : (limit : Float) (n : ℕ) → length (reaching high low limit position n) ≡ how_many (λ x. x >=₆₄ limit) (sums high low position n)
   unfolding reaching sums for_up_to how_many
   length_reaching limit zero = refl
-  length_reaching limit (suc n) = by_test (reaches high low limit (position + n)) (reaching high low limit position n) _ (length_reaching limit n) ∙ sym (more (λ x. x >= limit) (sums high low position n) (high_low_sum high low (position + n)))
+  length_reaching limit (suc n) = by_test (reaches high low limit (position + n)) (reaching high low limit position n) _ (length_reaching limit n) ∙ sym (more (λ x. x >=₆₄ limit) (sums high low position n) (high_low_sum high low (position + n)))
     where
       by_test : (t : Bool) (r : List ℕ) (m : ℕ) → length r ≡ m → length (cond t (r ++ ((position + n) ∷ [])) r) ≡ cond t (suc m) m
       by_test true r m e = simp length-append (omega arith)
@@ -145,31 +145,31 @@ module _ (values high low : List Float) (position base : ℕ) (s : Sorted values
 
   -- As many of the first values reach the limit as indices do.
   as_many : pick_of limit values ≡ length (reaching high low limit position base)
-  as_many = all_first limit values closed ∙ s.rearranged (λ x. x >= limit) ∙ sym (length_reaching high low position limit base)
+  as_many = all_first limit values closed ∙ s.rearranged (λ x. x >=₆₄ limit) ∙ sym (length_reaching high low position limit base)
 
   -- Of the values that reach the limit the last is the least: the sums that reach it are those that reach the limit.
   module _ (some : 0 < pick_of limit values) where
     abbrev cutoff : Float
     cutoff = get_or values (pick_of limit values - 1) nan
 
-    last : (cutoff >= limit ≡ true) × (pick_of limit values - 1 < length values)
+    last : (cutoff >=₆₄ limit ≡ true) × (pick_of limit values - 1 < length values)
     last = reached limit values (pick_of limit values - 1) (omega arith)
 
-    least : (k : ℕ) → k < length values → get_or values k nan >= limit ≡ true → get_or values k nan >= cutoff ≡ true
+    least : (k : ℕ) → k < length values → get_or values k nan >=₆₄ limit ≡ true → get_or values k nan >=₆₄ cutoff ≡ true
     least k h e = by_place (eq-or-lt_of_le below)
       where
         below : k ≤ pick_of limit values - 1
         below = let a = among limit values closed k h e in omega arith
 
-        by_place : (k ≡ pick_of limit values - 1) ⊎ (k < pick_of limit values - 1) → get_or values k nan >= cutoff ≡ true
-        by_place (inl p) = ap (λ (j : ℕ). get_or values j nan >= cutoff) p ∙ held _ (reflexive _ _ (holds _ last.0))
+        by_place : (k ≡ pick_of limit values - 1) ⊎ (k < pick_of limit values - 1) → get_or values k nan >=₆₄ cutoff ≡ true
+        by_place (inl p) = ap (λ (j : ℕ). get_or values j nan >=₆₄ cutoff) p ∙ held _ (reflexive _ _ (holds _ last.0))
         by_place (inr p) = held _ (ordered values s.decreasing k (pick_of limit values - 1) p last.1)
 
     abbrev missed : Float → Bool
-    missed x = (x >= limit) && not (x >= cutoff)
+    missed x = (x >=₆₄ limit) && not (x >=₆₄ cutoff)
 
     none_missed : (k : ℕ) → k < length values → missed (get_or values k nan) ≡ false
-    none_missed k h = by_tests (get_or values k nan >= limit) (get_or values k nan >= cutoff) (least k h)
+    none_missed k h = by_tests (get_or values k nan >=₆₄ limit) (get_or values k nan >=₆₄ cutoff) (least k h)
       where
         by_tests : (t u : Bool) → (t ≡ true → u ≡ true) → (t && not u) ≡ false
         by_tests false u l = refl
@@ -177,7 +177,7 @@ module _ (values high low : List Float) (position base : ℕ) (s : Sorted values
         by_tests true false l = sym (l refl)
 
     same_reach : (i : ℕ) → i < base → reaches high low cutoff (position + i) ≡ reaches high low limit (position + i)
-    same_reach i h = by_tests (x >= cutoff) (x >= limit) (λ e. held _ (transitive _ _ _ (holds _ last.0) (holds _ e))) not_missed
+    same_reach i h = by_tests (x >=₆₄ cutoff) (x >=₆₄ limit) (λ e. held _ (transitive _ _ _ (holds _ last.0) (holds _ e))) not_missed
       where
         x : Float
         x = high_low_sum high low (position + i)
@@ -223,14 +223,14 @@ same_pick values high low position base s =
 -- The first, if there is one, is not above x.
 Under : Float → List Float → Type 0
 Under x [] = Unit {0}
-Under x (y ∷ ys) = x >= y ≡ true
+Under x (y ∷ ys) = x >=₆₄ y ≡ true
 
 -- No value is NaN, and none is below the next.
 Falling : List Float → Type 0
 Falling [] = Unit {0}
 Falling (x ∷ xs) = (x ≡ nan → ⊥) × Under x xs × Falling xs
 
-decreases : (xs : List Float) → Falling xs → (k : ℕ) → suc k < length xs → (get_or xs k nan >= get_or xs (suc k) nan) ≡ true
+decreases : (xs : List Float) → Falling xs → (k : ℕ) → suc k < length xs → (get_or xs k nan >=₆₄ get_or xs (suc k) nan) ≡ true
 unfolding Falling Under
 decreases [] f k h = absurd (omega arith)
 decreases (x ∷ []) f k h = absurd (omega arith)
@@ -239,12 +239,12 @@ decreases (x ∷ y ∷ ys) f (suc k) h = decreases (y ∷ ys) f.2 k (le_of_suc-l
 
 insert : Float → List Float → List Float
 insert x [] = x ∷ []
-insert x (y ∷ ys) = cond (x >= y) (x ∷ y ∷ ys) (y ∷ insert x ys)
+insert x (y ∷ ys) = cond (x >=₆₄ y) (x ∷ y ∷ ys) (y ∷ insert x ys)
 
-insert_under : (z x : Float) (ys : List Float) → Under z ys → z >= x ≡ true → Under z (insert x ys)
+insert_under : (z x : Float) (ys : List Float) → Under z ys → z >=₆₄ x ≡ true → Under z (insert x ys)
 unfolding Under insert
 insert_under z x [] u e = e
-insert_under z x (y ∷ ys) u e = by_test (x >= y)
+insert_under z x (y ∷ ys) u e = by_test (x >=₆₄ y)
   where
     by_test : (t : Bool) → Under z (cond t (x ∷ y ∷ ys) (y ∷ insert x ys))
     by_test true = e
@@ -253,19 +253,19 @@ insert_under z x (y ∷ ys) u e = by_test (x >= y)
 insert_falls : (x : Float) (ys : List Float) → (x ≡ nan → ⊥) → Falling ys → Falling (insert x ys)
 unfolding Falling Under insert
 insert_falls x [] a f = (a, tt, tt)
-insert_falls x (y ∷ ys) a f = by_test (x >= y) refl (insert_falls x ys a f.2)
+insert_falls x (y ∷ ys) a f = by_test (x >=₆₄ y) refl (insert_falls x ys a f.2)
   where
-    other : x >= y ≡ false → y >= x ≡ true
+    other : x >=₆₄ y ≡ false → y >=₆₄ x ≡ true
     other e = elim (total x y a f.0) [ inl p ↦ held _ p | inr p ↦ absurd (clash (sym (held _ p) ∙ e)) ]
 
-    by_test : (t : Bool) → x >= y ≡ t → Falling (insert x ys) → Falling (cond t (x ∷ y ∷ ys) (y ∷ insert x ys))
+    by_test : (t : Bool) → x >=₆₄ y ≡ t → Falling (insert x ys) → Falling (cond t (x ∷ y ∷ ys) (y ∷ insert x ys))
     by_test true e i = (a, e, f)
     by_test false e i = (f.0, insert_under y x ys f.1 (other e), i)
 
 insert_many : (test : Float → Bool) (x : Float) (ys : List Float) → how_many test (insert x ys) ≡ cond (test x) (suc (how_many test ys)) (how_many test ys)
 unfolding how_many insert
 insert_many test x [] = refl
-insert_many test x (y ∷ ys) = by_test (x >= y) (insert_many test x ys)
+insert_many test x (y ∷ ys) = by_test (x >=₆₄ y) (insert_many test x ys)
   where
     by_test : (t : Bool) → how_many test (insert x ys) ≡ cond (test x) (suc (how_many test ys)) (how_many test ys)
         → how_many test (cond t (x ∷ y ∷ ys) (y ∷ insert x ys)) ≡ cond (test x) (suc (how_many test (y ∷ ys))) (how_many test (y ∷ ys))

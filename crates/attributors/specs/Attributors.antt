@@ -1,7 +1,7 @@
 -- The likely missing indices of expected_point, as the Rust has them, and for which of them it asks the forest.
 use Rattle.std.specs.Prelude.{ℕ, zero, suc, ◌+◌, ◌*◌, Bool, cond, ◌&&◌, List, [], ◌∷◌, ◌++◌, length, get_or, set, leb, ltb, eqb, Float}
 use Rattle.std.specs.Float.{nan}
-use Rattle.ieee.specs.F64.{zero64, ◌>=◌, ◌+◌ as ◌+₆₄◌, ◌*◌ as ◌*₆₄◌, ◌/◌ as ◌/₆₄◌}
+use Rattle.ieee.specs.F64.{zero64, ◌>=₆₄◌, ◌+₆₄◌, ◌*₆₄◌, ◌/₆₄◌}
 use Rattle.attributors.specs.Const.{half64, five64, max_attributors}
 use Rattle.attributors.specs.declared.Missing.{Missing}
 
@@ -24,7 +24,7 @@ attribution_limit high low position base = attribution_sum high low position bas
 
 -- Whether the sum at an index reaches the limit.
 abbrev pub reaches : List Float → List Float → Float → ℕ → Bool
-reaches high low limit i = high_low_sum high low i >= limit
+reaches high low limit i = high_low_sum high low i >=₆₄ limit
 
 -- Those of the n indices from position on whose sum reaches the limit.
 unfoldable pub reaching : List Float → List Float → Float → ℕ → ℕ → List ℕ

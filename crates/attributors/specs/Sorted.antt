@@ -1,7 +1,7 @@
 -- The likely missing indices by the steps of expected_point, which sorts the sums and picks by a cutoff: the same as those of Attributors.
 use Rattle.std.specs.Prelude.{◌≡◌, ℕ, suc, ◌+◌, ◌-◌, ◌<◌, Bool, true, not, cond, ◌&&◌, List, [], ◌∷◌, ◌++◌, length, get_or, leb, ltb, eqb, Float}
 use Rattle.std.specs.Float.{nan}
-use Rattle.ieee.specs.F64.{◌>=◌}
+use Rattle.ieee.specs.F64.{◌>=₆₄◌}
 use Rattle.attributors.specs.Const.{max_attributors}
 use Rattle.attributors.specs.Attributors.{for_up_to, high_low_sum, attribution_limit, reaches, likely_missing_indices}
 
@@ -16,13 +16,13 @@ how_many test (x ∷ xs) = cond (test x) (suc (how_many test xs)) (how_many test
 
 -- values after the sort: each is at least the next, and every test is passed by as many values as sums. So they are the sums, in decreasing order.
 pub record Sorted (values sums : List Float) : Type 0 where
-  pub decreasing : (k : ℕ) → suc k < length values → (get_or values k nan >= get_or values (suc k) nan) ≡ true
+  pub decreasing : (k : ℕ) → suc k < length values → (get_or values k nan >=₆₄ get_or values (suc k) nan) ≡ true
   pub rearranged : (test : Float → Bool) → how_many test values ≡ how_many test sums
 
 -- pick: how many of the first values reach the limit.
 unfoldable pub pick_of : Float → List Float → ℕ
 pick_of limit [] = 0
-pick_of limit (x ∷ xs) = cond (x >= limit) (suc (pick_of limit xs)) 0
+pick_of limit (x ∷ xs) = cond (x >=₆₄ limit) (suc (pick_of limit xs)) 0
 
 -- The last loop: those of the n indices from position on whose sum reaches the cutoff, as long as fewer than five are found.
 unfoldable pub from_cutoff : List Float → List Float → Float → ℕ → ℕ → List ℕ

@@ -1,8 +1,8 @@
--- basicthresholder.rs: construction, updates and setters. One definition for each function, in the Rust's shape. Operators are those of f32, `/₆₄` is f64's.
+-- basicthresholder.rs: construction, updates and setters. One definition for each function, in the Rust's shape. Operators with ₃₂ are those of f32, `/₆₄` is f64's.
 use Rattle.std.specs.Prelude.{Bool, cond, ◌&&◌, ℤ, pos, Float}
 use Rattle.ieee.specs.Round.{narrow}
-use Rattle.ieee.specs.F32.{◌-◌, ◌<=◌, ◌>◌, ◌>=◌}
-use Rattle.ieee.specs.F64.{◌/◌ as ◌/₆₄◌}
+use Rattle.ieee.specs.F32.{◌-₃₂◌, ◌<=₃₂◌, ◌>₃₂◌, ◌>=₃₂◌}
+use Rattle.ieee.specs.F64.{◌/₆₄◌}
 use Rattle.util.specs.Util.{minf32}
 use Rattle.types.specs.declared.Refusal.{Refusal}
 use Rattle.types.specs.declared.Refusal.TheVariants.{Discount, Count, Horizon}
@@ -69,11 +69,11 @@ with_counted s last primary secondary third n = record {
 
 -- The third statistic counts a gap above 0.
 unfoldable pub counted_gap : Deviation → Float → Deviation
-counted_gap third gap = cond (gap > zero32) (counted third gap) third
+counted_gap third gap = cond (gap >₃₂ zero32) (counted third gap) third
 
 -- The third statistic after a score, by its gap over the primary's mean.
 unfoldable pub counted_over : Deviation → Deviation → Float → Deviation
-counted_over third primary score = counted_gap third (score - narrow (mean primary))
+counted_over third primary score = counted_gap third (score -₃₂ narrow (mean primary))
 
 -- What `update_threshold`, `update_primary` and `update_both` leave where the counts take an update. The gap is over the mean after the score.
 unfoldable pub threshold_counted : BasicThresholder → Float → BasicThresholder
@@ -115,7 +115,7 @@ update_both s primary secondary = updated s (both_counted s primary secondary)
 
 -- The primary is capped at 2.
 unfoldable pub update : BasicThresholder → Float → Float → Float → Updated
-update s primary secondary last_score = update_both s (minf32 two32 primary) (secondary - last_score)
+update s primary secondary last_score = update_both s (minf32 two32 primary) (secondary -₃₂ last_score)
 
 -- The settings that the setters change.
 pub record Settings : Type 0 where
@@ -191,7 +191,7 @@ with_score_differencing s horizon = with_settings s (record {
 
 -- No NaN is one.
 unfoldable pub is_horizon : Float → Bool
-is_horizon horizon = horizon >= zero32 && horizon <= one32
+is_horizon horizon = horizon >=₃₂ zero32 && horizon <=₃₂ one32
 
 -- Refusal 7 for any other horizon.
 unfoldable pub set_score_differencing : BasicThresholder → Float → Updated

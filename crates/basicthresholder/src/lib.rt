@@ -1,6 +1,7 @@
 // basicthresholder.rs: turns the statistics of past scores into a threshold, and a score into a grade. `&mut self` becomes the
 // state in and the state out; each statistic's root is computed at most once in a call.
 #![tactic(auto)]
+
 ghost use Rattle.std.specs.Prelude.{◌≡◌, false};
 ghost use Rattle.std.specs.Float.{binary32};
 ghost use Rattle.std.specs.Float.Ieee as Ieee;
@@ -53,7 +54,7 @@ pub struct BasicThresholder {
     pub z_factor: f32,
 }
 
-#[derive(Drop)]
+#[derive(Clone, Copy)]
 pub enum Made {
     Ready(BasicThresholder),
     Refused(Refusal),
@@ -66,7 +67,7 @@ pub struct Graded {
     pub grade: f32,
 }
 
-#[derive(Drop)]
+#[derive(Clone, Copy)]
 pub struct Updated {
     pub answer: Answer,
     pub thresholder: BasicThresholder,
@@ -421,7 +422,7 @@ impl BasicThresholder {
     }
 
     pub fn set_z_factor(self, factor: f32) -> BasicThresholder
-        ensures { result ≡ Updates.with_zFactor self factor }
+        ensures { result ≡ Updates.with_z_factor self factor }
     {
         let mut out = self;
         out.z_factor = factor;

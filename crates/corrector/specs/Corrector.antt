@@ -5,8 +5,8 @@ use Rattle.std.proofs.Math.Seq.{paste}
 use Rattle.std.specs.Float.Ieee as Ieee
 use Rattle.std.specs.Float.{nan, binary32}
 use Rattle.util.specs.Util.{absf32}
-use Rattle.ieee.specs.F32.{zero32, ◌>◌, ◌+◌ as ◌+₃₂◌, ◌-◌ as ◌-₃₂◌, ◌*◌ as ◌*₃₂◌, ◌/◌ as ◌/₃₂◌}
-use Rattle.ieee.specs.F64.{◌-◌ as ◌-₆₄◌}
+use Rattle.ieee.specs.F32.{zero32, ◌>₃₂◌, ◌+₃₂◌, ◌-₃₂◌, ◌*₃₂◌, ◌/₃₂◌}
+use Rattle.ieee.specs.F64.{◌-₆₄◌}
 use Rattle.ieee.specs.Round.{narrow}
 use Rattle.types.specs.declared.Refusal.TheVariants.{Range, Length}
 use Rattle.types.specs.declared.Answer.{Answer}
@@ -67,8 +67,8 @@ differential_remainder high low ideal_high ideal_low start n =
 -- The trigger's two tests of a remainder, for a difference below the dimensions.
 unfoldable pub exceeds : Float → ℕ → ℕ → Float → Float → Bool
 exceeds remainder dimensions difference last_score threshold =
-    (remainder > factor32 *₃₂ last_score)
-    && (remainder *₃₂ Ieee.of_int binary32 (pos dimensions) /₃₂ Ieee.of_int binary32 (pos difference) > threshold)
+    (remainder >₃₂ factor32 *₃₂ last_score)
+    && (remainder *₃₂ Ieee.of_int binary32 (pos dimensions) /₃₂ Ieee.of_int binary32 (pos difference) >₃₂ threshold)
 
 -- The four slices equally long, at most 65,536, and base 1 to 65,536.
 unfoldable pub trigger_fits : (high low base ideal_high ideal_low : ℕ) → Bool

@@ -1,6 +1,7 @@
 // expected_point, trigger and apply_basic_corrector of trcf/predictorcorrector.rs on lent slices, and the newest row of a point.
 // Each takes every input: where slices or sizes do not fit, a buffer stays as it was, and the trigger says true. NaN and infinities are taken as they come.
 #![tactic(auto)]
+
 ghost use Rattle.std.specs.Prelude.{◌≡◌, ◌+◌, ◌-◌, ◌*◌, ◌<◌, ◌≤◌, true, [], length, take, drop};
 ghost use Rattle.std.proofs.Math.Seq.{paste};
 ghost use Rattle.ieee.specs.F32.{zero32};

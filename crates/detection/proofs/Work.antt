@@ -31,10 +31,6 @@ pub corrected_is : (point gap shingle base : ℕ) (h : Bool) (e a : ℕ) (out x 
 corrected_is point gap shingle base h e a out x y l f q =
     q ∙ ap (λ (t : Bool). cond t y out) (ap (corrector_fits point gap shingle base h e a) l ∙ corrects point gap shingle base h e a point f)
 
-pub not_true : (t : Bool) → not t ≡ true → t ≡ false
-not_true true h = sym h
-not_true false h = refl
-
 -- Nothing is corrected where the last anomaly is not recent.
 pub not_recent : (point : List Float) (gap shingle base : ℕ) (h : Bool) (e a : List Float) (i : ℤ) (u t : Bool) → is_recent h gap shingle ≡ false
     → point ≡ apply_basic_corrector point gap shingle base h e a i u t

@@ -2,7 +2,7 @@
 use mathlib.Core.Path.{◌≡◌, refl, sym, ap, ◌∙◌}
 use mathlib.Core.Bool.{Bool, true, false, cond, true≢false}
 use lib.Ieee.{Float}
-use Rattle.ieee.specs.F64.{◌-◌, ◌*◌, ◌/◌}
+use Rattle.ieee.specs.F64.{◌-₆₄◌, ◌*₆₄◌, ◌/₆₄◌}
 use Rattle.deviation.specs.Const.{zero64}
 use Rattle.deviation.specs.declared.Deviation.{Deviation}
 use Rattle.deviation.specs.declared.Measured.{Measured}
@@ -47,11 +47,11 @@ module _ (d : Deviation) where
   unfolding measured_mean mean measured_deviation deviation
   deviation_empty m e h = empty_too (is_empty d) _ _ (sym e ∙ h)
 
-  pub deviation_number : (m : Measured) (t y : Float) → m ≡ measured_mean d → m ≡ Number t → y ≡ positive_root (d.sum_squared / d.weight - t * t)
+  pub deviation_number : (m : Measured) (t y : Float) → m ≡ measured_mean d → m ≡ Number t → y ≡ positive_root (d.sum_squared /₆₄ d.weight -₆₄ t *₆₄ t)
       → Number y ≡ measured_deviation d
   unfolding measured_mean mean measured_deviation deviation
   deviation_number m t y e h r =
-      ap Number r ∙ number_too (is_empty d) _ t (λ (t : Float). positive_root (d.sum_squared / d.weight - t * t)) (sym e ∙ h)
+      ap Number r ∙ number_too (is_empty d) _ t (λ (t : Float). positive_root (d.sum_squared /₆₄ d.weight -₆₄ t *₆₄ t)) (sym e ∙ h)
 
 pub or_zero_as_before : OrZeroAsBefore
 or_zero_as_before d = (or_zero_mean d, or_zero_deviation d)

@@ -1,10 +1,10 @@
--- deviation.rs: discounted statistics of a run of scores. One definition for each function, in the Rust's order. Operators are those of f64, every step
+-- deviation.rs: discounted statistics of a run of scores. One definition for each function, in the Rust's order. Operators with ₆₄ are those of f64, every step
 -- rounded; `sqrt` is the correctly rounded root.
 use Rattle.std.specs.Prelude.{◌≡◌, Bool, false, cond, ◌&&◌, ℤ, pos, negsuc, ◌+ℤ◌, leb, Float}
 use Rattle.std.specs.Float.Ieee.{of_int}
 use Rattle.std.specs.Float.{binary64}
 use Rattle.ieee.specs.Round.{sqrt}
-use Rattle.ieee.specs.F64.{◌+◌, ◌-◌, ◌*◌, ◌/◌, ◌<◌, ◌<=◌, ◌>◌, ◌>=◌, ◌==◌}
+use Rattle.ieee.specs.F64.{◌+₆₄◌, ◌-₆₄◌, ◌*₆₄◌, ◌/₆₄◌, ◌<₆₄◌, ◌<=₆₄◌, ◌>₆₄◌, ◌>=₆₄◌, ◌==₆₄◌}
 use Rattle.types.specs.declared.Refusal.TheVariants.{Discount, Count}
 use Rattle.types.specs.declared.Answer.TheVariants as Answers
 use Rattle.deviation.specs.Const.{zero64, one64, count_limit}
@@ -25,7 +25,7 @@ fresh d = create d zero64 zero64 zero64 (pos 0)
 
 -- No NaN is one.
 abbrev pub is_discount : Float → Bool
-is_discount discount = discount >= zero64 && discount < one64
+is_discount discount = discount >=₆₄ zero64 && discount <₆₄ one64
 
 -- Refusal 1 for any other discount.
 unfoldable pub new : Float → Made
@@ -36,27 +36,27 @@ unfoldable pub reset : Deviation → Deviation
 reset d = fresh d.discount
 
 unfoldable pub is_empty : Deviation → Bool
-is_empty d = d.weight <= zero64
+is_empty d = d.weight <=₆₄ zero64
 
 -- The Rust's `mean`, which `mean_or_zero` answers; `mean` answers `measured_mean`.
 unfoldable pub mean : Deviation → Float
-mean d = cond (is_empty d) zero64 (d.sum / d.weight)
+mean d = cond (is_empty d) zero64 (d.sum /₆₄ d.weight)
 
 -- What the sums are multiplied by before a score is added: 1 for discount 0, otherwise the smaller of 1 - discount and
 -- 1 - 1/(count + 2), the count taken before.
 unfoldable pub factor : Float → ℤ → Float
 factor discount count =
-    let a = one64 - discount in
-    let b = one64 - one64 / of_int binary64 (count +ℤ pos 2) in
-    cond (discount == zero64) one64 (cond (a < b) a b)
+    let a = one64 -₆₄ discount in
+    let b = one64 -₆₄ one64 /₆₄ of_int binary64 (count +ℤ pos 2) in
+    cond (discount ==₆₄ zero64) one64 (cond (a <₆₄ b) a b)
 
 -- The record with the factor applied, the score entered and another count.
 abbrev pub grown : Deviation → Float → Float → ℤ → Deviation
 grown d score factor count = record {
   discount = d.discount;
-  weight = d.weight * factor + one64;
-  sum_squared = d.sum_squared * factor + score * score;
-  sum = d.sum * factor + score;
+  weight = d.weight *₆₄ factor +₆₄ one64;
+  sum_squared = d.sum_squared *₆₄ factor +₆₄ score *₆₄ score;
+  sum = d.sum *₆₄ factor +₆₄ score;
   count = count;
 }
 
@@ -86,13 +86,13 @@ counted d score = (update d score).deviation
 
 -- The root of a positive number; 0 of any other number and of NaN.
 unfoldable pub positive_root : Float → Float
-positive_root answer = cond (answer > zero64) (sqrt answer) zero64
+positive_root answer = cond (answer >₆₄ zero64) (sqrt answer) zero64
 
 -- The Rust's `deviation`, which `deviation_or_zero` answers; `deviation` answers `measured_deviation`.
 unfoldable pub deviation : Deviation → Float
 deviation d =
-    let temp = d.sum / d.weight in
-    cond (is_empty d) zero64 (positive_root (d.sum_squared / d.weight - temp * temp))
+    let temp = d.sum /₆₄ d.weight in
+    cond (is_empty d) zero64 (positive_root (d.sum_squared /₆₄ d.weight -₆₄ temp *₆₄ temp))
 
 -- Document 02, A2: what a statistic says of its scores. It is empty, with no number, exactly where its weight is at or below 0, which NaN is not; otherwise the
 -- number is the Rust's.

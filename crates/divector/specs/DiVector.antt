@@ -7,7 +7,7 @@ use Rattle.types.specs.declared.Answer.{Answer}
 use Rattle.types.specs.declared.Answer.TheVariants.{Done, Refused}
 use Rattle.divector.specs.declared.Number.{Number}
 use Rattle.divector.specs.declared.Block.{Block}
-use Rattle.ieee.specs.F64.{zero64, one64, ◌<=◌, ◌>◌, ◌+◌ as ◌+₆₄◌, ◌*◌ as ◌*₆₄◌, ◌/◌ as ◌/₆₄◌}
+use Rattle.ieee.specs.F64.{zero64, one64, ◌<=₆₄◌, ◌>₆₄◌, ◌+₆₄◌, ◌*₆₄◌, ◌/₆₄◌}
 use Rattle.divector.specs.Const.{two64}
 
 -- acc and the numbers of the list, added in order
@@ -106,7 +106,7 @@ share value n = value /₆₄ (two64 *₆₄ Ieee.of_int binary64 (pos n))
 unfoldable pub normalized : Float → List Float → List Float → List Float → List Float
 normalized value hs ls xs =
     let current = total_of hs ls in
-    cond (current <= zero64) (replicate (length hs) (share value (length hs))) (scaled (value /₆₄ current) xs)
+    cond (current <=₆₄ zero64) (replicate (length hs) (share value (length hs))) (scaled (value /₆₄ current) xs)
 
 -- both sides normalised to value
 unfoldable pub normalize : List Float → List Float → Float → After
@@ -128,7 +128,7 @@ block_sum hs ls base k = pair_sum hs ls (k * base) base
 -- The winner among index, the winner so far, and the n blocks from j on: a later block wins only if its sum is strictly larger.
 unfoldable pub best_from : (ℕ → Float) → ℕ → ℕ → ℕ → ℕ
 best_from sum zero j index = index
-best_from sum (suc n) j index = best_from sum n (j + 1) (cond (sum j > sum index) j index)
+best_from sum (suc n) j index = best_from sum n (j + 1) (cond (sum j >₆₄ sum index) j index)
 
 -- the winner among the blocks from start on
 unfoldable pub winner : List Float → List Float → ℕ → ℕ → ℕ → ℕ

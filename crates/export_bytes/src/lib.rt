@@ -18,7 +18,7 @@ pub struct Run {
 }
 
 // What a call that prints answers: the run after it, and where in the lent buffer the written bytes end.
-#[derive(Drop)]
+#[derive(Clone, Copy)]
 pub struct Fed {
     pub run: Run,
     pub written: usize,

@@ -1,6 +1,7 @@
 // The stored state's bytes, in document 02's order, and those of a reading, the last descriptor and a verdict: little-endian, without gaps. Reading and writing are
 // straight code, so that the bytes of a number become one load or one store.
 #![tactic(auto)]
+
 ghost use Rattle.std.specs.Prelude.{◌≡◌, ◌+◌, ◌*◌, ◌<◌, ◌≤◌, true, length, replicate};
 ghost use Rattle.deviation.specs.Statistics.{reset, counted};
 ghost use Rattle.predictorcorrector.specs.Lists.{changed, stepped, first_countable};
@@ -133,33 +134,33 @@ const THRESHOLD_AT: usize = 2;
 const RELATIVE_INDEX_AT: usize = 10;
 
 // A statistic of 36 bytes.
-#[derive(Drop)]
+#[derive(Clone, Copy)]
 pub enum DeviationRead {
     Read(Deviation),
     Refused(Refusal),
 }
 
-#[derive(Drop)]
+#[derive(Clone, Copy)]
 pub enum ThresholderRead {
     Read(BasicThresholder),
     Refused(Refusal),
 }
 
 // An enum cannot hold the state's lists, so the answer stands beside it.
-#[derive(Drop)]
+#[derive(Clone, Copy)]
 pub struct StateRead {
     pub answer: Answer,
     pub state: PredictorCorrector,
 }
 
-#[derive(Drop)]
+#[derive(Clone, Copy)]
 pub enum StandingRead {
     Read(Standing),
     Refused(Refusal),
 }
 
 // What a call reads of all three slices.
-#[derive(Drop)]
+#[derive(Clone, Copy)]
 pub enum CallRead {
     Read(Standing, Reading, LastDescriptor),
     Refused(Refusal),

@@ -29,14 +29,14 @@ pub struct Slot {
     pub free: u32,
 }
 
-#[derive(Drop)]
+#[derive(Clone, Copy)]
 pub enum Located {
     At(Slot),
     Refused(Refusal),
 }
 
 // Thirty numbers; whether the pool is one that 13 does not refuse.
-#[derive(Drop)]
+#[derive(Clone, Copy)]
 pub struct Listed {
     pub sound: bool,
     pub numbers: [u32; 30],

@@ -1,4 +1,3 @@
-use Rattle.std.proofs.Common.{rules}
 use Rattle.corrector.specs.Corrector.{amended}
 use Rattle.corrector.proofs.amend.Goals as goal
 

@@ -1,6 +1,6 @@
-use Rattle.std.proofs.Common.{◌≡◌, ◌-◌, ◌≤◌, length, refl, arith, length-set, rules}
+use Rattle.std.proofs.Common.{refl, arith, length-set, rules}
 use Rattle.corrector.specs.Corrector.{amended_row, for_up_to}
-use Rattle.attributors.proofs.Laws.{for_more, at_end}
+use Rattle.attributors.proofs.Laws.{for_more}
 use Rattle.corrector.proofs.amend_row.Goals as goal
 
 pub loop-y-init : goal.loop-y-init

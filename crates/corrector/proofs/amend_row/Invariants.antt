@@ -1,6 +1,5 @@
-use Rattle.std.proofs.Common.{◌≡◌, ◌-◌, ◌≤◌, length, refl, arith, length-set, rules}
-use Rattle.corrector.specs.Corrector.{amended_row, for_up_to}
-use Rattle.attributors.proofs.Laws.{for_more, at_end}
+use Rattle.std.proofs.Common.{◌≡◌, ◌-◌, ◌≤◌, length}
+use Rattle.corrector.specs.Corrector.{amended_row}
 use Rattle.corrector.proofs.amend_row.Given as goal
 
 abbrev pub invariant-loop-y : goal.invariant-loop-y

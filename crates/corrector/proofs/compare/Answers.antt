@@ -6,7 +6,6 @@ use Rattle.corrector.proofs.compare.Goals as goal
 pub differential_remainder-remainder-requires : goal.differential_remainder-remainder-requires
 differential_remainder-remainder-requires c = let t = triggering _ _ _ _ _ c.requires in search rules
 
-
 pub overflow_mul-difference : goal.overflow_mul-difference
 overflow_mul-difference c =
     let t = triggering _ _ _ _ _ c.requires in

@@ -1,7 +1,5 @@
-use Rattle.std.proofs.Common.{◌≡◌, ◌-◌, ◌≤◌, length, drop, refl, arith, length-set, rules}
+use Rattle.std.proofs.Common.{arith, length-set}
 use lib.Ieee.{nan}
-use lib.Seq.{paste, paste-zero}
-use Rattle.attributors.proofs.Laws.{at_end}
 use Rattle.corrector.proofs.Laws.{paste_more}
 use Rattle.corrector.proofs.copy_part.Goals as goal
 

@@ -1,8 +1,5 @@
-use Rattle.std.proofs.Common.{◌≡◌, ◌-◌, ◌≤◌, length, drop, refl, arith, length-set, rules}
-use lib.Ieee.{nan}
-use lib.Seq.{paste, paste-zero}
-use Rattle.attributors.proofs.Laws.{at_end}
-use Rattle.corrector.proofs.Laws.{paste_more}
+use Rattle.std.proofs.Common.{◌≡◌, ◌-◌, ◌≤◌, length, drop}
+use lib.Seq.{paste}
 use Rattle.corrector.proofs.copy_part.Given as goal
 
 abbrev pub invariant-loop-k : goal.invariant-loop-k

@@ -1,7 +1,5 @@
-use Rattle.std.proofs.Common.{◌≡◌, ℕ, ◌-◌, ◌≤◌, [], length, ap, ◌∙◌, arith, length-set, rules}
-use Rattle.ieee.specs.F32.{zero32}
-use Rattle.attributors.proofs.Laws.{at_end, length_padded}
-use Rattle.corrector.proofs.Rows.{row_of, row_more}
+use Rattle.std.proofs.Common.{arith, length-set}
+use Rattle.corrector.proofs.Rows.{row_more}
 use Rattle.corrector.proofs.copy_row.Goals as goal
 
 pub loop-i-preserved : goal.loop-i-preserved

@@ -1,7 +1,5 @@
-use Rattle.std.proofs.Common.{◌≡◌, ℕ, ◌-◌, ◌≤◌, [], length, ap, ◌∙◌, arith, length-set, rules}
-use Rattle.ieee.specs.F32.{zero32}
-use Rattle.attributors.proofs.Laws.{at_end, length_padded}
-use Rattle.corrector.proofs.Rows.{row_of, row_more}
+use Rattle.std.proofs.Common.{◌≡◌, ◌-◌, ◌≤◌, length}
+use Rattle.corrector.proofs.Rows.{row_of}
 use Rattle.corrector.proofs.copy_row.Given as goal
 
 abbrev pub invariant-loop-i : goal.invariant-loop-i

@@ -1,6 +1,6 @@
-use Rattle.std.proofs.Common.{◌≤◌, mul-le-mul_right, mul-le-mul, arith, rules, le-ltb, lt-ltb}
+use Rattle.std.proofs.Common.{le-ltb, lt-ltb}
 use Rattle.corrector.specs.Corrector.{apply_basic_corrector}
-use Rattle.corrector.proofs.Laws.{rows, zero_is, nonzero_is, or_true, copied, start_is}
+use Rattle.corrector.proofs.Laws.{zero_is, nonzero_is, or_true, copied, start_is}
 use Rattle.corrector.proofs.correct.Goals as goal
 
 pub returns-then-relative_index-eq0 : goal.returns-then-relative_index-eq0

@@ -1,4 +1,3 @@
-use Rattle.std.proofs.Common.{rules}
 use Rattle.corrector.specs.Corrector.{corrector_fits}
 use Rattle.corrector.proofs.corrector_fits.Goals as goal
 

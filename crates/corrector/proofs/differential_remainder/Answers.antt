@@ -1,6 +1,6 @@
-use Rattle.std.proofs.Common.{◌≡◌, ◌-◌, ◌≤◌, refl, arith, rules}
+use Rattle.std.proofs.Common.{refl, arith, rules}
 use Rattle.corrector.specs.Corrector.{differential_remainder, for_up_to}
-use Rattle.attributors.proofs.Laws.{for_more, at_end}
+use Rattle.attributors.proofs.Laws.{for_more}
 use Rattle.corrector.proofs.differential_remainder.Goals as goal
 
 pub loop-i-init : goal.loop-i-init

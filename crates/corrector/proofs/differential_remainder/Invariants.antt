@@ -1,6 +1,5 @@
-use Rattle.std.proofs.Common.{◌≡◌, ◌-◌, ◌≤◌, refl, arith, rules}
-use Rattle.corrector.specs.Corrector.{differential_remainder, for_up_to}
-use Rattle.attributors.proofs.Laws.{for_more, at_end}
+use Rattle.std.proofs.Common.{◌≡◌, ◌-◌, ◌≤◌}
+use Rattle.corrector.specs.Corrector.{differential_remainder}
 use Rattle.corrector.proofs.differential_remainder.Given as goal
 
 abbrev pub invariant-loop-i : goal.invariant-loop-i

@@ -1,4 +1,3 @@
-use Rattle.std.proofs.Common.{rules}
 use Rattle.corrector.specs.Corrector.{exceeds}
 use Rattle.corrector.proofs.exceeds.Goals as goal
 

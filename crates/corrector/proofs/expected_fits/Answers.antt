@@ -1,4 +1,3 @@
-use Rattle.std.proofs.Common.{rules}
 use Rattle.corrector.specs.Corrector.{expected_fits}
 use Rattle.corrector.proofs.expected_fits.Goals as goal
 

@@ -8,7 +8,6 @@ use Rattle.corrector.proofs.expected_row.Goals as goal
 pub copy_row-row-requires : goal.copy_row-row-requires
 copy_row-row-requires c = let f = expecting _ _ _ _ _ _ _ (sym c.expected_fits.ensures ∙ c.if-expected_fits.true) in search rules
 
-
 pub predict-requires : goal.predict-requires
 predict-requires c =
     let a = c.args in

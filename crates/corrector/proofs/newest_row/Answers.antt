@@ -1,4 +1,4 @@
-use Rattle.std.proofs.Common.{length, sym, ◌∙◌, rules}
+use Rattle.std.proofs.Common.{length, sym, ◌∙◌}
 use Rattle.corrector.proofs.Laws.{row_is, none_is, accepted, base_within}
 use Rattle.corrector.proofs.newest_row.Goals as goal
 

@@ -1,4 +1,4 @@
-use Rattle.std.proofs.Common.{sym, ◌∙◌, rules, eq-eqb, ne_eqb}
+use Rattle.std.proofs.Common.{sym, ◌∙◌, eq-eqb, ne_eqb}
 use Rattle.corrector.specs.Corrector.{newest_row_answer}
 use Rattle.corrector.proofs.newest_row_answer.Goals as goal
 

@@ -1,4 +1,3 @@
-use Rattle.std.proofs.Common.{rules}
 use Rattle.corrector.specs.Corrector.{plus_difference}
 use Rattle.corrector.proofs.plus_difference.Goals as goal
 

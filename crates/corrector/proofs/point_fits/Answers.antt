@@ -1,4 +1,3 @@
-use Rattle.std.proofs.Common.{rules}
 use Rattle.corrector.specs.Corrector.{point_fits}
 use Rattle.corrector.proofs.point_fits.Goals as goal
 

@@ -1,5 +1,4 @@
-use Rattle.std.proofs.Common.{◌≡◌, ℕ, ◌-◌, ◌≤◌, length, take, refl, arith, length-set, rules}
-use Rattle.attributors.proofs.Laws.{at_end}
+use Rattle.std.proofs.Common.{◌≡◌, length, refl, arith, length-set, rules}
 use Rattle.corrector.specs.Steps.{predicted_row}
 use Rattle.corrector.proofs.Rows.{predicted_more}
 use Rattle.corrector.proofs.predict.Goals as goal

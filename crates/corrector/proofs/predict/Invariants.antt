@@ -1,7 +1,5 @@
-use Rattle.std.proofs.Common.{◌≡◌, ℕ, ◌-◌, ◌≤◌, length, take, refl, arith, length-set, rules}
-use Rattle.attributors.proofs.Laws.{at_end}
+use Rattle.std.proofs.Common.{◌≡◌, ◌-◌, ◌≤◌, length, take}
 use Rattle.corrector.specs.Steps.{predicted_row}
-use Rattle.corrector.proofs.Rows.{predicted_more}
 use Rattle.corrector.proofs.predict.Given as goal
 
 abbrev pub invariant-loop-k : goal.invariant-loop-k

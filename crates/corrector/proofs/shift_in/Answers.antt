@@ -1,4 +1,3 @@
-use Rattle.std.proofs.Common.{rules}
 use Rattle.corrector.proofs.Laws.{shifted_is}
 use Rattle.corrector.proofs.shift_in.Goals as goal
 

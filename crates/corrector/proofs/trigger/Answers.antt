@@ -1,4 +1,4 @@
-use Rattle.std.proofs.Common.{sym, ◌∙◌, rules}
+use Rattle.std.proofs.Common.{sym, ◌∙◌}
 use Rattle.corrector.specs.Corrector.{trigger}
 use Rattle.corrector.proofs.trigger.Goals as goal
 

@@ -1,5 +1,4 @@
-use Rattle.std.proofs.Common.{sym, ◌∙◌, w32, rules}
-use mir.ValLaws.{to_z-of_z}
+use Rattle.std.proofs.Common.{sym, ◌∙◌}
 use Rattle.corrector.proofs.Laws.{correcting}
 use Rattle.corrector.proofs.write_corrected_point.Goals as goal
 

@@ -1,4 +1,4 @@
-use Rattle.std.proofs.Common.{sym, ◌∙◌, rules}
+use Rattle.std.proofs.Common.{sym, ◌∙◌}
 use Rattle.corrector.proofs.Laws.{expecting}
 use Rattle.corrector.proofs.Rows.{written_row}
 use Rattle.corrector.proofs.write_expected_point.Goals as goal

@@ -13,7 +13,6 @@ copy_part-requires-then-row_fits c =
     let long : length c.args.row ≡ 16 = search rules in
     search rules
 
-
 pub returns-then-row_fits : goal.returns-then-row_fits
 unfolding write_row
 returns-then-row_fits c =

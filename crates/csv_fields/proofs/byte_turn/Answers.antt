@@ -1,6 +1,5 @@
 use borrow.Author.Tests.{eq-eqb, ne_eqb}
 use Rattle.csv_fields.specs.Quoting.{byte_turn}
-use borrow.Author.Rules.{rules}
 use Rattle.csv_fields.proofs.byte_turn.Goals as goal
 
 pub returns-then-b-eq34 : goal.returns-then-b-eq34

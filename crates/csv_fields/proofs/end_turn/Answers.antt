@@ -1,6 +1,5 @@
 use borrow.Author.Tests.{eq-eqb, ne_eqb}
 use Rattle.csv_fields.specs.Quoting.{end_turn}
-use borrow.Author.Rules.{rules}
 use Rattle.csv_fields.proofs.end_turn.Goals as goal
 
 pub returns-then-header : goal.returns-then-header

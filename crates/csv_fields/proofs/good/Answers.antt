@@ -1,6 +1,5 @@
 use borrow.Author.Tests.{eq-eqb, ne_eqb}
 use Rattle.csv_fields.specs.Pushing.{good, good_word, good_number, good_score, limit}
-use borrow.Author.Rules.{rules}
 use Rattle.csv_fields.proofs.good.Goals as goal
 
 pub returns-then-header : goal.returns-then-header

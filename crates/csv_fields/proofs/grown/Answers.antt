@@ -1,6 +1,5 @@
 use native.Mathlib.Omega.{arith}
 use Rattle.csv_fields.specs.Pushing.{grown}
-use borrow.Author.Rules.{rules}
 use Rattle.csv_fields.proofs.grown.Goals as goal
 
 pub returns-then-v-lt-CAP : goal.returns-then-v-lt-CAP

@@ -1,5 +1,4 @@
 use Rattle.csv_fields.specs.Quoting.{is_plain}
-use borrow.Author.Rules.{rules}
 use Rattle.csv_fields.proofs.is_plain.Goals as goal
 
 pub returns-in-Start : goal.returns-in-Start

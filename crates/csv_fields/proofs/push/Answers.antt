@@ -1,6 +1,5 @@
 use borrow.Author.Tests.{eq-eqb, ne_eqb}
 use Rattle.csv_fields.specs.Pushing.{push}
-use borrow.Author.Rules.{rules}
 use Rattle.csv_fields.proofs.push.Goals as goal
 
 pub returns-then-header : goal.returns-then-header

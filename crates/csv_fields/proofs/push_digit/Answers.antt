@@ -1,7 +1,6 @@
 use mathlib.Core.Path.{sym, ◌∙◌}
 use Rattle.csv_fields.specs.Pushing.{push_digit}
 use Rattle.csv_fields.proofs.Numbers.{digit_from}
-use borrow.Author.Rules.{rules}
 use Rattle.csv_fields.proofs.push_digit.Goals as goal
 
 pub grown-requires : goal.grown-requires

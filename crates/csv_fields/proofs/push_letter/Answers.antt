@@ -1,7 +1,5 @@
 use mathlib.Core.Path.{sym, ◌∙◌}
-use native.Mathlib.Omega.{arith}
 use Rattle.csv_fields.specs.Pushing.{push_letter}
-use borrow.Author.Rules.{rules}
 use Rattle.csv_fields.proofs.push_letter.Goals as goal
 
 pub returns-then-letter_is : goal.returns-then-letter_is

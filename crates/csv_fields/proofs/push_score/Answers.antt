@@ -2,7 +2,6 @@ use mathlib.Core.Path.{sym, ◌∙◌}
 use borrow.Author.Tests.{le-ltb, lt-ltb}
 use Rattle.csv_fields.specs.Pushing.{push_score, score_digit, score_point}
 use Rattle.csv_fields.proofs.Numbers.{digit_from}
-use borrow.Author.Rules.{rules}
 use Rattle.csv_fields.proofs.push_score.Goals as goal
 
 pub grown-requires : goal.grown-requires

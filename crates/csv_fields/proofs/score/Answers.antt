@@ -1,5 +1,4 @@
 use Rattle.csv_fields.specs.Pushing.{score}
-use borrow.Author.Rules.{rules}
 use Rattle.csv_fields.proofs.score.Goals as goal
 
 pub returns : goal.returns

@@ -1,5 +1,4 @@
 use Rattle.csv_fields.specs.Quoting.{spoils}
-use borrow.Author.Rules.{rules}
 use Rattle.csv_fields.proofs.spoils.Goals as goal
 
 pub returns-in-Start : goal.returns-in-Start

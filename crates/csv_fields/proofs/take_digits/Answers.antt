@@ -1,8 +1,4 @@
-use Prim.Native.Nat.{◌-◌}
-use mathlib.Core.Path.{◌≡◌, refl, sym, ◌∙◌}
-use lib.ListN.{length, drop}
-use borrow.Author.Rules.{rules}
-use Rattle.csv_fields.specs.Pushing.{digits_from}
+use mathlib.Core.Path.{sym, ◌∙◌}
 use Rattle.csv_fields.proofs.Numbers.{digit_from}
 use Rattle.csv_fields.proofs.InOneGo.{digit_more, digit_last, digit_none}
 use Rattle.csv_fields.proofs.take_digits.Goals as goal

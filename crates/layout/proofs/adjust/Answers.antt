@@ -1,4 +1,4 @@
-use Rattle.std.proofs.Common.{ltb, rules}
+use Rattle.std.proofs.Common.{ltb}
 use Rattle.descriptor.proofs.Bounds.{both}
 use Rattle.layout.proofs.InPlace.{adjusted_lists, adjusted_entered}
 use Rattle.layout.specs.Parts.{entering}

@@ -1,4 +1,4 @@
-use Rattle.std.proofs.Common.{◌∙◌, w32, rules}
+use Rattle.std.proofs.Common.{◌∙◌, w32}
 use mir.ValLaws.{to_z-of_z}
 use Rattle.layout.specs.Readings.{decode_anomaly}
 use Rattle.layout.proofs.anomaly_of.Goals as goal

@@ -1,5 +1,4 @@
 use Rattle.layout.specs.Call.{codes_ok}
-use Rattle.std.proofs.Common.{rules}
 use Rattle.layout.proofs.codes_ok.Goals as goal
 
 pub returns : goal.returns

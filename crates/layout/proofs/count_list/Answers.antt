@@ -1,9 +1,7 @@
-use Rattle.std.proofs.Common.{◌≡◌, ℕ, ◌+◌, ◌-◌, ◌≤◌, length, refl, ap, ◌∙◌, le_antisymm, arith, rules}
+use Rattle.std.proofs.Common.{refl, arith, rules}
 use lib.Ieee.{nan}
 use Rattle.deviation.specs.Statistics.{counted}
-use Rattle.predictorcorrector.specs.Lists.{stepped}
-use Rattle.layout.specs.Places.{expected_at, list_length}
-use Rattle.layout.specs.Chain.{list_at, list_over}
+use Rattle.layout.specs.Chain.{list_over}
 use Rattle.layout.proofs.InPlace.{counted_turn}
 use Rattle.layout.proofs.count_list.Goals as goal
 

@@ -1,10 +1,8 @@
-use Rattle.std.proofs.Common.{◌≡◌, ℕ, ◌+◌, ◌-◌, ◌≤◌, length, refl, ap, ◌∙◌, le_antisymm, arith, rules}
-use lib.Ieee.{nan}
+use Rattle.std.proofs.Common.{◌≡◌, ◌+◌, ◌-◌, ◌≤◌, length}
 use Rattle.deviation.specs.Statistics.{counted}
 use Rattle.predictorcorrector.specs.Lists.{stepped}
 use Rattle.layout.specs.Places.{expected_at, list_length}
 use Rattle.layout.specs.Chain.{list_at, list_over}
-use Rattle.layout.proofs.InPlace.{counted_turn}
 use Rattle.layout.proofs.count_list.Given as goal
 
 abbrev pub invariant-loop-i : goal.invariant-loop-i

@@ -1,9 +1,8 @@
-use Rattle.std.proofs.Common.{◌≡◌, ℕ, ◌+◌, ◌-◌, ◌≤◌, Bool, ◌&&◌, length, drop, sym, ap, ◌∙◌, arith, w32, rules}
+use Rattle.std.proofs.Common.{◌+◌, ◌-◌, Bool, ◌&&◌, drop, sym, ap, ◌∙◌, arith, w32}
 use mir.ValLaws.{to_z-of_z}
 use Rattle.deviation.specs.Statistics.{countable}
 use Rattle.predictorcorrector.specs.Lists.{first_countable}
 use Rattle.predictorcorrector.proofs.Rows.{countable_end}
-use Rattle.layout.specs.Places.{expected_at, list_length}
 use Rattle.layout.specs.Chain.{list_at}
 use Rattle.layout.proofs.InPlace.{counts_next}
 use Rattle.layout.proofs.counts_at.Goals as goal

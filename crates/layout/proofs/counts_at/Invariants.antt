@@ -1,11 +1,7 @@
-use Rattle.std.proofs.Common.{◌≡◌, ℕ, ◌+◌, ◌-◌, ◌≤◌, Bool, ◌&&◌, length, drop, sym, ap, ◌∙◌, arith, w32, rules}
-use mir.ValLaws.{to_z-of_z}
-use Rattle.deviation.specs.Statistics.{countable}
+use Rattle.std.proofs.Common.{◌≡◌, ◌+◌, ◌-◌, ◌≤◌, length, drop}
 use Rattle.predictorcorrector.specs.Lists.{first_countable}
-use Rattle.predictorcorrector.proofs.Rows.{countable_end}
 use Rattle.layout.specs.Places.{expected_at, list_length}
 use Rattle.layout.specs.Chain.{list_at}
-use Rattle.layout.proofs.InPlace.{counts_next}
 use Rattle.layout.proofs.counts_at.Given as goal
 
 abbrev pub invariant-loop-i : goal.invariant-loop-i

@@ -1,4 +1,4 @@
-use Rattle.std.proofs.Common.{ℕ, Bool, ◌&&◌, leb, refl, ◌∙◌, ap₂, rules}
+use Rattle.std.proofs.Common.{ℕ, Bool, ◌&&◌, leb, refl, ◌∙◌, ap₂}
 use Rattle.layout.specs.Chain.{entries}
 use Rattle.layout.specs.States.{decode_thresholder}
 use Rattle.layout.proofs.InPlace.{counts_are}

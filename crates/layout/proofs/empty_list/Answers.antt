@@ -1,4 +1,4 @@
-use Rattle.std.proofs.Common.{replicate, ap, rules}
+use Rattle.std.proofs.Common.{replicate, ap}
 use Rattle.layout.specs.Chain.{empty_list}
 use Rattle.layout.proofs.empty_list.Goals as goal
 

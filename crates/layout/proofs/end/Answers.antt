@@ -1,7 +1,6 @@
 use Rattle.layout.proofs.InPlace.{ended_lists, ended_entered}
 use Rattle.layout.specs.Parts.{entering}
 use Rattle.layout.specs.Chain.{decode_state}
-use Rattle.std.proofs.Common.{rules}
 use Rattle.layout.proofs.end.Goals as goal
 
 pub returns-then-auto_adjust : goal.returns-then-auto_adjust

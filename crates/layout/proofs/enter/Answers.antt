@@ -1,4 +1,4 @@
-use Rattle.std.proofs.Common.{ℕ, ap, ◌∙◌, rules}
+use Rattle.std.proofs.Common.{ℕ, ap, ◌∙◌}
 use Rattle.layout.specs.InPlace.{run_after}
 use Rattle.layout.proofs.InPlace.{entered_lists, entered_none}
 use Rattle.layout.specs.Parts.{entering}

@@ -1,5 +1,4 @@
 use Rattle.layout.specs.Numbers.{f32_at}
-use Rattle.std.proofs.Common.{rules}
 use Rattle.layout.proofs.f32_at.Goals as goal
 
 pub returns : goal.returns

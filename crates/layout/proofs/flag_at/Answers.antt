@@ -1,4 +1,4 @@
-use Rattle.std.proofs.Common.{refl, rules}
+use Rattle.std.proofs.Common.{refl}
 use Rattle.layout.specs.Numbers.{flag_at}
 use Rattle.layout.proofs.flag_at.Goals as goal
 

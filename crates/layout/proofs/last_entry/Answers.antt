@@ -1,5 +1,3 @@
-use Rattle.std.proofs.Common.{eqb, leb, rules, leb-true}
-use Rattle.descriptor.proofs.Bounds.{both}
 use Rattle.layout.specs.Parts.{last_of}
 use Rattle.layout.proofs.last_entry.Goals as goal
 

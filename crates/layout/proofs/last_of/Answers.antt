@@ -1,5 +1,4 @@
 use Rattle.layout.specs.Readings.{decode_last}
-use Rattle.std.proofs.Common.{rules}
 use Rattle.layout.proofs.last_of.Goals as goal
 
 pub returns : goal.returns

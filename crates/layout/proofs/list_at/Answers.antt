@@ -1,6 +1,6 @@
-use Rattle.std.proofs.Common.{◌≡◌, ℕ, ◌+◌, ◌-◌, ◌*◌, ◌≤◌, List, length, refl, ◌∙◌, ap₂, le_antisymm, arith, rules}
+use Rattle.std.proofs.Common.{ℕ, ◌+◌, ◌*◌, List, refl, ◌∙◌, ap₂, le_antisymm, arith, rules}
 use Rattle.deviation.specs.declared.Deviation.{Deviation}
-use Rattle.layout.specs.Places.{deviation_length, expected_at, list_length}
+use Rattle.layout.specs.Places.{deviation_length}
 use Rattle.layout.specs.States.{deviation_at}
 use Rattle.layout.specs.Chain.{filled, list_at}
 use Rattle.layout.proofs.Rows.{filled_next}

@@ -1,4 +1,4 @@
-use Rattle.std.proofs.Common.{sym, ap, ◌∙◌, rules}
+use Rattle.std.proofs.Common.{sym, ap, ◌∙◌}
 use Rattle.layout.specs.Readings.{method_from}
 use Rattle.layout.proofs.method_of.Goals as goal
 

@@ -1,4 +1,3 @@
-use Rattle.std.proofs.Common.{arith, length-set, rules}
 use Rattle.layout.specs.Numbers.{bytes4}
 use Rattle.layout.proofs.Pasting.{four}
 use Rattle.layout.proofs.put4.Goals as goal

@@ -1,4 +1,4 @@
-use Rattle.std.proofs.Common.{◌/◌, ◌%◌, arith, rules}
+use Rattle.std.proofs.Common.{◌/◌, ◌%◌, arith}
 use Rattle.layout.specs.Numbers.{bytes4, bytes8}
 use Rattle.layout.proofs.Pasting.{pasted_next}
 use Rattle.layout.proofs.put8.Goals as goal

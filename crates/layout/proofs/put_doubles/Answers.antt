@@ -1,4 +1,4 @@
-use Rattle.std.proofs.Common.{arith, rules}
+use Rattle.std.proofs.Common.{arith}
 use Rattle.layout.specs.Numbers.{f64_bytes, bytes8, bytes4}
 use Rattle.layout.specs.Parts.{doubles}
 use Rattle.layout.proofs.Pasting.{pasted_next}

@@ -1,4 +1,3 @@
-use Rattle.std.proofs.Common.{arith, length-set, rules}
 use Rattle.predictorcorrector.proofs.Rows.{thresholder_ok}
 use Rattle.layout.specs.Chain.{decode_state}
 use Rattle.layout.specs.Parts.{entering}
@@ -8,7 +7,6 @@ use Rattle.layout.proofs.put_entered.Goals as goal
 pub put_scores-requires-clause-fact_2 : goal.put_scores-requires-clause-fact_2
 unfolding decode_state
 put_scores-requires-clause-fact_2 c = thresholder_ok (decode_state c.args.out.now) c.requires.counts
-
 
 pub returns : goal.returns
 returns c =

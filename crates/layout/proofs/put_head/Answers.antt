@@ -1,4 +1,3 @@
-use Rattle.std.proofs.Common.{arith, length-set, rules}
 use Rattle.layout.proofs.InPlace.{head_pasted}
 use Rattle.layout.proofs.put_head.Goals as goal
 

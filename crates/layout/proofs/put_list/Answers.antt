@@ -1,5 +1,4 @@
-use Rattle.std.proofs.Common.{◌≡◌, ℕ, ◌+◌, ◌-◌, ◌≤◌, length, refl, ap, ◌∙◌, le_antisymm, arith, rules}
-use Rattle.layout.specs.Places.{expected_at, list_length}
+use Rattle.std.proofs.Common.{◌≡◌, length, refl, arith, rules}
 use Rattle.layout.specs.Chain.{list_over}
 use Rattle.layout.proofs.Rows.{over_next}
 use Rattle.layout.proofs.put_list.Goals as goal

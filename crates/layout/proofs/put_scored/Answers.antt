@@ -1,4 +1,4 @@
-use Rattle.std.proofs.Common.{ap, ◌∙◌, ap₂, arith, w32, rules}
+use Rattle.std.proofs.Common.{ap, ◌∙◌, ap₂, w32}
 use mir.ValLaws.{to_z-of_z}
 use Rattle.deviation.specs.Statistics.{counted, one_more}
 use Rattle.deviation.specs.declared.Deviation.{Deviation}

@@ -1,4 +1,4 @@
-use Rattle.std.proofs.Common.{ap, ◌∙◌, ap₂, rules}
+use Rattle.std.proofs.Common.{ap, ◌∙◌, ap₂}
 use denote.Floats.{passes}
 use lib.Ieee.{binary32}
 use lib.Ieee as Ieee

@@ -1,4 +1,4 @@
-use Rattle.std.proofs.Common.{arith, rules}
+use Rattle.std.proofs.Common.{arith}
 use Rattle.layout.specs.Numbers.{f32_bytes, bytes4}
 use Rattle.layout.specs.Parts.{singles}
 use Rattle.layout.proofs.Pasting.{pasted_next}

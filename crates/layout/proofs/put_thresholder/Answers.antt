@@ -1,4 +1,4 @@
-use Rattle.std.proofs.Common.{arith, length-set, w32, rules}
+use Rattle.std.proofs.Common.{w32, rules}
 use mir.ValLaws.{to_z-of_z}
 use Rattle.layout.specs.Numbers.{f32_bytes, i32_bytes}
 use Rattle.layout.proofs.Pasting.{thresholder_pasted}

@@ -1,5 +1,4 @@
 use Rattle.layout.specs.Numbers.{le4}
-use Rattle.std.proofs.Common.{rules}
 use Rattle.layout.proofs.read4.Goals as goal
 
 pub returns : goal.returns

@@ -1,8 +1,7 @@
-use Rattle.std.proofs.Common.{length, sym, ap, ◌∙◌, rules}
+use Rattle.std.proofs.Common.{sym, ap, ◌∙◌}
 use Rattle.types.specs.Refusals.{of_misfit}
 use Rattle.layout.specs.Call.{read_call, slices_ok}
 use Rattle.layout.specs.declared.CallRead.TheVariants.{Refused}
-use Rattle.layout.proofs.InPlace.{all_three}
 use Rattle.layout.proofs.Answered.{misread}
 use Rattle.layout.proofs.read_call.Goals as goal
 

@@ -1,4 +1,4 @@
-use Rattle.std.proofs.Common.{true, sym, ap, ◌∙◌, rules, eq-eqb, ne_eqb}
+use Rattle.std.proofs.Common.{true, sym, ap, ◌∙◌, eq-eqb, ne_eqb}
 use Rattle.types.specs.declared.Answer.TheVariants.{Refused}
 use Rattle.types.specs.Refusals.{of_misfit, of_fitting}
 use Rattle.descriptor.specs.Checks.{range_ok}

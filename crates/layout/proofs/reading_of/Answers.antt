@@ -1,5 +1,4 @@
 use Rattle.layout.specs.Readings.{decode_reading}
-use Rattle.std.proofs.Common.{rules}
 use Rattle.layout.proofs.reading_of.Goals as goal
 
 pub returns : goal.returns

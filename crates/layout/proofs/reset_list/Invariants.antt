@@ -1,9 +1,8 @@
-use Rattle.std.proofs.Common.{◌≡◌, ℕ, ◌+◌, ◌-◌, ◌≤◌, length, refl, ap, ◌∙◌, le_antisymm, arith, rules}
+use Rattle.std.proofs.Common.{◌≡◌, ◌+◌, ◌-◌, ◌≤◌, length}
 use Rattle.deviation.specs.Statistics.{reset}
 use Rattle.predictorcorrector.specs.Lists.{changed}
 use Rattle.layout.specs.Places.{expected_at, list_length}
 use Rattle.layout.specs.Chain.{list_at, list_over}
-use Rattle.layout.proofs.InPlace.{changed_turn}
 use Rattle.layout.proofs.reset_list.Given as goal
 
 abbrev pub invariant-loop-i : goal.invariant-loop-i

@@ -1,5 +1,4 @@
 use Rattle.layout.specs.InPlace.{run_after}
-use Rattle.std.proofs.Common.{rules}
 use Rattle.layout.proofs.run_after.Goals as goal
 
 pub returns-then-grows : goal.returns-then-grows

@@ -1,6 +1,5 @@
-use Rattle.std.proofs.Common.{◌≡◌, ℕ, ◌+◌, ◌-◌, ◌≤◌, length, refl, ap, ◌∙◌, le_antisymm, arith, rules}
-use Rattle.layout.specs.Places.{expected_at, list_length}
-use Rattle.layout.specs.Chain.{list_at, list_over}
+use Rattle.std.proofs.Common.{refl, arith, rules}
+use Rattle.layout.specs.Chain.{list_over}
 use Rattle.layout.proofs.InPlace.{settled_turn}
 use Rattle.layout.proofs.settle_list.Goals as goal
 

@@ -1,7 +1,6 @@
-use Rattle.std.proofs.Common.{◌≡◌, ℕ, ◌+◌, ◌-◌, ◌≤◌, length, refl, ap, ◌∙◌, le_antisymm, arith, rules}
+use Rattle.std.proofs.Common.{◌≡◌, ◌+◌, ◌-◌, ◌≤◌, length}
 use Rattle.layout.specs.Places.{expected_at, list_length}
 use Rattle.layout.specs.Chain.{list_at, list_over}
-use Rattle.layout.proofs.InPlace.{settled_turn}
 use Rattle.layout.proofs.settle_list.Given as goal
 
 abbrev pub invariant-loop-i : goal.invariant-loop-i

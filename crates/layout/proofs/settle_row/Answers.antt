@@ -1,4 +1,4 @@
-use Rattle.std.proofs.Common.{rules, le-leb}
+use Rattle.std.proofs.Common.{le-leb}
 use borrow.Author.Tests.{lt-leb}
 use Rattle.layout.specs.Parts.{row_kept_over}
 use Rattle.layout.proofs.settle_row.Goals as goal

@@ -1,6 +1,6 @@
-use Rattle.std.proofs.Common.{arith, rules, lt-ltb}
+use Rattle.std.proofs.Common.{arith, lt-ltb}
 use Rattle.layout.specs.Numbers.{signed}
-use Rattle.layout.proofs.Signs.{taken_fits, taken_is}
+use Rattle.layout.proofs.Signs.{taken_is}
 use Rattle.layout.proofs.signed.Goals as goal
 
 pub returns-then-n-lt2147483648 : goal.returns-then-n-lt2147483648

@@ -1,4 +1,4 @@
-use Rattle.std.proofs.Common.{rules, eq-eqb, ne_eqb}
+use Rattle.std.proofs.Common.{eq-eqb, ne_eqb}
 use Rattle.layout.specs.Call.{sizes_fit}
 use Rattle.layout.specs.Chain.{decode_state}
 use Rattle.layout.specs.Readings.{decode_reading}

@@ -1,5 +1,4 @@
 use Rattle.layout.proofs.InPlace.{standing_is}
-use Rattle.std.proofs.Common.{rules}
 use Rattle.layout.proofs.standing_of.Goals as goal
 
 pub returns : goal.returns

@@ -1,4 +1,4 @@
-use Rattle.std.proofs.Common.{rules, eq-eqb, ne_eqb}
+use Rattle.std.proofs.Common.{eq-eqb, ne_eqb}
 use Rattle.layout.specs.Chain.{state_codes_ok}
 use Rattle.layout.proofs.state_codes_ok.Goals as goal
 

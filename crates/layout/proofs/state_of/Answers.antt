@@ -1,4 +1,4 @@
-use Rattle.std.proofs.Common.{ℕ, Bool, ap, ◌∙◌, ap₂, rules}
+use Rattle.std.proofs.Common.{ℕ, Bool, ap, ◌∙◌, ap₂}
 use Rattle.layout.specs.Places.{actual_at, expected_at}
 use Rattle.layout.specs.Chain.{decode_state, entries, list_at}
 use Rattle.layout.proofs.state_of.Goals as goal

@@ -1,5 +1,4 @@
 use Rattle.layout.specs.Chain.{unread}
-use Rattle.std.proofs.Common.{rules}
 use Rattle.layout.proofs.unread.Goals as goal
 
 pub returns : goal.returns

@@ -1,6 +1,6 @@
-use Rattle.std.proofs.Common.{arith, w32}
+use Rattle.std.proofs.Common.{w32}
 use mir.ValLaws.{to_z-of_z}
-use Rattle.layout.proofs.Signs.{turned_fits, turned_is, small, negative_is, positive}
+use Rattle.layout.proofs.Signs.{turned_is, negative_is, positive}
 use Rattle.layout.proofs.unsigned.Goals as goal
 
 pub returns-then-n-lt0 : goal.returns-then-n-lt0

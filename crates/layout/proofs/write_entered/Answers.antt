@@ -1,4 +1,4 @@
-use Rattle.std.proofs.Common.{true, sym, ap, ◌∙◌, rules}
+use Rattle.std.proofs.Common.{true, sym, ap, ◌∙◌}
 use Rattle.types.specs.declared.Answer.{Answer}
 use Rattle.layout.specs.Chain.{decode_state}
 use Rattle.layout.specs.InPlace.{stored_by, scored, entered}
@@ -13,9 +13,7 @@ unfolding stored_by
 returns-in-Done-clause-fact_2 c = let a = c.args in
     c.enter.ensures ∙ ap (λ (x : Answer). stored_by x a.out.now (entered (decode_state a.out.now) (scored (decode_state a.out.now) a.r a.l a.corrected) a.grows)) (sym (sym c.reading_answer-answer.ensures ∙ c.in-Done.is))
 
-
 pub returns-in-Refused-clause-fact_2 : goal.returns-in-Refused-clause-fact_2
 unfolding stored_by
 returns-in-Refused-clause-fact_2 c = let a = c.args in
     ap (λ (x : Answer). stored_by x a.out.now (entered (decode_state a.out.now) (scored (decode_state a.out.now) a.r a.l a.corrected) a.grows)) (sym (sym c.reading_answer-answer.ensures ∙ c.in-Refused.is))
-

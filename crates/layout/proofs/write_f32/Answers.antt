@@ -1,4 +1,4 @@
-use Rattle.std.proofs.Common.{rules, eq-eqb, ne_eqb}
+use Rattle.std.proofs.Common.{eq-eqb, ne_eqb}
 use Rattle.layout.specs.Numbers.{written_of, f32_bytes, bytes4}
 use Rattle.layout.proofs.Pasting.{pasted_whole}
 use Rattle.layout.proofs.write_f32.Goals as goal

@@ -1,5 +1,4 @@
 use Rattle.layout.specs.Numbers.{f64_bytes}
-use Rattle.std.proofs.Common.{rules}
 use Rattle.layout.proofs.write_f64.Goals as goal
 
 pub returns : goal.returns

@@ -1,4 +1,4 @@
-use Rattle.std.proofs.Common.{◌∙◌, arith, rules, eq-eqb, ne_eqb}
+use Rattle.std.proofs.Common.{◌∙◌, arith, eq-eqb, ne_eqb}
 use Rattle.layout.specs.Numbers.{written_of, flag_bytes}
 use Rattle.layout.proofs.Pasting.{set_is, pasted_whole}
 use Rattle.layout.proofs.write_flag.Goals as goal

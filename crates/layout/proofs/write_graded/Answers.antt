@@ -1,4 +1,4 @@
-use Rattle.std.proofs.Common.{rules, eq-eqb, ne_eqb}
+use Rattle.std.proofs.Common.{eq-eqb, ne_eqb}
 use Rattle.layout.specs.Numbers.{written_of, f32_bytes, bytes4}
 use Rattle.layout.specs.States.{encode_graded, joined}
 use Rattle.layout.specs.Parts.{singles}

@@ -1,4 +1,4 @@
-use Rattle.std.proofs.Common.{rules, ne_eqb}
+use Rattle.std.proofs.Common.{ne_eqb}
 use Rattle.layout.specs.Numbers.{written_of}
 use Rattle.layout.proofs.InPlace.{kept_written, kept_none}
 use Rattle.layout.proofs.write_kept.Goals as goal

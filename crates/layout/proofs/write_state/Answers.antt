@@ -1,4 +1,4 @@
-use Rattle.std.proofs.Common.{rules, ne_eqb}
+use Rattle.std.proofs.Common.{ne_eqb}
 use Rattle.layout.specs.Numbers.{written_of}
 use Rattle.layout.proofs.Rows.{state_pasted}
 use Rattle.layout.proofs.InPlace.{head_same}

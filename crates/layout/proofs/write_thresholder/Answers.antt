@@ -1,4 +1,4 @@
-use Rattle.std.proofs.Common.{sym, ◌∙◌, rules, eq-eqb, ne_eqb}
+use Rattle.std.proofs.Common.{sym, ◌∙◌, eq-eqb, ne_eqb}
 use Rattle.layout.specs.Numbers.{written_of}
 use Rattle.layout.specs.States.{encode_thresholder}
 use Rattle.layout.proofs.Pasting.{pasted_whole}

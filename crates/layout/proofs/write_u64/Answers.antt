@@ -1,4 +1,4 @@
-use Rattle.std.proofs.Common.{rules, eq-eqb, ne_eqb}
+use Rattle.std.proofs.Common.{eq-eqb, ne_eqb}
 use Rattle.layout.specs.Numbers.{written_of, bytes8, bytes4}
 use Rattle.layout.proofs.Pasting.{pasted_whole}
 use Rattle.layout.proofs.write_u64.Goals as goal

@@ -1,4 +1,4 @@
-use Rattle.std.proofs.Common.{arith, length-set, w32, rules, eq-eqb, ne_eqb}
+use Rattle.std.proofs.Common.{w32, eq-eqb, ne_eqb}
 use mir.ValLaws.{to_z-of_z}
 use Rattle.layout.specs.Numbers.{written_of, i32_bytes}
 use Rattle.layout.proofs.Pasting.{verdict_pasted}

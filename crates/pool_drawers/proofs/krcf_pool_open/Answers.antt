@@ -17,3 +17,9 @@ returns-else-why-eq0 c = open_unmade c.args.pool.now c.args.pool.now _ _ _ _ _ _
 
 pub returns-in-Refused : goal.returns-in-Refused
 returns-in-Refused c = open_refused c.args.pool.now _ _ _ _ _ _ _ c.vacancy.ensures c.in-Refused.is c.number.ensures
+
+pub put_state-requires-clause-fact_1 : goal.put_state-requires-clause-fact_1
+put_state-requires-clause-fact_1 c = (open_room _ _ _ _ _ c.vacancy.ensures c.in-At.is c.take_in.ensures).0
+
+pub put_state-requires-clause-fact_2 : goal.put_state-requires-clause-fact_2
+put_state-requires-clause-fact_2 c = (open_room _ _ _ _ _ c.vacancy.ensures c.in-At.is c.take_in.ensures).1

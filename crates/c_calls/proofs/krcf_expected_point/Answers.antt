@@ -1,0 +1,8 @@
+use Rattle.c_calls.specs.Buffers.{expected_point}
+use Rattle.c_calls.proofs.Steps.{passed_on}
+use borrow.Author.Rules.{rules}
+use Rattle.c_calls.proofs.krcf_expected_point.Goals as goal
+
+pub returns : goal.returns
+unfolding expected_point
+returns c = passed_on _ _ _ _ _ _ c.expected_point.ensures.fact_1 c.number.ensures c.expected_point.ensures.fact_2

@@ -1,0 +1,10 @@
+use borrow.Author.Tests.{eq-eqb, ne_eqb}
+use Rattle.c_interface.proofs.Steps.{put_done, put_refused}
+use borrow.Author.Rules.{rules}
+use Rattle.c_interface.proofs.put_f32.Goals as goal
+
+pub returns-then-out-eq4 : goal.returns-then-out-eq4
+returns-then-out-eq4 c = put_done _ c.args.out.now _ _ (eq-eqb _ _ c.if-out-eq4.true) c.write_f32.ensures
+
+pub returns : goal.returns
+returns c = put_refused _ c.args.out.now _ (ne_eqb _ _ c.if-out-eq4.false)

@@ -1,0 +1,7 @@
+use Rattle.calls.specs.Calls.{corrector_finite}
+use borrow.Author.Rules.{rules}
+use Rattle.calls.proofs.corrector_finite.Goals as goal
+
+pub returns : goal.returns
+unfolding corrector_finite
+returns c = simp (c.all_finite_f32.ensures, c.both_finite.ensures)

@@ -1,0 +1,20 @@
+use mathlib.Core.List.{[]}
+use Rattle.score_rows.proofs.Bytes.{put_none, with_room}
+use Rattle.score_lines.specs.Feeding.{total_run, total_said}
+use Rattle.score_lines.proofs.total.Goals as goal
+
+pub returns-then-run-clause-fact_1 : goal.returns-then-run-clause-fact_1
+unfolding total_run
+returns-then-run-clause-fact_1 c = simp c.if-run.true
+
+pub returns-then-run-clause-fact_2 : goal.returns-then-run-clause-fact_2
+unfolding total_said
+returns-then-run-clause-fact_2 c = simp c.if-run.true (put_none c.args.out.now c.args.at [])
+
+pub returns-clause-fact_1 : goal.returns-clause-fact_1
+unfolding total_run
+returns-clause-fact_1 c = simp c.if-run.false c.ended.ensures
+
+pub returns-clause-fact_2 : goal.returns-clause-fact_2
+unfolding total_said
+returns-clause-fact_2 c = simp c.if-run.false (with_room c.write_counts-end.ensures c.requires)
