@@ -1,5 +1,6 @@
 // A pool of thirty records in a used and a free chain, in a lent buffer of 61,472 bytes: the test of refusal 13, where a drawer is, and the listing of all.
 #![tactic(auto)]
+
 ghost use Rattle.std.specs.Prelude.{◌≡◌, true, false, ◌+◌, ◌≤◌, ◌<◌, length, replicate, take};
 ghost use Rattle.layout.specs.Numbers as Numbers;
 ghost use Rattle.record_pool.specs.Lists as Lists;
