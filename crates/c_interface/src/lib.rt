@@ -1,6 +1,7 @@
 // The library's functions for a host that calls over C: numbers, and byte slices (a pointer, then a length). A state is its bytes, as the crate layout has them.
 // A call that can refuse answers document 01's number, 0 where it is done; a refused one has written nothing.
 #![tactic(auto)]
+
 ghost use Rattle.std.specs.Prelude.{◌≡◌, eqb, length, pos};
 ghost use Rattle.std.specs.Float.{binary32, binary64};
 ghost use Rattle.std.specs.Float.Ieee.{of_bits, to_bits, of_int};
