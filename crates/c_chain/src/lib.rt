@@ -1,6 +1,7 @@
 // The chain for a host that calls over C: attribution vectors, the chain's state and its setters. Numbers, and slices of bytes or floats (a pointer, then a
 // length). A state is its bytes, as the crate layout has them. A call answers document 01's number, 0 where it is done; a refused one has written nothing.
 #![tactic(auto)]
+
 ghost use Rattle.std.specs.Prelude.{◌≡◌, eqb};
 ghost use Rattle.divector.specs.DiVector as DiVector;
 ghost use Rattle.layout.specs.Left.{left, put_into};
