@@ -1,5 +1,6 @@
 // The calls on a reading's buffers that predictorcorrector.rs has public, and what its detect_and_modify asks the forest for, with document 01's refusals.
 #![tactic(auto)]
+
 ghost use Rattle.std.specs.Prelude.{◌≡◌, [], length};
 ghost use Rattle.descriptor.specs.Checks as Checks;
 ghost use Rattle.calls.specs.Calls as Calls;

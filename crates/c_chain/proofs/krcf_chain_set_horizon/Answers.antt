@@ -1,6 +1,5 @@
 use mathlib.Core.Path.{sym, ◌∙◌}
 use Rattle.c_chain.proofs.Steps.{horizon_set, horizon_refused, horizon_kept}
-use borrow.Author.Rules.{rules}
 use Rattle.c_chain.proofs.krcf_chain_set_horizon.Goals as goal
 
 pub returns-in-Done : goal.returns-in-Done

@@ -2,7 +2,6 @@ use mathlib.Core.Path.{sym, ◌∙◌}
 use Rattle.basicthresholder.specs.declared.BasicThresholder.{BasicThresholder}
 use Rattle.basicthresholder.specs.Updates.{with_absolute_threshold}
 use Rattle.c_chain.proofs.Steps.{chain_set_lem, chain_kept}
-use borrow.Author.Rules.{rules}
 use Rattle.c_chain.proofs.krcf_chain_set_lower_threshold.Goals as goal
 
 pub returns-in-Read : goal.returns-in-Read

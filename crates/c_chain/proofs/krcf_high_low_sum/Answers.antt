@@ -1,6 +1,5 @@
 use mathlib.Core.Path.{◌∙◌, sym}
 use Rattle.c_chain.proofs.Steps.{number_put, number_refused}
-use borrow.Author.Rules.{rules}
 use Rattle.c_chain.proofs.krcf_high_low_sum.Goals as goal
 
 pub returns-in-Value : goal.returns-in-Value

@@ -1,6 +1,5 @@
 use borrow.Author.Tests.{eq-eqb, ne_eqb, le-leb, lt-leb}
 use Rattle.c_chain.proofs.Steps.{made_done, made_length, made_range, made_refused}
-use borrow.Author.Rules.{rules}
 use Rattle.c_chain.proofs.krcf_new.Goals as goal
 
 pub returns-then-out-eq-STATE_LENGTH : goal.returns-then-out-eq-STATE_LENGTH

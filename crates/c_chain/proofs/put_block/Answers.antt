@@ -1,6 +1,5 @@
 use borrow.Author.Tests.{eq-eqb, ne_eqb}
 use Rattle.c_chain.proofs.Steps.{block_put, block_refused, block_unput}
-use borrow.Author.Rules.{rules}
 use Rattle.c_chain.proofs.put_block.Goals as goal
 
 pub returns-then-out-eq8 : goal.returns-then-out-eq8

@@ -2,7 +2,6 @@ use mathlib.Core.Path.{ap}
 use Rattle.deviation.specs.declared.Measured.{Measured}
 use Rattle.c_interface.specs.Calls.{measured_over}
 use Rattle.c_interface.proofs.Steps.{deviation_read_lem, deviation_unread}
-use borrow.Author.Rules.{rules}
 use Rattle.c_interface.proofs.krcf_deviation_deviation.Goals as goal
 
 pub returns-in-Read : goal.returns-in-Read

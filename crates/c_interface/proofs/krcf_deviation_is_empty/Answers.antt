@@ -1,7 +1,6 @@
 use mathlib.Core.Path.{ap}
 use Rattle.layout.specs.Numbers.{flag_bytes}
 use Rattle.c_interface.proofs.Steps.{deviation_read_lem, deviation_unread}
-use borrow.Author.Rules.{rules}
 use Rattle.c_interface.proofs.krcf_deviation_is_empty.Goals as goal
 
 pub returns-in-Read : goal.returns-in-Read

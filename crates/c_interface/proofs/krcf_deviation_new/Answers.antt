@@ -1,6 +1,5 @@
 use mathlib.Core.Path.{◌∙◌, sym}
 use Rattle.c_interface.proofs.Steps.{deviation_made_lem, deviation_refused}
-use borrow.Author.Rules.{rules}
 use Rattle.c_interface.proofs.krcf_deviation_new.Goals as goal
 
 pub returns-in-Ready : goal.returns-in-Ready

@@ -1,7 +1,6 @@
 use mathlib.Core.Path.{ap}
 use Rattle.c_interface.specs.Calls.{deviation_done}
 use Rattle.c_interface.proofs.Steps.{deviation_changed_lem, deviation_unchanged}
-use borrow.Author.Rules.{rules}
 use Rattle.c_interface.proofs.krcf_deviation_reset.Goals as goal
 
 pub returns-in-Read : goal.returns-in-Read

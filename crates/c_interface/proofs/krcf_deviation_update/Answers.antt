@@ -1,5 +1,4 @@
 use Rattle.c_interface.proofs.Steps.{deviation_changed_lem, deviation_unchanged}
-use borrow.Author.Rules.{rules}
 use Rattle.c_interface.proofs.krcf_deviation_update.Goals as goal
 
 pub returns-in-Read : goal.returns-in-Read

@@ -1,7 +1,6 @@
 use mathlib.Core.Path.{ap}
 use Rattle.layout.specs.States.{encode_graded}
 use Rattle.c_interface.proofs.Steps.{thresholder_read_lem, thresholder_unread}
-use borrow.Author.Rules.{rules}
 use Rattle.c_interface.proofs.krcf_primary_threshold_and_grade.Goals as goal
 
 pub returns-in-Read : goal.returns-in-Read

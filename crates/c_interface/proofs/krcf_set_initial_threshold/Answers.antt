@@ -1,7 +1,6 @@
 use mathlib.Core.Path.{◌∙◌, ap}
 use Rattle.c_interface.specs.Calls.{thresholder_done}
 use Rattle.c_interface.proofs.Steps.{thresholder_changed_lem, thresholder_unchanged}
-use borrow.Author.Rules.{rules}
 use Rattle.c_interface.proofs.krcf_set_initial_threshold.Goals as goal
 
 pub returns-in-Read : goal.returns-in-Read

@@ -1,7 +1,6 @@
 use mathlib.Core.Path.{ap}
 use Rattle.layout.specs.Numbers.{f32_bytes}
 use Rattle.c_interface.proofs.Steps.{thresholder_read_lem, thresholder_unread}
-use borrow.Author.Rules.{rules}
 use Rattle.c_interface.proofs.krcf_threshold.Goals as goal
 
 pub returns-in-Read : goal.returns-in-Read

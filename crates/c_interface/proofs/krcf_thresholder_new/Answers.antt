@@ -1,7 +1,6 @@
 use mathlib.Core.Path.{◌∙◌, sym}
 use borrow.Author.Tests.{le-leb, lt-leb}
 use Rattle.c_interface.proofs.Steps.{thresholder_made_lem, thresholder_range, thresholder_refused}
-use borrow.Author.Rules.{rules}
 use Rattle.c_interface.proofs.krcf_thresholder_new.Goals as goal
 
 pub returns-then-adjust-le1 : goal.returns-then-adjust-le1

@@ -1,5 +1,4 @@
 use Rattle.c_interface.proofs.Steps.{thresholder_changed_lem, thresholder_unchanged}
-use borrow.Author.Rules.{rules}
 use Rattle.c_interface.proofs.krcf_update_threshold.Goals as goal
 
 pub returns-in-Read : goal.returns-in-Read

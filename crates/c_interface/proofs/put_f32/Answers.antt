@@ -1,6 +1,5 @@
 use borrow.Author.Tests.{eq-eqb, ne_eqb}
 use Rattle.c_interface.proofs.Steps.{put_done, put_refused}
-use borrow.Author.Rules.{rules}
 use Rattle.c_interface.proofs.put_f32.Goals as goal
 
 pub returns-then-out-eq4 : goal.returns-then-out-eq4

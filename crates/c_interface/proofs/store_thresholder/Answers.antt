@@ -1,5 +1,4 @@
 use Rattle.c_interface.proofs.Steps.{stored_done, stored_refused}
-use borrow.Author.Rules.{rules}
 use Rattle.c_interface.proofs.store_thresholder.Goals as goal
 
 pub returns-in-Done : goal.returns-in-Done

@@ -1,5 +1,4 @@
 use Rattle.c_interface.proofs.Steps.{set_no, set_yes}
-use borrow.Author.Rules.{rules}
 use Rattle.c_interface.proofs.write_measured.Goals as goal
 
 pub returns-in-Empty : goal.returns-in-Empty

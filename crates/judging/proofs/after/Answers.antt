@@ -1,6 +1,5 @@
 use mathlib.Core.Path.{◌∙◌, sym}
 use Rattle.judging.proofs.Rows.{after_drift, after_adjusted, after_raised, after_quietly, after_skipped}
-use borrow.Author.Rules.{rules}
 use Rattle.judging.proofs.after.Goals as goal
 
 pub returns-then-is_drift_mode : goal.returns-then-is_drift_mode

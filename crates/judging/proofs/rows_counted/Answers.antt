@@ -1,13 +1,11 @@
-use mathlib.Core.Path.{◌≡◌, ◌∙◌, ap}
+use mathlib.Core.Path.{◌∙◌, ap}
 use mathlib.Core.List.{List}
-use native.Mathlib.Omega.{arith}
 use Prim.Native.Nat.{◌-◌}
-use lib.ListN.{length, take, length-take}
+use lib.ListN.{length, take}
 use lib.Ieee.{Float}
 use Rattle.candidate.specs.Candidate.{is_candidate, candidate_with}
 use Rattle.detection.specs.Steps.{rows_counted}
 use Rattle.detection.proofs.Work.{tail_is}
-use borrow.Author.Rules.{rules}
 use Rattle.judging.proofs.rows_counted.Goals as goal
 
 pub returns : goal.returns

@@ -1,7 +1,6 @@
 use Rattle.predictorcorrector.specs.State.{standing}
 use mathlib.Core.Path.{◌≡◌}
 use Rattle.predictorcorrector.specs.declared.Standing.{Standing}
-use borrow.Author.Rules.{rules}
 use Rattle.judging.proofs.standing_of.Goals as goal
 
 pub returns-clause-fact_1 : goal.returns-clause-fact_1
@@ -17,4 +16,3 @@ returns-clause-fact_1 c = let s = c.args.s in
       last_expected = c.last_entry-2.ensures.fact_1 i;
     } in
     p
-

@@ -1,8 +1,5 @@
-use mathlib.Core.Path.{◌∙◌, sym, ap, subst}
-use lib.ListN.{length}
-use Rattle.detection.specs.Steps.{Fitting, state_rows}
-use Rattle.detection.specs.declared.Outcome.{Outcome}
-use borrow.Author.Rules.{rules}
+use mathlib.Core.Path.{◌∙◌, sym, ap}
+use Rattle.detection.specs.Steps.{state_rows}
 use Rattle.judging.proofs.state_after.Goals as goal
 
 pub returns-in-Accepted : goal.returns-in-Accepted
