@@ -1,5 +1,6 @@
 // What a verdict leaves in the bytes of the stored state and of the verdict, as the crate layout has them.
 #![tactic(auto)]
+
 ghost use Rattle.std.specs.Prelude.{◌≡◌, true, length};
 ghost use Rattle.detection.specs.Steps.{Counting};
 ghost use Rattle.detection.specs.Decided.{after_rows};

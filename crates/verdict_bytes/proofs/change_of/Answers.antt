@@ -1,6 +1,5 @@
 use mathlib.Core.Path.{sym, ◌∙◌}
 use Rattle.verdict_bytes.specs.Steps.{change_of}
-use borrow.Author.Rules.{rules}
 use Rattle.verdict_bytes.proofs.change_of.Goals as goal
 
 pub returns-then-is_drift_mode : goal.returns-then-is_drift_mode

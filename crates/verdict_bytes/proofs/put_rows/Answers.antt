@@ -1,13 +1,9 @@
 use mathlib.Core.Path.{refl}
 use Prim.Native.Nat.{◌-◌}
-use native.Mathlib.Omega.{arith}
-use lib.ListN.{length, length-take}
+use lib.ListN.{length}
 use Rattle.detection.proofs.Work.{tail_is}
 use Rattle.verdict_bytes.proofs.Steps.{rows_counted_lem, rows_entered}
-use borrow.Author.Rules.{rules}
 use Rattle.verdict_bytes.proofs.put_rows.Goals as goal
-
-
 
 pub returns-then-is_candidate-clause-fact_1 : goal.returns-then-is_candidate-clause-fact_1
 returns-then-is_candidate-clause-fact_1 c = (rows_counted_lem c.args.state.now c.args.r c.args.l c.args.threshold c.args.point.now c.args.newest_expected c.args.grows c.run_length-run.result c.run_length-run.ensures c.is_candidate.result c.is_candidate.ensures c.write_counted.result _ c.corrected_score-corrected.result c.corrected_score-corrected.ensures c.requires.fact_1 c.requires.fact_2 c.if-is_candidate.true _ _

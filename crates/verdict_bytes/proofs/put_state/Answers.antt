@@ -1,9 +1,6 @@
 use mathlib.Core.Path.{refl, sym, ◌∙◌}
 use Rattle.verdict_bytes.proofs.Steps.{at_ends, at_adjusts, at_counts, at_stays}
-use borrow.Author.Rules.{rules}
 use Rattle.verdict_bytes.proofs.put_state.Goals as goal
-
-
 
 pub returns-in-Ends-clause-fact_2 : goal.returns-in-Ends-clause-fact_2
 returns-in-Ends-clause-fact_2 c = (at_ends c.args.state.now _ c.args.r c.args.l c.args.point.now c.args.newest_expected c.write_ended.result c.args.verdict (sym c.change_of.ensures ∙ c.in-Ends.is) c.write_ended.ensures.fact_1 c.write_ended.ensures.fact_2).1

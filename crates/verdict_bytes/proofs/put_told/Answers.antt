@@ -1,7 +1,6 @@
 use mir.Syntax.{w32}
 use mir.ValLaws.{to_z-of_z}
 use Rattle.verdict_bytes.proofs.Steps.{told_quiet, told_corrected, told_raised, told_skipped}
-use borrow.Author.Rules.{rules}
 use Rattle.verdict_bytes.proofs.put_told.Goals as goal
 
 pub returns-in-Quiet : goal.returns-in-Quiet

@@ -1,7 +1,6 @@
 use mir.Syntax.{w32}
 use mir.ValLaws.{to_z-of_z}
-use Rattle.verdict_bytes.proofs.Steps.{most_is, counting, put_done, put_refused, put_short}
-use borrow.Author.Rules.{rules}
+use Rattle.verdict_bytes.proofs.Steps.{most_is, put_done, put_refused, put_short}
 use Rattle.verdict_bytes.proofs.put_verdict.Goals as goal
 
 pub returns-in-Done : goal.returns-in-Done
