@@ -2,6 +2,7 @@
 // Numbers, and slices of bytes, sizes or floats (a pointer, then a length); a state, a reading and the last descriptor are their bytes, as the crate layout has them.
 // A call answers document 01's number, 0 where it is done; a refused one has written nothing.
 #![tactic(auto)]
+
 ghost use Rattle.std.specs.Prelude.{◌≡◌, ◌∷◌, length};
 ghost use Rattle.layout.specs.Left.{left};
 ghost use Rattle.layout.specs.Numbers.{flag_byte};
