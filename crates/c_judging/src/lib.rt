@@ -2,6 +2,7 @@
 // verdict in their bytes, as the crate layout has them. The answer is document 01's number, 0 for an accepted reading; a refused call
 // has written nothing.
 #![tactic(auto)]
+
 ghost use Rattle.std.specs.Prelude.{◌≡◌, ◌-◌, length};
 ghost use Rattle.descriptor.specs.Lent.{lent};
 ghost use Rattle.c_judging.specs.Judging as Judging;
