@@ -7,7 +7,7 @@ ghost use Rattle.attributors.specs.Attributors as Attributors;
 ghost use Rattle.attributors.specs.Sorted.{SortedPick};
 
 // Indices of a point. The places from `count` on hold 0.
-#[derive(Drop)]
+#[derive(Clone, Copy)]
 pub struct Missing {
     pub count: usize,
     pub indices: [usize; 5],

@@ -54,7 +54,7 @@ pub struct BasicThresholder {
     pub z_factor: f32,
 }
 
-#[derive(Drop)]
+#[derive(Clone, Copy)]
 pub enum Made {
     Ready(BasicThresholder),
     Refused(Refusal),
@@ -67,7 +67,7 @@ pub struct Graded {
     pub grade: f32,
 }
 
-#[derive(Drop)]
+#[derive(Clone, Copy)]
 pub struct Updated {
     pub answer: Answer,
     pub thresholder: BasicThresholder,

@@ -67,13 +67,7 @@ fn put_asked(out: &mut [usize], asked: Asked)
 
 // What a judgment asks the forest for past its opening grade, in five numbers: the gap since the last anomaly, or the start; then 1 for yes and 0 for no: the corrected
 // point's score, the neighbours, the expected point's attribution; and whether the corrector is to take the values for differences.
-#[unsafe(no_mangle)]
-pub extern "C" fn krcf_asked_of_forest(
-    state: &[u8],
-    reading: &[u8],
-    last: &[u8],
-    out: &mut [usize],
-) -> u8
+pub fn krcf_asked_of_forest(state: &[u8], reading: &[u8], last: &[u8], out: &mut [usize]) -> u8
     ensures { left result out.new ≡ Forest.asked_of_forest state.now reading.now last.now out.old }
 {
     let asked = asked_over(state, reading, last, out.len());
@@ -104,8 +98,7 @@ fn put_missing(out: &mut [usize], block: usize, start: usize, count: usize, indi
 
 // What a host asks the forest's conditional field for, in eight numbers: the block that stands out, where its row starts, how many indices there are (none where the
 // field is not asked), and five places for them, 0 behind the last.
-#[unsafe(no_mangle)]
-pub extern "C" fn krcf_likely_missing_indices(
+pub fn krcf_likely_missing_indices(
     shingle_size: usize,
     base_dimension: usize,
     gap: usize,
@@ -135,8 +128,7 @@ pub extern "C" fn krcf_likely_missing_indices(
 }
 
 // The point with the conditional median at the coordinates of the row from `position` on that contribute most.
-#[unsafe(no_mangle)]
-pub extern "C" fn krcf_expected_point(
+pub fn krcf_expected_point(
     shingle_size: usize,
     base_dimension: usize,
     position: usize,
@@ -164,8 +156,7 @@ pub extern "C" fn krcf_expected_point(
 }
 
 // The point with the last anomaly's effect taken out. Behind a no the last points are not looked at.
-#[unsafe(no_mangle)]
-pub extern "C" fn krcf_apply_basic_corrector(
+pub fn krcf_apply_basic_corrector(
     point: &[f32],
     gap: usize,
     shingle_size: usize,
@@ -202,12 +193,7 @@ pub extern "C" fn krcf_apply_basic_corrector(
 }
 
 // Within a run with auto adjust, counts the oldest row of the point.
-#[unsafe(no_mangle)]
-pub extern "C" fn krcf_update_auto_adjust(
-    state: &mut [u8],
-    shingle_size: usize,
-    point: &[f32],
-) -> u8
+pub fn krcf_update_auto_adjust(state: &mut [u8], shingle_size: usize, point: &[f32]) -> u8
     ensures { left result state.new ≡ Buffers.update_auto_adjust state.old shingle_size point.now }
 {
     if layout::state_codes_ok(state) {

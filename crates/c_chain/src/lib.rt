@@ -55,8 +55,7 @@ fn put_block(out: &mut [u8], block: Block) -> u8
     }
 }
 
-#[unsafe(no_mangle)]
-pub extern "C" fn krcf_total(high: &[f64], low: &[f64], out: &mut [u8]) -> u8
+pub fn krcf_total(high: &[f64], low: &[f64], out: &mut [u8]) -> u8
     ensures { left result out.new ≡ number_into (DiVector.total high.now low.now) out.old }
 {
     match divector::total(high, low) {
@@ -65,53 +64,37 @@ pub extern "C" fn krcf_total(high: &[f64], low: &[f64], out: &mut [u8]) -> u8
     }
 }
 
-#[unsafe(no_mangle)]
-pub extern "C" fn krcf_scale(high: &mut [f64], low: &mut [f64], factor: f64) -> u8
+pub fn krcf_scale(high: &mut [f64], low: &mut [f64], factor: f64) -> u8
     ensures { pair result high.new low.new ≡ numbered (DiVector.scale high.old low.old factor) }
 {
     divector::scale(high, low, factor).number()
 }
 
-#[unsafe(no_mangle)]
-pub extern "C" fn krcf_normalize(high: &mut [f64], low: &mut [f64], value: f64) -> u8
+pub fn krcf_normalize(high: &mut [f64], low: &mut [f64], value: f64) -> u8
     ensures { pair result high.new low.new ≡ numbered (DiVector.normalize high.old low.old value) }
 {
     divector::normalize(high, low, value).number()
 }
 
-#[unsafe(no_mangle)]
-pub extern "C" fn krcf_divide(high: &mut [f64], low: &mut [f64], num: usize) -> u8
+pub fn krcf_divide(high: &mut [f64], low: &mut [f64], num: usize) -> u8
     ensures { pair result high.new low.new ≡ numbered (DiVector.divide high.old low.old num) }
 {
     divector::divide(high, low, num).number()
 }
 
-#[unsafe(no_mangle)]
-pub extern "C" fn krcf_assign(
-    high: &mut [f64],
-    low: &mut [f64],
-    from_high: &[f64],
-    from_low: &[f64],
-) -> u8
+pub fn krcf_assign(high: &mut [f64], low: &mut [f64], from_high: &[f64], from_low: &[f64]) -> u8
     ensures { pair result high.new low.new ≡ numbered (DiVector.assign high.old low.old from_high.now from_low.now) }
 {
     divector::assign(high, low, from_high, from_low).number()
 }
 
-#[unsafe(no_mangle)]
-pub extern "C" fn krcf_add_to(
-    high: &[f64],
-    low: &[f64],
-    other_high: &mut [f64],
-    other_low: &mut [f64],
-) -> u8
+pub fn krcf_add_to(high: &[f64], low: &[f64], other_high: &mut [f64], other_low: &mut [f64]) -> u8
     ensures { pair result other_high.new other_low.new ≡ numbered (DiVector.add_to high.now low.now other_high.old other_low.old) }
 {
     divector::add_to(high, low, other_high, other_low).number()
 }
 
-#[unsafe(no_mangle)]
-pub extern "C" fn krcf_add_to_scaled(
+pub fn krcf_add_to_scaled(
     high: &[f64],
     low: &[f64],
     other_high: &mut [f64],
@@ -123,8 +106,7 @@ pub extern "C" fn krcf_add_to_scaled(
     divector::add_to_scaled(high, low, other_high, other_low, factor).number()
 }
 
-#[unsafe(no_mangle)]
-pub extern "C" fn krcf_high_low_sum(high: &[f64], low: &[f64], index: usize, out: &mut [u8]) -> u8
+pub fn krcf_high_low_sum(high: &[f64], low: &[f64], index: usize, out: &mut [u8]) -> u8
     ensures { left result out.new ≡ number_into (DiVector.high_low_sum high.now low.now index) out.old }
 {
     match divector::high_low_sum(high, low, index) {
@@ -133,8 +115,7 @@ pub extern "C" fn krcf_high_low_sum(high: &[f64], low: &[f64], index: usize, out
     }
 }
 
-#[unsafe(no_mangle)]
-pub extern "C" fn krcf_max_gap_contribution(
+pub fn krcf_max_gap_contribution(
     high: &[f64],
     low: &[f64],
     base: usize,
@@ -146,26 +127,14 @@ pub extern "C" fn krcf_max_gap_contribution(
     put_block(out, divector::max_gap_contribution(high, low, base, gap))
 }
 
-#[unsafe(no_mangle)]
-pub extern "C" fn krcf_max_contribution(
-    high: &[f64],
-    low: &[f64],
-    base: usize,
-    out: &mut [u8],
-) -> u8
+pub fn krcf_max_contribution(high: &[f64], low: &[f64], base: usize, out: &mut [u8]) -> u8
     ensures { left result out.new ≡ block_into (DiVector.max_contribution high.now low.now base) out.old }
 {
     put_block(out, divector::max_contribution(high, low, base))
 }
 
 // All bytes are written: those of entries that do not exist are zero.
-#[unsafe(no_mangle)]
-pub extern "C" fn krcf_new(
-    discount: f64,
-    auto_adjust: u8,
-    base_dimension: usize,
-    out: &mut [u8],
-) -> u8
+pub fn krcf_new(discount: f64, auto_adjust: u8, base_dimension: usize, out: &mut [u8]) -> u8
     ensures { left result out.new ≡ chain_made (State.new discount (eqb auto_adjust 1) base_dimension) auto_adjust out.old }
 {
     let made = PredictorCorrector::new(discount, auto_adjust == 1, base_dimension);
@@ -188,8 +157,7 @@ pub extern "C" fn krcf_new(
 
 // Each setter changes the thresholder of a stored state: 3 for a slice of another length, 2 for a yes/no byte above 1. The chain's lower threshold is the
 // thresholder's absolute threshold.
-#[unsafe(no_mangle)]
-pub extern "C" fn krcf_chain_set_z_factor(state: &mut [u8], factor: f32) -> u8
+pub fn krcf_chain_set_z_factor(state: &mut [u8], factor: f32) -> u8
     ensures { left result state.new ≡ chain_set (λ s. State.z_factor_set s factor) state.old }
 {
     match layout::read_standing(state) {
@@ -202,8 +170,7 @@ pub extern "C" fn krcf_chain_set_z_factor(state: &mut [u8], factor: f32) -> u8
     }
 }
 
-#[unsafe(no_mangle)]
-pub extern "C" fn krcf_chain_set_lower_threshold(state: &mut [u8], lower: f32) -> u8
+pub fn krcf_chain_set_lower_threshold(state: &mut [u8], lower: f32) -> u8
     ensures { left result state.new ≡ chain_set (λ s. State.lower_threshold_set s lower) state.old }
 {
     match layout::read_standing(state) {
@@ -216,8 +183,7 @@ pub extern "C" fn krcf_chain_set_lower_threshold(state: &mut [u8], lower: f32) -
     }
 }
 
-#[unsafe(no_mangle)]
-pub extern "C" fn krcf_chain_set_initial_threshold(state: &mut [u8], initial: f32) -> u8
+pub fn krcf_chain_set_initial_threshold(state: &mut [u8], initial: f32) -> u8
     ensures { left result state.new ≡ chain_set (λ s. State.initial_threshold_set s initial) state.old }
 {
     match layout::read_standing(state) {
@@ -231,8 +197,7 @@ pub extern "C" fn krcf_chain_set_initial_threshold(state: &mut [u8], initial: f3
 }
 
 // A horizon is refused after the state.
-#[unsafe(no_mangle)]
-pub extern "C" fn krcf_chain_set_horizon(state: &mut [u8], horizon: f32) -> u8
+pub fn krcf_chain_set_horizon(state: &mut [u8], horizon: f32) -> u8
     ensures { left result state.new ≡ horizon_set_in horizon state.old }
 {
     match layout::read_standing(state) {

@@ -27,106 +27,91 @@ const RANGE: u8 = 2;
 
 const LENGTH: u8 = 3;
 
-#[unsafe(no_mangle)]
-pub extern "C" fn krcf_sqrt(x: f64) -> f64
+pub fn krcf_sqrt(x: f64) -> f64
     ensures { result ≡ Round.sqrt x }
 {
     ieee::sqrt(x)
 }
 
-#[unsafe(no_mangle)]
-pub extern "C" fn krcf_floor(x: f32) -> f32
+pub fn krcf_floor(x: f32) -> f32
     ensures { result ≡ Round.floor x }
 {
     ieee::floor(x)
 }
 
-#[unsafe(no_mangle)]
-pub extern "C" fn krcf_narrow(x: f64) -> f32
+pub fn krcf_narrow(x: f64) -> f32
     ensures { result ≡ Round.narrow x }
 {
     ieee::narrow(x)
 }
 
-#[unsafe(no_mangle)]
-pub extern "C" fn krcf_widen(x: f32) -> f64
+pub fn krcf_widen(x: f32) -> f64
     ensures { result ≡ x }
 {
     ieee::widen(x)
 }
 
-#[unsafe(no_mangle)]
-pub extern "C" fn krcf_f32_from_bits(n: u32) -> f32
+pub fn krcf_f32_from_bits(n: u32) -> f32
     ensures { result ≡ of_bits binary32 n }
 {
     ieee::f32_from_bits(n)
 }
 
-#[unsafe(no_mangle)]
-pub extern "C" fn krcf_f64_from_bits(n: u64) -> f64
+pub fn krcf_f64_from_bits(n: u64) -> f64
     ensures { result ≡ of_bits binary64 n }
 {
     ieee::f64_from_bits(n)
 }
 
-#[unsafe(no_mangle)]
-pub extern "C" fn krcf_f32_to_bits(x: f32) -> u32
+pub fn krcf_f32_to_bits(x: f32) -> u32
     ensures { result ≡ to_bits binary32 x }
 {
     ieee::f32_to_bits(x)
 }
 
-#[unsafe(no_mangle)]
-pub extern "C" fn krcf_f64_to_bits(x: f64) -> u64
+pub fn krcf_f64_to_bits(x: f64) -> u64
     ensures { result ≡ to_bits binary64 x }
 {
     ieee::f64_to_bits(x)
 }
 
-#[unsafe(no_mangle)]
-pub extern "C" fn krcf_i32_to_f32(n: i32) -> f32
+pub fn krcf_i32_to_f32(n: i32) -> f32
     ensures { result ≡ of_int binary32 n }
 {
     ieee::i32_to_f32(n)
 }
 
-#[unsafe(no_mangle)]
-pub extern "C" fn krcf_i32_to_f64(n: i32) -> f64
+pub fn krcf_i32_to_f64(n: i32) -> f64
     ensures { result ≡ of_int binary64 n }
 {
     ieee::i32_to_f64(n)
 }
 
-#[unsafe(no_mangle)]
-pub extern "C" fn krcf_u32_to_f32(n: u32) -> f32
+pub fn krcf_u32_to_f32(n: u32) -> f32
     ensures { result ≡ of_int binary32 (pos n) }
 {
     ieee::u32_to_f32(n)
 }
 
-#[unsafe(no_mangle)]
-pub extern "C" fn krcf_usize_to_f64(n: usize) -> f64
+pub fn krcf_usize_to_f64(n: usize) -> f64
     ensures { result ≡ of_int binary64 (pos n) }
 {
     ieee::usize_to_f64(n)
 }
 
-#[unsafe(no_mangle)]
-pub extern "C" fn krcf_maxf32(a: f32, b: f32) -> f32
+pub fn krcf_maxf32(a: f32, b: f32) -> f32
     ensures { result ≡ Util.maxf32 a b }
 {
     util::maxf32(a, b)
 }
 
-#[unsafe(no_mangle)]
-pub extern "C" fn krcf_minf32(a: f32, b: f32) -> f32
+pub fn krcf_minf32(a: f32, b: f32) -> f32
     ensures { result ≡ Util.minf32 a b }
 {
     util::minf32(a, b)
 }
 
-#[unsafe(no_mangle)]
-pub extern "C" fn krcf_absf32(a: f32) -> f32
+pub fn krcf_absf32(a: f32) -> f32
     ensures { result ≡ Util.absf32 a }
 {
     util::absf32(a)
@@ -232,8 +217,7 @@ fn store_thresholder(state: &mut [u8], u: basicthresholder::Updated) -> u8
     }
 }
 
-#[unsafe(no_mangle)]
-pub extern "C" fn krcf_deviation_new(discount: f64, out: &mut [u8]) -> u8
+pub fn krcf_deviation_new(discount: f64, out: &mut [u8]) -> u8
     ensures { left result out.new ≡ deviation_made (Statistics.new discount) out.old }
 {
     match Deviation::new(discount) {
@@ -242,8 +226,7 @@ pub extern "C" fn krcf_deviation_new(discount: f64, out: &mut [u8]) -> u8
     }
 }
 
-#[unsafe(no_mangle)]
-pub extern "C" fn krcf_deviation_update(state: &mut [u8], score: f64) -> u8
+pub fn krcf_deviation_update(state: &mut [u8], score: f64) -> u8
     ensures { left result state.new ≡ deviation_changed (λ d. Statistics.update d score) (read_deviation state.old) state.old }
 {
     match layout::read_deviation(state) {
@@ -252,8 +235,7 @@ pub extern "C" fn krcf_deviation_update(state: &mut [u8], score: f64) -> u8
     }
 }
 
-#[unsafe(no_mangle)]
-pub extern "C" fn krcf_deviation_reset(state: &mut [u8]) -> u8
+pub fn krcf_deviation_reset(state: &mut [u8]) -> u8
     ensures { left result state.new ≡ deviation_changed (λ d. deviation_done (Statistics.reset d)) (read_deviation state.old) state.old }
 {
     match layout::read_deviation(state) {
@@ -268,8 +250,7 @@ pub extern "C" fn krcf_deviation_reset(state: &mut [u8]) -> u8
     }
 }
 
-#[unsafe(no_mangle)]
-pub extern "C" fn krcf_deviation_mean(state: &[u8], out: &mut [u8]) -> u8
+pub fn krcf_deviation_mean(state: &[u8], out: &mut [u8]) -> u8
     ensures { left result out.new ≡ deviation_read (λ d. measured_over (Statistics.measured_mean d) out.old) 9 (read_deviation state.now) out.old }
 {
     match layout::read_deviation(state) {
@@ -278,8 +259,7 @@ pub extern "C" fn krcf_deviation_mean(state: &[u8], out: &mut [u8]) -> u8
     }
 }
 
-#[unsafe(no_mangle)]
-pub extern "C" fn krcf_deviation_deviation(state: &[u8], out: &mut [u8]) -> u8
+pub fn krcf_deviation_deviation(state: &[u8], out: &mut [u8]) -> u8
     ensures { left result out.new ≡ deviation_read (λ d. measured_over (Statistics.measured_deviation d) out.old) 9 (read_deviation state.now) out.old }
 {
     match layout::read_deviation(state) {
@@ -288,8 +268,7 @@ pub extern "C" fn krcf_deviation_deviation(state: &[u8], out: &mut [u8]) -> u8
     }
 }
 
-#[unsafe(no_mangle)]
-pub extern "C" fn krcf_deviation_is_empty(state: &[u8], out: &mut [u8]) -> u8
+pub fn krcf_deviation_is_empty(state: &[u8], out: &mut [u8]) -> u8
     ensures { left result out.new ≡ deviation_read (λ d. flag_bytes (Statistics.is_empty d)) 1 (read_deviation state.now) out.old }
 {
     match layout::read_deviation(state) {
@@ -298,8 +277,7 @@ pub extern "C" fn krcf_deviation_is_empty(state: &[u8], out: &mut [u8]) -> u8
     }
 }
 
-#[unsafe(no_mangle)]
-pub extern "C" fn krcf_thresholder_new(discount: f64, adjust: u8, out: &mut [u8]) -> u8
+pub fn krcf_thresholder_new(discount: f64, adjust: u8, out: &mut [u8]) -> u8
     ensures { left result out.new ≡ thresholder_made (Updates.new_adjustible discount (eqb adjust 1)) adjust out.old }
 {
     match BasicThresholder::new_adjustible(discount, adjust == 1) {
@@ -313,8 +291,7 @@ pub extern "C" fn krcf_thresholder_new(discount: f64, adjust: u8, out: &mut [u8]
     }
 }
 
-#[unsafe(no_mangle)]
-pub extern "C" fn krcf_thresholder_is_deviation_ready(state: &[u8], out: &mut [u8]) -> u8
+pub fn krcf_thresholder_is_deviation_ready(state: &[u8], out: &mut [u8]) -> u8
     ensures { left result out.new ≡ thresholder_read (λ s. flag_bytes (Grades.is_deviation_ready s)) 1 (read_thresholder state.now) out.old }
 {
     match layout::read_thresholder(state) {
@@ -323,8 +300,7 @@ pub extern "C" fn krcf_thresholder_is_deviation_ready(state: &[u8], out: &mut [u
     }
 }
 
-#[unsafe(no_mangle)]
-pub extern "C" fn krcf_threshold(state: &[u8], out: &mut [u8]) -> u8
+pub fn krcf_threshold(state: &[u8], out: &mut [u8]) -> u8
     ensures { left result out.new ≡ thresholder_read (λ s. f32_bytes (Grades.threshold s)) 4 (read_thresholder state.now) out.old }
 {
     match layout::read_thresholder(state) {
@@ -333,8 +309,7 @@ pub extern "C" fn krcf_threshold(state: &[u8], out: &mut [u8]) -> u8
     }
 }
 
-#[unsafe(no_mangle)]
-pub extern "C" fn krcf_primary_grade(state: &[u8], score: f32, out: &mut [u8]) -> u8
+pub fn krcf_primary_grade(state: &[u8], score: f32, out: &mut [u8]) -> u8
     ensures { left result out.new ≡ thresholder_read (λ s. f32_bytes (Grades.primary_grade s score)) 4 (read_thresholder state.now) out.old }
 {
     match layout::read_thresholder(state) {
@@ -343,8 +318,7 @@ pub extern "C" fn krcf_primary_grade(state: &[u8], score: f32, out: &mut [u8]) -
     }
 }
 
-#[unsafe(no_mangle)]
-pub extern "C" fn krcf_primary_threshold_and_grade(state: &[u8], score: f32, out: &mut [u8]) -> u8
+pub fn krcf_primary_threshold_and_grade(state: &[u8], score: f32, out: &mut [u8]) -> u8
     ensures { left result out.new ≡ thresholder_read (λ s. encode_graded (Grades.primary_threshold_and_grade s score)) 8 (read_thresholder state.now) out.old }
 {
     match layout::read_thresholder(state) {
@@ -353,8 +327,7 @@ pub extern "C" fn krcf_primary_threshold_and_grade(state: &[u8], score: f32, out
     }
 }
 
-#[unsafe(no_mangle)]
-pub extern "C" fn krcf_threshold_and_grade(
+pub fn krcf_threshold_and_grade(
     state: &[u8],
     score: f32,
     method: u8,
@@ -375,8 +348,7 @@ pub extern "C" fn krcf_threshold_and_grade(
     }
 }
 
-#[unsafe(no_mangle)]
-pub extern "C" fn krcf_threshold_and_grade_with_factor(
+pub fn krcf_threshold_and_grade_with_factor(
     state: &[u8],
     score: f32,
     factor: f32,
@@ -398,8 +370,7 @@ pub extern "C" fn krcf_threshold_and_grade_with_factor(
     }
 }
 
-#[unsafe(no_mangle)]
-pub extern "C" fn krcf_update_threshold(state: &mut [u8], score: f32) -> u8
+pub fn krcf_update_threshold(state: &mut [u8], score: f32) -> u8
     ensures { left result state.new ≡ thresholder_changed (λ s. Updates.update_threshold s score) (read_thresholder state.old) state.old }
 {
     match layout::read_thresholder(state) {
@@ -408,8 +379,7 @@ pub extern "C" fn krcf_update_threshold(state: &mut [u8], score: f32) -> u8
     }
 }
 
-#[unsafe(no_mangle)]
-pub extern "C" fn krcf_update_primary(state: &mut [u8], score: f64) -> u8
+pub fn krcf_update_primary(state: &mut [u8], score: f64) -> u8
     ensures { left result state.new ≡ thresholder_changed (λ s. Updates.update_primary s score) (read_thresholder state.old) state.old }
 {
     match layout::read_thresholder(state) {
@@ -418,8 +388,7 @@ pub extern "C" fn krcf_update_primary(state: &mut [u8], score: f64) -> u8
     }
 }
 
-#[unsafe(no_mangle)]
-pub extern "C" fn krcf_update_both(state: &mut [u8], primary: f32, secondary: f32) -> u8
+pub fn krcf_update_both(state: &mut [u8], primary: f32, secondary: f32) -> u8
     ensures { left result state.new ≡ thresholder_changed (λ s. Updates.update_both s primary secondary) (read_thresholder state.old) state.old }
 {
     match layout::read_thresholder(state) {
@@ -428,8 +397,7 @@ pub extern "C" fn krcf_update_both(state: &mut [u8], primary: f32, secondary: f3
     }
 }
 
-#[unsafe(no_mangle)]
-pub extern "C" fn krcf_update(state: &mut [u8], primary: f32, secondary: f32, last_score: f32) -> u8
+pub fn krcf_update(state: &mut [u8], primary: f32, secondary: f32, last_score: f32) -> u8
     ensures { left result state.new ≡ thresholder_changed (λ s. Updates.update s primary secondary last_score) (read_thresholder state.old) state.old }
 {
     match layout::read_thresholder(state) {
@@ -441,8 +409,7 @@ pub extern "C" fn krcf_update(state: &mut [u8], primary: f32, secondary: f32, la
     }
 }
 
-#[unsafe(no_mangle)]
-pub extern "C" fn krcf_set_score_differencing(state: &mut [u8], horizon: f32) -> u8
+pub fn krcf_set_score_differencing(state: &mut [u8], horizon: f32) -> u8
     ensures { left result state.new ≡ thresholder_changed (λ s. Updates.set_score_differencing s horizon) (read_thresholder state.old) state.old }
 {
     match layout::read_thresholder(state) {
@@ -461,8 +428,7 @@ fn done(s: BasicThresholder) -> basicthresholder::Updated
     }
 }
 
-#[unsafe(no_mangle)]
-pub extern "C" fn krcf_set_z_factor(state: &mut [u8], factor: f32) -> u8
+pub fn krcf_set_z_factor(state: &mut [u8], factor: f32) -> u8
     ensures { left result state.new ≡ thresholder_changed (λ s. thresholder_done (Updates.with_z_factor s factor)) (read_thresholder state.old) state.old }
 {
     match layout::read_thresholder(state) {
@@ -471,8 +437,7 @@ pub extern "C" fn krcf_set_z_factor(state: &mut [u8], factor: f32) -> u8
     }
 }
 
-#[unsafe(no_mangle)]
-pub extern "C" fn krcf_set_lower_threshold(state: &mut [u8], lower: f32) -> u8
+pub fn krcf_set_lower_threshold(state: &mut [u8], lower: f32) -> u8
     ensures { left result state.new ≡ thresholder_changed (λ s. thresholder_done (Updates.with_lower_threshold s lower)) (read_thresholder state.old) state.old }
 {
     match layout::read_thresholder(state) {
@@ -481,8 +446,7 @@ pub extern "C" fn krcf_set_lower_threshold(state: &mut [u8], lower: f32) -> u8
     }
 }
 
-#[unsafe(no_mangle)]
-pub extern "C" fn krcf_set_absolute_threshold(state: &mut [u8], value: f32) -> u8
+pub fn krcf_set_absolute_threshold(state: &mut [u8], value: f32) -> u8
     ensures { left result state.new ≡ thresholder_changed (λ s. thresholder_done (Updates.with_absolute_threshold s value)) (read_thresholder state.old) state.old }
 {
     match layout::read_thresholder(state) {
@@ -491,8 +455,7 @@ pub extern "C" fn krcf_set_absolute_threshold(state: &mut [u8], value: f32) -> u
     }
 }
 
-#[unsafe(no_mangle)]
-pub extern "C" fn krcf_set_initial_threshold(state: &mut [u8], initial: f32) -> u8
+pub fn krcf_set_initial_threshold(state: &mut [u8], initial: f32) -> u8
     ensures { left result state.new ≡ thresholder_changed (λ s. thresholder_done (Updates.with_initial_threshold s initial)) (read_thresholder state.old) state.old }
 {
     match layout::read_thresholder(state) {

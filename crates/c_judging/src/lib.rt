@@ -14,8 +14,7 @@ use layout::CallRead;
 const LENGTH: u8 = 3;
 
 // Judges a reading and changes the state: `judge` decides, and its verdict is put into the bytes.
-#[unsafe(no_mangle)]
-pub extern "C" fn krcf_detect_and_modify(
+pub fn krcf_detect_and_modify(
     state: &mut [u8],
     reading: &[u8],
     last: &[u8],
@@ -90,8 +89,7 @@ pub extern "C" fn krcf_detect_and_modify(
 }
 
 // Where the newest row of a point starts, 8 bytes.
-#[unsafe(no_mangle)]
-pub extern "C" fn krcf_newest_row(
+pub fn krcf_newest_row(
     point: &[f32],
     shingle_size: usize,
     base_dimension: usize,

@@ -1,5 +1,6 @@
 // The calls on a reading's buffers that predictorcorrector.rs has public, and what its detect_and_modify asks the forest for, with document 01's refusals.
 #![tactic(auto)]
+
 ghost use Rattle.std.specs.Prelude.{◌≡◌, [], length};
 ghost use Rattle.descriptor.specs.Checks as Checks;
 ghost use Rattle.calls.specs.Calls as Calls;
@@ -199,7 +200,7 @@ pub fn apply_basic_corrector(
 
 // What the forest's conditional field is asked for behind an attribution: the block that contributes most, where its row starts, and the likely missing indices of
 // the row. The places from `count` on hold 0; a refusal has no block and no indices, all zero.
-#[derive(Drop)]
+#[derive(Clone, Copy)]
 pub struct Missing {
     pub answer: Answer,
     pub block: usize,
@@ -277,7 +278,7 @@ fn asked_indices_are_expected()
 // What detect_and_modify asks its forest for past an opening grade above 0, beside the corrected point's attribution and the conditional field: the corrected point's
 // score, the neighbours, the expected point's attribution (the Rust's `new_attribution`); and the gap and `use_difference` that it hands to its corrector. A refusal
 // asks for nothing: no gap, and no to the rest.
-#[derive(Drop)]
+#[derive(Clone, Copy)]
 pub struct Asked {
     pub answer: Answer,
     pub gap: usize,

@@ -1,5 +1,6 @@
 // The candidate branch of `detect_and_modify` and its drift test. The steps ask nothing of their caller.
 #![tactic(auto)]
+
 ghost use Rattle.std.specs.Prelude.{◌≡◌, ◌-◌, ◌&&◌, slice_index_or};
 ghost use Rattle.std.specs.Float.{nan};
 ghost use Rattle.deviation.specs.Statistics.{counted};

@@ -35,7 +35,7 @@ pub enum Place {
 
 // What a byte does to a field: it is one of the content, and the field goes on at that place; it is none, and the field goes on; it ends the field, and another
 // follows; it ends the row; it breaks the field's quotes, or ends an input that has no header.
-#[derive(Drop)]
+#[derive(Clone, Copy)]
 pub enum Turn {
     Reads(Place),
     Waits(Place),
@@ -57,7 +57,7 @@ pub struct Content {
 }
 
 // A number with some digits more, and the place behind them.
-#[derive(Drop)]
+#[derive(Clone, Copy)]
 pub struct Digits {
     pub number: u32,
     pub next: usize,

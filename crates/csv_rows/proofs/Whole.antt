@@ -18,7 +18,7 @@ use Rattle.csv_rows.specs.declared.Stepped.{Stepped}
 use Rattle.csv_rows.specs.declared.Row.{Row}
 use Rattle.csv_rows.specs.declared.Row.TheVariants.{Nothing, Header, Sound, Faulty}
 use Rattle.csv_rows.specs.Rows.{is_empty, without_return, rows_from, Field, Holds, BrokenQuote, field_of, is_broken, content_in, entry, header_of, entry_of, three_of, fields_of, row_of, is_faulty, readings, readings_of}
-use Rattle.csv_rows.specs.Scanning.{token, scan_of, stepped_of, start, begin_row, begin, refused, field_after, next_field, verdict, after_row, row_ended, stepped, finished, told, fed, heard, joined, in_parts, Whole}
+use Rattle.csv_rows.specs.Scanning.{scan_of, stepped_of, start, begin_row, begin, refused, field_after, next_field, verdict, after_row, row_ended, stepped, finished, told, fed, heard, joined, in_parts, Whole}
 use Rattle.csv_rows.proofs.Walking.{comma, quote, feed, return, Spot, Start, Plain, Return, Quoted, Closed, Ending, Broken, Reach, reach, begun, broken, plainly, walk, ended, ended_line, is_start, is_quoted, is_lost, false_true, place_of, token_of, lost, goes_on, ends_field, ends_row, no_row, comma_takes, feed_takes, quoted_takes, other_takes, end_takes}
 use Rattle.csv_rows.proofs.Fields.{walked, walked_snoc, reached, field_end, line_end}
 

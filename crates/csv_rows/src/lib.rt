@@ -1,5 +1,6 @@
 // The rows of a cabinet's export, CSV after RFC 4180, read in parts of any size. Nothing of the input is kept: a scan has a fixed size.
 #![tactic(auto)]
+
 ghost use Rattle.std.specs.Prelude.{◌≡◌, drop};
 ghost use Rattle.csv_rows.specs.Scanning as Scanning;
 ghost use Rattle.csv_rows.specs.Sizes as Sizes;
@@ -44,14 +45,14 @@ pub enum Row {
 }
 
 // The scan behind a byte, and the row that the byte ended.
-#[derive(Drop)]
+#[derive(Clone, Copy)]
 pub struct Stepped {
     pub scan: Scan,
     pub row: Row,
 }
 
 // The scan where reading stopped, the row that ended there, and the place behind it.
-#[derive(Drop)]
+#[derive(Clone, Copy)]
 pub struct Reached {
     pub scan: Scan,
     pub row: Row,

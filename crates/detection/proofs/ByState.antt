@@ -33,7 +33,7 @@ use Rattle.detection.specs.Steps.{Branching, Fitting, rows_counted, after_rows, 
 use Rattle.detection.specs.declared.Verdict.{Verdict}
 use Rattle.detection.specs.declared.Verdict.TheVariants.{Quiet, Corrected, Raised, Skipped}
 use Rattle.detection.specs.declared.Outcome.{Outcome}
-use Rattle.detection.specs.declared.Outcome.TheVariants.{Accepted, Refused}
+use Rattle.detection.specs.declared.Outcome.TheVariants.{Accepted}
 use Rattle.predictorcorrector.specs.declared.Standing.{Standing}
 use Rattle.detection.specs.declared.Decision.{Decision}
 use Rattle.detection.proofs.Entry.{branching, in_range, same_base, counts_ok}

@@ -1,6 +1,6 @@
 -- Parts of local work arrays that a call wrote, and what the leaves' contracts give where the lengths fit. Assumes nothing.
-use mathlib.Core.Path.{◌≡◌, refl, sym, ap, ◌∙◌}
-use mathlib.Core.Bool.{Bool, true, false, cond, not, ◌||◌}
+use mathlib.Core.Path.{◌≡◌, refl, ap, ◌∙◌}
+use mathlib.Core.Bool.{Bool, true, false, cond, ◌||◌}
 use mathlib.Core.List.{List, [], ◌∷◌, ◌++◌}
 use Prim.Native.Nat.{ℕ, zero, suc, ◌-◌, ◌≤◌, ◌<◌}
 use native.Mathlib.Nat.{le_of_suc-le-suc, not-suc-le-zero}
@@ -30,10 +30,6 @@ pub corrected_is : (point gap shingle base : ℕ) (h : Bool) (e a : ℕ) (out x 
     → x ≡ cond (corrector_fits point gap shingle base h e a (length out)) y out → x ≡ y
 corrected_is point gap shingle base h e a out x y l f q =
     q ∙ ap (λ (t : Bool). cond t y out) (ap (corrector_fits point gap shingle base h e a) l ∙ corrects point gap shingle base h e a point f)
-
-pub not_true : (t : Bool) → not t ≡ true → t ≡ false
-not_true true h = sym h
-not_true false h = refl
 
 -- Nothing is corrected where the last anomaly is not recent.
 pub not_recent : (point : List Float) (gap shingle base : ℕ) (h : Bool) (e a : List Float) (i : ℤ) (u t : Bool) → is_recent h gap shingle ≡ false

@@ -18,7 +18,7 @@ use Rattle.detection.specs.Decided.{no_row, drift_of}
 unfoldable pub use Rattle.detection.specs.Decided.{rows_counted, after_rows}
 use Rattle.detection.specs.declared.Way.{Way}
 use Rattle.detection.specs.declared.Way.TheVariants as Ways
-use Rattle.detection.specs.declared.Verdict.TheVariants.{Quiet, Corrected, Raised, Skipped}
+use Rattle.detection.specs.declared.Verdict.TheVariants.{Corrected, Raised}
 use Rattle.detection.specs.declared.Outcome.{Outcome}
 use Rattle.detection.specs.declared.Outcome.TheVariants.{Accepted, Refused}
 use Rattle.predictorcorrector.specs.declared.PredictorCorrector.{PredictorCorrector}

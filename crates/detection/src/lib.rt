@@ -28,14 +28,14 @@ pub enum Verdict {
     Skipped,
 }
 
-#[derive(Drop)]
+#[derive(Clone, Copy)]
 pub enum Outcome {
     Accepted(Verdict),
     Refused(Refusal),
 }
 
 // The outcome, with the relative index of a raised reading and, where the candidate branch is reached, the newest row of the expected point.
-#[derive(Drop)]
+#[derive(Clone, Copy)]
 pub struct Decision {
     pub outcome: Outcome,
     pub relative_index: i32,
@@ -43,7 +43,7 @@ pub struct Decision {
 }
 
 // The outcome, with the relative index of a raised reading and the state beside it.
-#[derive(Drop)]
+#[derive(Clone, Copy)]
 pub struct Judgment {
     pub outcome: Outcome,
     pub relative_index: i32,

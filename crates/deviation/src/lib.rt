@@ -19,20 +19,20 @@ pub struct Deviation {
     pub count: i32,
 }
 
-#[derive(Drop)]
+#[derive(Clone, Copy)]
 pub enum Made {
     Ready(Deviation),
     Refused(Refusal),
 }
 
-#[derive(Drop)]
+#[derive(Clone, Copy)]
 pub struct Updated {
     pub answer: Answer,
     pub deviation: Deviation,
 }
 
 // What a statistic says of its scores. An empty one, its weight at or below 0, has no number.
-#[derive(Drop)]
+#[derive(Clone, Copy)]
 pub enum Measured {
     Empty,
     Number(f64),

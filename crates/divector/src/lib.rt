@@ -8,14 +8,14 @@ ghost use Rattle.divector.specs.DiVector.{after};
 use types::{Answer, Refusal};
 
 // A number, or why there is none.
-#[derive(Drop)]
+#[derive(Clone, Copy)]
 pub enum Number {
     Value(f64),
     Refused(Refusal),
 }
 
 // A block's place, or why there is none.
-#[derive(Drop)]
+#[derive(Clone, Copy)]
 pub enum Block {
     At(usize),
     Refused(Refusal),

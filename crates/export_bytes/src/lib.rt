@@ -1,6 +1,7 @@
 // The export watch on bytes: a cabinet's CSV export in, rows of thresholds and grades out. A run is fed its input in parts, cut anywhere, and hands back what it
 // prints; nothing of the input is kept. A program above has only to read and to write.
 #![tactic(auto)]
+
 ghost use Rattle.std.specs.Prelude.{◌≡◌, ◌+◌, ◌*◌, ◌≤◌, length, take};
 ghost use Rattle.score_rows.specs.Steps as Steps;
 ghost use Rattle.export_rows.specs.Taking as Taking;
@@ -18,7 +19,7 @@ pub struct Run {
 }
 
 // What a call that prints answers: the run after it, and where in the lent buffer the written bytes end.
-#[derive(Drop)]
+#[derive(Clone, Copy)]
 pub struct Fed {
     pub run: Run,
     pub written: usize,

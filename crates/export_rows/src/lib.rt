@@ -1,5 +1,6 @@
 // The export watch row by row: what a row of a cabinet's export does to the run, and what it prints. Bytes are read below, in `csv_rows`, and written above.
 #![tactic(auto)]
+
 ghost use Rattle.std.specs.Prelude.{◌≡◌, ◌<◌};
 ghost use Rattle.score_kinds.specs.Counting as Counting;
 ghost use Rattle.export_rows.specs.Taking as Taking;
@@ -35,7 +36,7 @@ pub struct Course {
 }
 
 // What a row prints, its number apart.
-#[derive(Drop)]
+#[derive(Clone, Copy)]
 pub enum Line {
     Nothing,
     Shown(Kind),
@@ -44,7 +45,7 @@ pub enum Line {
 }
 
 // The run after a row, and what the row prints.
-#[derive(Drop)]
+#[derive(Clone, Copy)]
 pub struct Taken {
     pub course: Course,
     pub line: Line,

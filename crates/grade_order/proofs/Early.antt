@@ -156,6 +156,9 @@ by_zero (fin false m e) g p = go (eqb m 0)
 
 less_zero : (z : Float) (g : ℤ) → Above z → T (signed false (sub binary32 z (fin false 0 g)))
 unfolding sub
+less_zero nan g s = elim s [ ]
+less_zero (inf true) g s = elim s [ ]
+less_zero (fin true m e) g s = elim s [ ]
 less_zero (inf false) g endless = tt
 less_zero (fin false m e) g (some M) =
     difference_signed false m e false 0 g tt (omega arith)
@@ -166,6 +169,9 @@ zero_share z g s = by_zero (sub binary32 z (fin false 0 g)) g (less_zero z g s)
 -- by minus zero: nothing, since the difference is not rounded to 0
 by_minus_zero : (w : Float) (g : ℤ) → Above w → count (cut (div binary32 w (fin true 0 g))) ≡ 0
 unfolding div
+by_minus_zero nan g s = elim s [ ]
+by_minus_zero (inf true) g s = elim s [ ]
+by_minus_zero (fin true m e) g s = elim s [ ]
 by_minus_zero (inf false) g endless = cut_minus (inf true) tt
 by_minus_zero (fin false (suc n) e) g (some N) = rw (eqb-suc-zero n) (cut_minus (inf true) tt)
 by_minus_zero (fin false zero e) g (some N) = absurd (let l = N in omega arith)
@@ -188,6 +194,9 @@ at_least_smallest a c C h =
 
 less_minus_zero : (z : Float) (g : ℤ) → T (fits binary32 z) → Above z → Above (sub binary32 z (fin true 0 g))
 unfolding sub
+less_minus_zero nan g F s = elim s [ ]
+less_minus_zero (inf true) g F s = elim s [ ]
+less_minus_zero (fin true m e) g F s = elim s [ ]
 less_minus_zero (inf false) g F endless = endless
 less_minus_zero (fin false zero e) g F (some M) = absurd (let l = M in omega arith)
 less_minus_zero (fin false (suc m) e) g F (some M) =

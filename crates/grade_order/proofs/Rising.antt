@@ -187,9 +187,15 @@ pub quotient_plus : (a d : Float) → T (plus a) → Above d → T (plus (div bi
 unfolding div
 quotient_plus nan d p s = tt
 quotient_plus (inf true) d p s = absurd p
+quotient_plus (inf false) nan p s = elim s [ ]
+quotient_plus (inf false) (inf true) p s = elim s [ ]
+quotient_plus (inf false) (fin true n g) p s = elim s [ ]
 quotient_plus (inf false) (inf false) p endless = tt
 quotient_plus (inf false) (fin false n g) p (some N) = tt
 quotient_plus (fin true m e) d p s = absurd p
+quotient_plus (fin false m e) nan p s = elim s [ ]
+quotient_plus (fin false m e) (inf true) p s = elim s [ ]
+quotient_plus (fin false m e) (fin true n g) p s = elim s [ ]
 quotient_plus (fin false m e) (inf false) p endless = tt
 quotient_plus (fin false m e) (fin false n g) p (some N) = subst (λ (x : Float). T (plus x)) (sym (quotient_is m n e g N)) (round_plus binary32 (m * up e * down g) (n * up g * down e))
 
@@ -197,8 +203,14 @@ quotient_plus (fin false m e) (fin false n g) p (some N) = subst (λ (x : Float)
 pub quotients : {a b : Float} → Rising a b → (d : Float) → Above d → Rising (div binary32 a d) (div binary32 b d)
 unfolding div
 quotients (to_nan {a} p) d s = to_nan (quotient_plus a d p s)
+quotients (to_endless p) nan s = elim s [ ]
+quotients (to_endless p) (inf true) s = elim s [ ]
+quotients (to_endless p) (fin true n g) s = elim s [ ]
 quotients (to_endless {a} p) (inf false) endless = to_nan (quotient_plus a (inf false) p endless)
 quotients (to_endless {a} p) (fin false n g) (some N) = to_endless (quotient_plus a (fin false n g) p (some N))
+quotients (numbers h) nan s = elim s [ ]
+quotients (numbers h) (inf true) s = elim s [ ]
+quotients (numbers h) (fin true n g) s = elim s [ ]
 quotients (numbers h) (inf false) endless = numbers (le_refl 0)
 quotients (numbers {m = m} {n = m'} {e = e} {d = e'} h) (fin false n g) (some N) =
     subst (λ (x : Float). Rising x (div binary32 (fin false m' e') (fin false n g))) (sym (quotient_is m n e g N))

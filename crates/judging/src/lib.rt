@@ -1,5 +1,6 @@
 // predictorcorrector.rs: `detect_and_modify` for a caller who holds the state by value. `judge` decides, and its verdict changes the state.
 #![tactic(auto)]
+
 ghost use Rattle.std.specs.Prelude.{◌≡◌, ◌-◌, length, get_or};
 ghost use Rattle.deviation.specs.Const.{zero64};
 ghost use Rattle.deviation.specs.Statistics.{fresh};

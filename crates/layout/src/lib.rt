@@ -134,33 +134,33 @@ const THRESHOLD_AT: usize = 2;
 const RELATIVE_INDEX_AT: usize = 10;
 
 // A statistic of 36 bytes.
-#[derive(Drop)]
+#[derive(Clone, Copy)]
 pub enum DeviationRead {
     Read(Deviation),
     Refused(Refusal),
 }
 
-#[derive(Drop)]
+#[derive(Clone, Copy)]
 pub enum ThresholderRead {
     Read(BasicThresholder),
     Refused(Refusal),
 }
 
 // An enum cannot hold the state's lists, so the answer stands beside it.
-#[derive(Drop)]
+#[derive(Clone, Copy)]
 pub struct StateRead {
     pub answer: Answer,
     pub state: PredictorCorrector,
 }
 
-#[derive(Drop)]
+#[derive(Clone, Copy)]
 pub enum StandingRead {
     Read(Standing),
     Refused(Refusal),
 }
 
 // What a call reads of all three slices.
-#[derive(Drop)]
+#[derive(Clone, Copy)]
 pub enum CallRead {
     Read(Standing, Reading, LastDescriptor),
     Refused(Refusal),

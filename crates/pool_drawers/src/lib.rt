@@ -1,6 +1,7 @@
 // Laying out a pool, opening and removing a drawer, listing all: for a host that calls over C. A call answers the documents' number, 0 where it is done; a refused
 // one has written nothing.
 #![tactic(auto)]
+
 ghost use Rattle.std.specs.Prelude.{◌≡◌, ◌+◌, ◌≤◌, length, take, drop, replicate};
 ghost use Rattle.layout.specs.Chain.{encode_state_over};
 ghost use Rattle.layout.specs.Left.{left};
@@ -151,8 +152,7 @@ fn put_numbers(out: &mut [u32], numbers: [u32; 30])
 }
 
 // An empty pool.
-#[unsafe(no_mangle)]
-pub extern "C" fn krcf_pool_lay_out(pool: &mut [u8]) -> u8
+pub fn krcf_pool_lay_out(pool: &mut [u8]) -> u8
     ensures { left result pool.new ≡ Drawers.lay_out pool.old }
 {
     if pool.len() == POOL_LENGTH {
@@ -172,8 +172,7 @@ pub extern "C" fn krcf_pool_lay_out(pool: &mut [u8]) -> u8
 }
 
 // Opens a drawer with a new state. The state is made before anything is written, since it may be refused.
-#[unsafe(no_mangle)]
-pub extern "C" fn krcf_pool_open(
+pub fn krcf_pool_open(
     pool: &mut [u8],
     drawer: u32,
     discount: f64,
@@ -201,8 +200,7 @@ pub extern "C" fn krcf_pool_open(
     }
 }
 
-#[unsafe(no_mangle)]
-pub extern "C" fn krcf_pool_remove(pool: &mut [u8], drawer: u32) -> u8
+pub fn krcf_pool_remove(pool: &mut [u8], drawer: u32) -> u8
     ensures { left result pool.new ≡ Drawers.remove drawer pool.old }
 {
     match record_pool::locate(pool, drawer) {
@@ -215,8 +213,7 @@ pub extern "C" fn krcf_pool_remove(pool: &mut [u8], drawer: u32) -> u8
 }
 
 // The drawers' numbers in the used chain's order, then zeros.
-#[unsafe(no_mangle)]
-pub extern "C" fn krcf_pool_list(pool: &[u8], numbers: &mut [u32]) -> u8
+pub fn krcf_pool_list(pool: &[u8], numbers: &mut [u32]) -> u8
     ensures { left result numbers.new ≡ Drawers.list pool.now numbers.old }
 {
     if numbers.len() == 30 {

@@ -1,13 +1,13 @@
 // Judging a drawer in a pool, for a host that calls over C: the documents' number, 0 for an accepted reading; a refused call has written nothing.
 #![tactic(auto)]
+
 ghost use Rattle.descriptor.specs.Lent.{lent};
 ghost use Rattle.pool_judging.specs.Judging as Judging;
 
 use record_pool::Located;
 
 // The drawer's record is found, and its state's bytes are lent to `krcf_detect_and_modify`.
-#[unsafe(no_mangle)]
-pub extern "C" fn krcf_pool_detect_and_modify(
+pub fn krcf_pool_detect_and_modify(
     pool: &mut [u8],
     drawer: u32,
     reading: &[u8],

@@ -14,7 +14,7 @@ const MOST_DRAWERS: u32 = 30;
 const LARGEST_NUMBER: u32 = 65535;
 
 // A pool's header.
-#[derive(Drop)]
+#[derive(Clone, Copy)]
 pub struct Header {
     pub count: u32,
     pub used: u32,
@@ -22,7 +22,7 @@ pub struct Header {
 }
 
 // What stands in front of a record's state.
-#[derive(Drop)]
+#[derive(Clone, Copy)]
 pub struct Link {
     pub next: u32,
     pub number: u32,

@@ -1,6 +1,7 @@
 // The settings of a drawer in a pool, for a host that calls over C: the documents' number, 0 where it is set; a refused call has written nothing, and neither has one
 // that leaves the state the same as it was.
 #![tactic(auto)]
+
 ghost use Rattle.std.specs.Prelude.{◌≡◌, ◌+◌, ◌≤◌, ◌<◌, length};
 ghost use Rattle.layout.specs.Left.{left};
 ghost use Rattle.layout.specs.Numbers as Numbers;
@@ -92,8 +93,7 @@ fn horizon_answer(horizon: f32) -> u8
 }
 
 // Each setter changes one number of the drawer's state: 13, then 11. The chain's lower threshold is the thresholder's absolute threshold.
-#[unsafe(no_mangle)]
-pub extern "C" fn krcf_pool_set_z_factor(pool: &mut [u8], drawer: u32, factor: f32) -> u8
+pub fn krcf_pool_set_z_factor(pool: &mut [u8], drawer: u32, factor: f32) -> u8
     ensures { left result pool.new ≡ Settings.set (Settings.z_factor factor) drawer pool.old }
 {
     match find(pool, drawer, Z_FACTOR_AT, factor) {
@@ -106,8 +106,7 @@ pub extern "C" fn krcf_pool_set_z_factor(pool: &mut [u8], drawer: u32, factor: f
     }
 }
 
-#[unsafe(no_mangle)]
-pub extern "C" fn krcf_pool_set_lower_threshold(pool: &mut [u8], drawer: u32, lower: f32) -> u8
+pub fn krcf_pool_set_lower_threshold(pool: &mut [u8], drawer: u32, lower: f32) -> u8
     ensures { left result pool.new ≡ Settings.set (Settings.lower_threshold lower) drawer pool.old }
 {
     match find(pool, drawer, ABSOLUTE_THRESHOLD_AT, lower) {
@@ -120,8 +119,7 @@ pub extern "C" fn krcf_pool_set_lower_threshold(pool: &mut [u8], drawer: u32, lo
     }
 }
 
-#[unsafe(no_mangle)]
-pub extern "C" fn krcf_pool_set_initial_threshold(pool: &mut [u8], drawer: u32, initial: f32) -> u8
+pub fn krcf_pool_set_initial_threshold(pool: &mut [u8], drawer: u32, initial: f32) -> u8
     ensures { left result pool.new ≡ Settings.set (Settings.initial_threshold initial) drawer pool.old }
 {
     match find(pool, drawer, INITIAL_THRESHOLD_AT, initial) {
@@ -135,8 +133,7 @@ pub extern "C" fn krcf_pool_set_initial_threshold(pool: &mut [u8], drawer: u32, 
 }
 
 // A horizon is refused by 7, after the drawer.
-#[unsafe(no_mangle)]
-pub extern "C" fn krcf_pool_set_horizon(pool: &mut [u8], drawer: u32, horizon: f32) -> u8
+pub fn krcf_pool_set_horizon(pool: &mut [u8], drawer: u32, horizon: f32) -> u8
     ensures { left result pool.new ≡ Settings.set (Settings.horizon horizon) drawer pool.old }
 {
     match find(pool, drawer, HORIZON_AT, horizon) {

@@ -25,14 +25,14 @@ pub struct PredictorCorrector {
 }
 
 // A call's answer beside the state, which a refusal hands back as it came.
-#[derive(Drop)]
+#[derive(Clone, Copy)]
 pub struct Updated {
     pub answer: Answer,
     pub state: PredictorCorrector,
 }
 
 // How a state stands: all that judging looks at. Of the two lists the last entries alone decide; `counts_ok` is refusal 6's test, which the state's owner makes.
-#[derive(Drop)]
+#[derive(Clone, Copy)]
 pub struct Standing {
     pub basic_thresholder: BasicThresholder,
     pub auto_adjust: bool,

@@ -1,5 +1,6 @@
 // A pool of thirty records in a used and a free chain, in a lent buffer of 61,472 bytes: the test of refusal 13, where a drawer is, and the listing of all.
 #![tactic(auto)]
+
 ghost use Rattle.std.specs.Prelude.{◌≡◌, true, false, ◌+◌, ◌≤◌, ◌<◌, length, replicate, take};
 ghost use Rattle.layout.specs.Numbers as Numbers;
 ghost use Rattle.record_pool.specs.Lists as Lists;
@@ -29,14 +30,14 @@ pub struct Slot {
     pub free: u32,
 }
 
-#[derive(Drop)]
+#[derive(Clone, Copy)]
 pub enum Located {
     At(Slot),
     Refused(Refusal),
 }
 
 // Thirty numbers; whether the pool is one that 13 does not refuse.
-#[derive(Drop)]
+#[derive(Clone, Copy)]
 pub struct Listed {
     pub sound: bool,
     pub numbers: [u32; 30],

@@ -1,5 +1,6 @@
 // What the score watch and the export watch make of scores: their settings, what a score comes to, and how many lines were of each kind.
 #![tactic(auto)]
+
 ghost use Rattle.std.specs.Prelude.{◌≡◌, ◌^◌, ◌<◌};
 ghost use Rattle.score_kinds.specs.Watching as Watching;
 ghost use Rattle.score_kinds.specs.Counting as Counting;

@@ -1,6 +1,7 @@
 // The score watch on bytes: lines of eight hexadecimal digits in, rows of thresholds and grades out. A run is fed its input in parts, cut anywhere, and
 // hands back what it prints; a program above has only to read and to write.
 #![tactic(auto)]
+
 ghost use Rattle.std.specs.Prelude.{◌≡◌, ◌+◌, ◌*◌, ◌≤◌, ◌<◌, length, take};
 ghost use Rattle.score_lines.specs.Output as Output;
 ghost use Rattle.score_lines.specs.Feeding as Feeding;
@@ -15,7 +16,7 @@ const LINE_END: u8 = b'\n';
 const MOST_LINES: u64 = 65536;
 
 // What a line holds.
-#[derive(Drop)]
+#[derive(Clone, Copy)]
 pub enum Line {
     Score(f32),
     Fault,
@@ -32,7 +33,7 @@ pub struct Run {
 }
 
 // What a call that prints answers: the run after it, and where in the lent buffer the written bytes end.
-#[derive(Drop)]
+#[derive(Clone, Copy)]
 pub struct Fed {
     pub run: Run,
     pub written: usize,

@@ -53,13 +53,13 @@ one_of_three (Skipped ∷ ks) = omega (arith, one_of_three ks)
 one_of_three (Quiet g ∷ ks) = omega (arith, one_of_three ks)
 one_of_three (Raised g ∷ ks) = omega (arith, one_of_three ks)
 
-kinds_length : (s : BasicThresholder) (rs : List Reading) → length (kinds s rs) ≡ length rs
+kinds_length : (rs : List Reading) (s : BasicThresholder) → length (kinds s rs) ≡ length rs
 unfolding kinds
-kinds_length s [] = refl
-kinds_length s (r ∷ rs) = ap suc (kinds_length (counted s r.score) rs)
+kinds_length [] s = refl
+kinds_length (r ∷ rs) s = ap suc (kinds_length rs _)
 
 pub add_up : AddUp
-add_up s rs = one_of_three (kinds s rs) ∙ kinds_length s rs
+add_up s rs = one_of_three (kinds s rs) ∙ kinds_length rs s
 
 -- ---- what is printed from here on, of a run with the statistics s and the counts c
 unfoldable pub behind : BasicThresholder → Counts → Sheet → List ℕ

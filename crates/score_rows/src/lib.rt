@@ -1,5 +1,6 @@
 // What the score watch and the export watch print: the lines of a sheet, each written whole or not at all.
 #![tactic(auto)]
+
 ghost use Rattle.std.specs.Prelude.{◌≡◌, [], ◌∷◌, ◌+◌, ◌≤◌, ◌<◌, leb, length};
 ghost use Rattle.score_rows.specs.Text as Text;
 ghost use Rattle.score_rows.specs.Sheet as Sheet;

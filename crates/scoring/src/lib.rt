@@ -1,5 +1,6 @@
 // What a reading's scores and attribution say in `detect_and_modify`, and how its scores enter the state. The steps ask nothing of their caller.
 #![tactic(auto)]
+
 ghost use Rattle.std.specs.Prelude.{◌≡◌};
 ghost use Rattle.predictorcorrector.specs.State.{run_ended, auto_adjusted};
 ghost use Rattle.scoring.specs.Scores as Scores;

@@ -1,5 +1,5 @@
 -- How much of its input a run takes: no more than two lines, and 23 bytes. Assumes nothing.
-use Rattle.std.proofs.Common.{◌≡◌, ℕ, suc, ◌+◌, ◌-◌, ◌≤◌, Bool, true, false, cond, ◌&&◌, eqb, ltb, leb, List, [], ◌∷◌, ◌++◌, length, sym, refl, ap, ◌∙◌, append_assoc, le_trans, arith, ltb-true, eqb-true}
+use Rattle.std.proofs.Common.{◌≡◌, ℕ, suc, ◌-◌, ◌≤◌, Bool, true, false, cond, ◌&&◌, eqb, ltb, leb, List, [], ◌∷◌, ◌++◌, length, sym, refl, ap, ◌∙◌, append_assoc, le_trans, arith, ltb-true, eqb-true}
 use Rattle.score_rows.specs.Feeding as Feeding
 use Rattle.score_rows.proofs.Feeding.{fed_append, still_fed}
 use Rattle.score_lines.specs.Output.{is_digit}

@@ -1,6 +1,7 @@
 // The training load on bytes: a seed and a count in, a line for each score out, as the score watch reads it. A run is fed its input byte by byte and says when it
 // needs no more; a program above has only to read and to write.
 #![tactic(auto)]
+
 ghost use Rattle.std.specs.Prelude.{◌≡◌, ◌+◌, ◌*◌, ◌%◌, ◌^◌, ◌<◌, ◌≤◌, length};
 ghost use Rattle.io.specs.Digits.{hex_digit_ascii as Digits·glyph};
 ghost use Rattle.score_rows.specs.Steps as Steps;

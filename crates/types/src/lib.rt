@@ -61,19 +61,19 @@ pub enum Answer {
 }
 
 // What a code stands for.
-#[derive(Drop)]
+#[derive(Clone, Copy)]
 pub enum MethodCode {
     Known(TransformMethod),
     Refused(Refusal),
 }
 
-#[derive(Drop)]
+#[derive(Clone, Copy)]
 pub enum StrategyCode {
     Known(ScoringStrategy),
     Refused(Refusal),
 }
 
-#[derive(Drop)]
+#[derive(Clone, Copy)]
 pub enum ModeCode {
     Known(CorrectionMode),
     Refused(Refusal),

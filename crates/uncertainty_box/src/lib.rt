@@ -39,7 +39,7 @@ fn box_fits(edges: usize, start: usize, scales: usize, points: usize, others: us
 }
 
 // Whether a point is within a box, and how many of the box's coordinates were read to say so.
-#[derive(Drop)]
+#[derive(Clone, Copy)]
 pub struct Within {
     pub within: bool,
     pub read: usize,
@@ -275,7 +275,7 @@ fn next_in_row(y: usize, base: usize) -> usize
 }
 
 // The factor of the noise pass, and how many coordinates were read to find it.
-#[derive(Drop)]
+#[derive(Clone, Copy)]
 pub struct Passed {
     pub factor: f32,
     pub read: usize,

@@ -8,7 +8,7 @@ use lib.IntN.{ℤ, pos, negsuc, ◌+ℤ◌}
 use lib.ListN.{length}
 use lib.Ieee.{Float, eq}
 use borrow.Author.Tests.{le-leb}
-use Rattle.ieee.specs.F32 as F32
+use Rattle.ieee.specs.F32.{◌>₃₂◌}
 use Rattle.deviation.specs.declared.Deviation.{Deviation}
 use Rattle.types.specs.declared.Refusal.TheVariants.{Count}
 use Rattle.types.specs.declared.Answer.TheVariants as Answers
@@ -86,7 +86,7 @@ score_more k d x h = go (countable d.count)
 
 gap_more : (k : ℕ) (d : Deviation) (gap : Float) → AtMost k d.count → AtMost (suc k) (counted_gap d gap).count
 unfolding counted_gap
-gap_more k d gap h = go (F32.◌>◌ gap zero32)
+gap_more k d gap h = go (gap >₃₂ zero32)
   where
     go : (t : Bool) → AtMost (suc k) (cond {A = Deviation} t (one_counted d gap) d).count
     go true = score_more k d gap h

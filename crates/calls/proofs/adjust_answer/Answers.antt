@@ -1,5 +1,4 @@
 use Rattle.calls.specs.Calls.{adjust_answer}
-use borrow.Author.Rules.{rules}
 use Rattle.calls.proofs.adjust_answer.Goals as goal
 
 pub returns : goal.returns

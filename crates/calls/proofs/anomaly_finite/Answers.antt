@@ -1,7 +1,6 @@
 use mathlib.Core.Path.{◌∙◌}
 use Rattle.descriptor.specs.Checks.{last_finite, every}
 use Rattle.calls.proofs.Finite.{alone}
-use borrow.Author.Rules.{rules}
 use Rattle.calls.proofs.anomaly_finite.Goals as goal
 
 pub returns-then-l : goal.returns-then-l

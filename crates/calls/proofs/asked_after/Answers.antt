@@ -1,5 +1,4 @@
 use Rattle.calls.specs.Calls.{asked_after}
-use borrow.Author.Rules.{rules}
 use Rattle.calls.proofs.asked_after.Goals as goal
 
 pub returns : goal.returns

@@ -1,6 +1,5 @@
 use mathlib.Core.Path.{sym, ◌∙◌}
 use Rattle.calls.specs.Calls.{asked_of_forest, asked_by, unasked}
-use borrow.Author.Rules.{rules}
 use Rattle.calls.proofs.asked_of_forest.Goals as goal
 
 pub returns-in-Done : goal.returns-in-Done

@@ -1,5 +1,4 @@
 use Rattle.calls.specs.Calls.{last_finite}
-use borrow.Author.Rules.{rules}
 use Rattle.calls.proofs.both_finite.Goals as goal
 
 pub returns-then-has_anomaly : goal.returns-then-has_anomaly

@@ -1,5 +1,4 @@
 use Rattle.calls.specs.Calls.{corrector_answer, corrector_lengths}
-use borrow.Author.Rules.{rules}
 use Rattle.calls.proofs.corrector_answer.Goals as goal
 
 pub returns : goal.returns

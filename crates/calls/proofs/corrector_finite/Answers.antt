@@ -1,5 +1,4 @@
 use Rattle.calls.specs.Calls.{corrector_finite}
-use borrow.Author.Rules.{rules}
 use Rattle.calls.proofs.corrector_finite.Goals as goal
 
 pub returns : goal.returns

@@ -1,5 +1,4 @@
 use Rattle.calls.specs.Calls.{expected_answer, expected_lengths, expected_finite}
-use borrow.Author.Rules.{rules}
 use Rattle.calls.proofs.expected_answer.Goals as goal
 
 pub returns : goal.returns

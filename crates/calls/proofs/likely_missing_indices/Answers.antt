@@ -1,6 +1,5 @@
 use mathlib.Core.Path.{sym, ◌∙◌}
 use Rattle.calls.specs.Calls.{likely_missing_indices, missing_by}
-use borrow.Author.Rules.{rules}
 use Rattle.calls.proofs.likely_missing_indices.Goals as goal
 
 pub returns-in-Done : goal.returns-in-Done

@@ -1,5 +1,4 @@
 use Rattle.calls.specs.Calls.{missing_answer}
-use borrow.Author.Rules.{rules}
 use Rattle.calls.proofs.missing_answer.Goals as goal
 
 pub returns : goal.returns

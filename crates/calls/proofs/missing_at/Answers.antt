@@ -1,5 +1,4 @@
 use Rattle.calls.specs.Calls.{missing_at}
-use borrow.Author.Rules.{rules}
 use Rattle.calls.proofs.missing_at.Goals as goal
 
 pub returns : goal.returns

@@ -1,5 +1,4 @@
 use Rattle.descriptor.specs.Checks.{numbers_finite}
-use borrow.Author.Rules.{rules}
 use Rattle.calls.proofs.numbers_finite.Goals as goal
 
 pub returns : goal.returns

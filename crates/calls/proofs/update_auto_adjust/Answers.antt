@@ -1,7 +1,6 @@
 use mathlib.Core.Path.{◌∙◌, ap, sym}
 use Rattle.types.specs.declared.Answer.{Answer}
 use Rattle.calls.specs.Calls.{update_auto_adjust, adjusted_by}
-use borrow.Author.Rules.{rules}
 use Rattle.calls.proofs.update_auto_adjust.Goals as goal
 
 pub returns-in-Done : goal.returns-in-Done

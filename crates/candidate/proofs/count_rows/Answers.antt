@@ -1,4 +1,4 @@
-use Rattle.std.proofs.Common.{sym, ◌∙◌, rules}
+use Rattle.std.proofs.Common.{sym, ◌∙◌}
 use Rattle.candidate.specs.Candidate.{candidate_with}
 use Rattle.candidate.proofs.count_rows.Goals as goal
 

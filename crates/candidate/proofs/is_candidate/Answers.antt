@@ -1,4 +1,4 @@
-use Rattle.std.proofs.Common.{sym, ◌∙◌, rules}
+use Rattle.std.proofs.Common.{sym, ◌∙◌}
 use Rattle.candidate.specs.Candidate.{is_candidate}
 use Rattle.candidate.proofs.is_candidate.Goals as goal
 

@@ -1,4 +1,4 @@
-use Rattle.std.proofs.Common.{Bool, ◌&&◌, ltb, ap, ◌∙◌, rules}
+use Rattle.std.proofs.Common.{Bool, ◌&&◌, ltb, ap, ◌∙◌}
 use Rattle.candidate.specs.Candidate.{near_next, drift_at}
 use Rattle.candidate.proofs.Conditions.{and_flat}
 use Rattle.candidate.proofs.is_data_drift.Goals as goal

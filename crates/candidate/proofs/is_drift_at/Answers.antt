@@ -1,4 +1,4 @@
-use Rattle.std.proofs.Common.{ℕ, get_or, ap, ◌∙◌, rules}
+use Rattle.std.proofs.Common.{ℕ, get_or, ap, ◌∙◌}
 use lib.Ieee.{nan}
 use Rattle.deviation.specs.Statistics.{counted}
 use Rattle.candidate.specs.Candidate.{near_means, near_next}

@@ -1,5 +1,4 @@
 use Rattle.candidate.specs.Candidate.{near_means}
-use Rattle.std.proofs.Common.{rules}
 use Rattle.candidate.proofs.near_means.Goals as goal
 
 pub returns : goal.returns

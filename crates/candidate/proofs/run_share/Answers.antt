@@ -1,5 +1,4 @@
 use Rattle.candidate.specs.Candidate.{run_share}
-use Rattle.std.proofs.Common.{rules}
 use Rattle.candidate.proofs.run_share.Goals as goal
 
 pub returns : goal.returns

@@ -1,4 +1,4 @@
-use Rattle.std.proofs.Common.{sym, ◌∙◌, rules}
+use Rattle.std.proofs.Common.{sym, ◌∙◌}
 use Rattle.candidate.specs.Candidate.{same_strategy}
 use Rattle.candidate.proofs.same_strategy.Goals as goal
 

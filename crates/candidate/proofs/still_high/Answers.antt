@@ -1,5 +1,4 @@
 use Rattle.candidate.specs.Candidate.{still_high}
-use Rattle.std.proofs.Common.{rules}
 use Rattle.candidate.proofs.still_high.Goals as goal
 
 pub returns-then-score-last_score : goal.returns-then-score-last_score

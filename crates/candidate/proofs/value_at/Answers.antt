@@ -1,4 +1,4 @@
-use Rattle.std.proofs.Common.{sym, ◌∙◌, rules}
+use Rattle.std.proofs.Common.{sym, ◌∙◌}
 use lib.ListN.{get_or-eq_default}
 use lib.Ieee.{binary32, nan}
 use Rattle.ieee.proofs.Nans.{quotient}

@@ -1,5 +1,4 @@
 use Rattle.csv_rows.specs.Scanning.{after_row}
-use borrow.Author.Rules.{rules}
 use Rattle.csv_rows.proofs.after_row.Goals as goal
 
 pub returns-in-Nothing : goal.returns-in-Nothing

@@ -1,5 +1,4 @@
 use Rattle.csv_rows.specs.Scanning.{begin}
-use borrow.Author.Rules.{rules}
 use Rattle.csv_rows.proofs.begin.Goals as goal
 
 pub returns : goal.returns

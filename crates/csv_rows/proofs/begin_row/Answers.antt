@@ -1,5 +1,4 @@
 use Rattle.csv_rows.specs.Scanning.{begin_row}
-use borrow.Author.Rules.{rules}
 use Rattle.csv_rows.proofs.begin_row.Goals as goal
 
 pub returns : goal.returns

@@ -1,6 +1,5 @@
 use mathlib.Core.Path.{sym, ◌∙◌}
 use Rattle.csv_rows.specs.Steps.{digits_at}
-use borrow.Author.Rules.{rules}
 use Rattle.csv_rows.proofs.digits_at.Goals as goal
 
 pub returns-then-in_number : goal.returns-then-in_number

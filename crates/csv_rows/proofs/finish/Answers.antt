@@ -1,6 +1,5 @@
 use mathlib.Core.Path.{sym, ◌∙◌}
 use Rattle.csv_rows.specs.Scanning.{finished, closed_by, row_ended}
-use borrow.Author.Rules.{rules}
 use Rattle.csv_rows.proofs.finish.Goals as goal
 
 pub returns-then-scan : goal.returns-then-scan

@@ -1,5 +1,4 @@
 use Rattle.csv_rows.specs.Steps.{in_number}
-use borrow.Author.Rules.{rules}
 use Rattle.csv_rows.proofs.in_number.Goals as goal
 
 pub returns : goal.returns

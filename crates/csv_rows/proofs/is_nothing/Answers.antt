@@ -1,5 +1,4 @@
 use Rattle.csv_rows.specs.Scanning.{is_nothing}
-use borrow.Author.Rules.{rules}
 use Rattle.csv_rows.proofs.is_nothing.Goals as goal
 
 pub returns-in-Nothing : goal.returns-in-Nothing

@@ -1,6 +1,5 @@
 use borrow.Author.Tests.{ne_eqb, lt-ltb, le-ltb}
 use Rattle.csv_rows.specs.Scanning.{next_field, field_after}
-use borrow.Author.Rules.{rules}
 use Rattle.csv_rows.proofs.next_field.Goals as goal
 
 pub returns-then-s-eq0 : goal.returns-then-s-eq0

@@ -1,5 +1,4 @@
 use Rattle.csv_rows.specs.Scanning.{start}
-use borrow.Author.Rules.{rules}
 use Rattle.csv_rows.proofs.start.Goals as goal
 
 pub returns : goal.returns

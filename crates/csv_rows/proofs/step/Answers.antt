@@ -1,5 +1,4 @@
 use Rattle.csv_rows.specs.Scanning.{stepped}
-use borrow.Author.Rules.{rules}
 use Rattle.csv_rows.proofs.step.Goals as goal
 
 pub returns-then-scan : goal.returns-then-scan

@@ -1,5 +1,4 @@
 use Rattle.csv_rows.specs.Scanning.{taken, row_ended}
-use borrow.Author.Rules.{rules}
 use Rattle.csv_rows.proofs.taken.Goals as goal
 
 pub returns-in-Reads : goal.returns-in-Reads

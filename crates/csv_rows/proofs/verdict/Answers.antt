@@ -7,7 +7,6 @@ use Rattle.csv_fields.specs.Pushing.{good}
 use Rattle.csv_rows.specs.declared.Row.TheVariants.{Faulty}
 use Rattle.csv_rows.specs.Rows.{entry}
 use Rattle.csv_rows.specs.Scanning.{verdict}
-use borrow.Author.Rules.{rules}
 use Rattle.csv_rows.proofs.verdict.Goals as goal
 
 by_shape : (header : Bool) → Faulty (of_faulty_row header) ≡ cond header (Faulty Why.Row) (Faulty Why.Field)

@@ -1,6 +1,6 @@
 use mathlib.Core.Path.{◌≡◌, ◌∙◌, ap, ap₂}
 use native.Mathlib.Omega.{arith}
-use lib.ListN.{length, length-take, take}
+use lib.ListN.{length, take}
 use lib.Seq.{length-take-le}
 use Rattle.uncertainty_box.specs.Box.{uncertainty_box}
 use Rattle.detection.specs.Const.{zero32}

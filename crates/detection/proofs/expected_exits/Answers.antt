@@ -1,5 +1,4 @@
-use mathlib.Core.Path.{◌≡◌, ◌∙◌, sym, subst, ap, refl}
-use Prim.Native.Nat.{ℕ, ◌≤◌}
+use mathlib.Core.Path.{◌≡◌, ◌∙◌, sym, ap, refl}
 use native.Mathlib.Omega.{arith}
 use lib.ListN.{length, take}
 use lib.Seq.{length-take-le}
@@ -12,7 +11,6 @@ use Rattle.detection.proofs.Settle.{calm_left, drift_is, drift_left, raised_left
 use Rattle.detection.specs.Steps.{branch}
 use Rattle.detection.specs.declared.Verdict.TheVariants.{Corrected}
 use Rattle.detection.specs.declared.Outcome.TheVariants.{Accepted}
-use borrow.Author.Rules.{rules}
 use Rattle.detection.proofs.expected_exits.Goals as goal
 
 pub returns-then-within_expected : goal.returns-then-within_expected

@@ -1,10 +1,6 @@
-use mathlib.Core.Path.{◌∙◌, sym, subst}
-use Prim.Native.Nat.{ℕ}
-use lib.ListN.{length}
-use Rattle.corrector.specs.Steps.{Correcting}
+use mathlib.Core.Path.{◌∙◌, sym}
 use Rattle.detection.proofs.Stages.{gap_is, quiet_is, pass_is, way_refused, way_skipped, way_quiet, way_shingle, way_noise, way_past}
-use Rattle.detection.specs.Steps.{passing, Accepting}
-use borrow.Author.Rules.{rules}
+use Rattle.detection.specs.Steps.{passing}
 use Rattle.detection.proofs.find_way.Goals as goal
 
 pub returns-in-Refused : goal.returns-in-Refused

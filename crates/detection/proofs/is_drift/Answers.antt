@@ -1,12 +1,10 @@
-use mathlib.Core.Path.{◌≡◌, ◌∙◌, ap}
+use mathlib.Core.Path.{◌∙◌, ap}
 use mathlib.Core.List.{List}
 use Prim.Native.Nat.{◌-◌}
-use native.Mathlib.Omega.{arith}
-use lib.ListN.{length, take, length-take}
+use lib.ListN.{length, take}
 use lib.Ieee.{Float}
 use Rattle.detection.specs.Steps.{drift_by}
 use Rattle.detection.proofs.Work.{tail_is}
-use borrow.Author.Rules.{rules}
 use Rattle.detection.proofs.is_drift.Goals as goal
 
 pub returns : goal.returns

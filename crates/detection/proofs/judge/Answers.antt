@@ -7,7 +7,6 @@ use Rattle.detection.proofs.Stages.{way_lent}
 use Rattle.detection.proofs.Settle.{ended, way_decided, calm_left, late_lent, past_fits}
 use Rattle.detection.specs.declared.Verdict.TheVariants.{Quiet, Corrected, Skipped}
 use Rattle.detection.specs.declared.Outcome.TheVariants.{Accepted, Refused}
-use borrow.Author.Rules.{rules}
 use Rattle.detection.proofs.judge.Goals as goal
 
 pub find_way-way-requires : goal.find_way-way-requires

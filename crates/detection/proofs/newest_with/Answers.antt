@@ -3,11 +3,10 @@ use mathlib.Core.Bool.{Bool, cond}
 use Prim.Native.Nat.{◌-◌}
 use native.Mathlib.Omega.{arith}
 use lib.ListN.{length, take, drop}
-use borrow.Author.Tests.{eq-eqb, ne_eqb}
+use borrow.Author.Tests.{ne_eqb}
 use Rattle.attributors.specs.Attributors.{padded}
 use Rattle.corrector.proofs.Rows.{row_at_is}
 use Rattle.detection.specs.Const.{zero32}
-use borrow.Author.Rules.{rules}
 use Rattle.detection.proofs.newest_with.Goals as goal
 
 pub returns : goal.returns

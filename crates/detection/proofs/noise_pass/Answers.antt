@@ -1,7 +1,7 @@
-use mathlib.Core.Path.{◌≡◌, ◌∙◌, ap, ap₂, sym, refl}
+use mathlib.Core.Path.{◌≡◌, ◌∙◌, ap, ap₂, sym}
 use native.Mathlib.Omega.{arith}
 use lib.IntN.{ℤ}
-use lib.ListN.{length, take, length-take, length-append}
+use lib.ListN.{length, take}
 use lib.Seq.{length-take-le}
 use mir.Syntax.{w32}
 use mir.ValLaws.{to_z-of_z}

@@ -1,7 +1,6 @@
-use mathlib.Core.Path.{◌≡◌, ◌∙◌, sym, subst, refl}
+use mathlib.Core.Path.{◌∙◌, sym, subst, refl}
 use Prim.Native.Nat.{ℕ, ◌≤◌}
-use native.Mathlib.Omega.{arith}
-use lib.ListN.{length, take, length-take}
+use lib.ListN.{take}
 use Rattle.types.specs.declared.CorrectionMode.TheVariants.{CONDITIONAL_FORECAST, ANOMALY_IN_SHINGLE}
 use Rattle.detection.proofs.Stages.{block_is, start_by, box_is, explained_is, shingle_is}
 use Rattle.detection.proofs.Settle.{calm_left, at_explained, at_shingle, at_expected, branch_fits, branch_writes, branch_lent}

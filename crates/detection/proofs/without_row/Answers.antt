@@ -2,7 +2,6 @@ use mathlib.Core.Path.{◌≡◌}
 use lib.IntN.{pos}
 use Rattle.detection.specs.Steps.{without_row}
 use Rattle.detection.specs.declared.Decision.{Decision}
-use borrow.Author.Rules.{rules}
 use Rattle.detection.proofs.without_row.Goals as goal
 
 pub returns : goal.returns

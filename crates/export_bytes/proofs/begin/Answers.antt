@@ -1,5 +1,4 @@
 use Rattle.export_bytes.specs.Feeding.{begin}
-use borrow.Author.Rules.{rules}
 use Rattle.export_bytes.proofs.begin.Goals as goal
 
 pub returns : goal.returns

@@ -4,7 +4,6 @@ use Rattle.score_rows.proofs.Bytes.{put_then}
 use Rattle.export_rows.specs.declared.Course.{Course}
 use Rattle.export_bytes.specs.Feeding.{run_of, closed, closing}
 use Rattle.export_bytes.proofs.Parts.{text_length, total_length}
-use borrow.Author.Rules.{rules}
 use Rattle.export_bytes.proofs.close.Goals as goal
 
 pub total-written-requires : goal.total-written-requires

@@ -1,17 +1,14 @@
 use Rattle.export_rows.specs.declared.Taken.{Taken}
 use borrow.Author.Rules.{rules}
-use Prim.Native.Nat.{◌-◌, ◌*◌, ◌≤◌}
 use mathlib.Core.List.{[]}
-use mathlib.Core.Path.{◌≡◌, refl, sym, ap, ◌∙◌}
+use mathlib.Core.Path.{refl, sym, ap, ◌∙◌}
 use native.Mathlib.Omega.{arith}
 use lib.Seq.{take_all}
-use lib.ListN.{length, take}
 use Rattle.csv_rows.specs.declared.Reached.{Reached}
 use Rattle.score_rows.specs.Feeding as Feeding
-use Rattle.score_rows.specs.Steps.{Put}
 use Rattle.score_rows.proofs.Bytes.{put_none}
 use Rattle.score_rows.proofs.Feeding.{still_run, still_all}
-use Rattle.export_bytes.specs.Feeding.{run_of, step, said, fed, printed}
+use Rattle.export_bytes.specs.Feeding.{run_of, step, said}
 use Rattle.export_bytes.proofs.Parts.{over_step, over_said, next_more, passed_over_lem, turn}
 use Prim.Native.Nat.{ℕ}
 use Rattle.export_rows.specs.declared.Line.TheVariants as Lines
@@ -49,7 +46,6 @@ loop-i-preserved c =
 pub returns-clause-fact_2 : goal.returns-clause-fact_2
 returns-clause-fact_2 c = let all = take_all c.loop-i.i c.args.input.now c.loop-i-test.false in
     rw all at c.loop-i.invariant.3
-
 
 pub returns-then-not-is_open-clause-fact_1 : goal.returns-then-not-is_open-clause-fact_1
 returns-then-not-is_open-clause-fact_1 c =

@@ -2,7 +2,6 @@ use mathlib.Core.List.{[]}
 use mathlib.Core.Path.{sym, ◌∙◌}
 use Rattle.score_rows.proofs.Bytes.{put_none, with_room}
 use Rattle.export_bytes.specs.Feeding.{total_said}
-use borrow.Author.Rules.{rules}
 use Rattle.export_bytes.proofs.total.Goals as goal
 
 pub returns-then-is_open : goal.returns-then-is_open

@@ -1,7 +1,6 @@
 use mathlib.Core.List.{[]}
 use Rattle.score_rows.proofs.Bytes.{put_none, with_room}
 use Rattle.export_rows.specs.Taking.{text}
-use borrow.Author.Rules.{rules}
 use Rattle.export_bytes.proofs.write_line.Goals as goal
 
 pub returns-in-Nothing : goal.returns-in-Nothing

@@ -1,5 +1,4 @@
 use Rattle.export_rows.specs.Taking.{unwatched, begin}
-use borrow.Author.Rules.{rules}
 use Rattle.export_rows.proofs.begin.Goals as goal
 
 pub returns : goal.returns

@@ -1,5 +1,4 @@
 use Rattle.export_rows.specs.Taking.{is_open}
-use borrow.Author.Rules.{rules}
 use Rattle.export_rows.proofs.is_open.Goals as goal
 
 pub returns-in-Open : goal.returns-in-Open

@@ -1,5 +1,4 @@
 use Rattle.export_rows.specs.Taking.{is_passed_over}
-use borrow.Author.Rules.{rules}
 use Rattle.export_rows.proofs.is_passed_over.Goals as goal
 
 pub returns-in-Nothing : goal.returns-in-Nothing

@@ -1,5 +1,4 @@
 use Rattle.export_rows.specs.Taking.{met}
-use borrow.Author.Rules.{rules}
 use Rattle.export_rows.proofs.met.Goals as goal
 
 pub returns-in-Nothing : goal.returns-in-Nothing

@@ -1,5 +1,4 @@
 use Rattle.export_rows.specs.Taking.{passed}
-use borrow.Author.Rules.{rules}
 use Rattle.export_rows.proofs.passed.Goals as goal
 
 pub returns : goal.returns

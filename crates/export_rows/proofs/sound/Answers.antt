@@ -2,7 +2,6 @@ use mathlib.Core.Path.{sym, ap, ◌∙◌}
 use borrow.Author.Tests.{ltb-true}
 use Rattle.watched_rows.specs.Deciding.{goes_on}
 use Rattle.export_rows.specs.Taking.{sound}
-use borrow.Author.Rules.{rules}
 use Rattle.export_rows.proofs.sound.Goals as goal
 
 pub with_row-requires : goal.with_row-requires

@@ -1,6 +1,5 @@
 use mathlib.Core.Path.{sym, ◌∙◌}
 use Rattle.export_rows.specs.Taking.{taken}
-use borrow.Author.Rules.{rules}
 use Rattle.export_rows.proofs.take.Goals as goal
 
 pub returns-then-is_open : goal.returns-then-is_open

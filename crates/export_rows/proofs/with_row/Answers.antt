@@ -3,7 +3,6 @@ use Rattle.basicthresholder.specs.declared.BasicThresholder.{BasicThresholder}
 use Rattle.score_kinds.specs.declared.Counts.{Counts}
 use Rattle.score_rows.proofs.Sheet.{still_few}
 use Rattle.export_rows.specs.Taking.{watch_of, with_row}
-use borrow.Author.Rules.{rules}
 use Rattle.export_rows.proofs.with_row.Goals as goal
 
 pub returns : goal.returns

@@ -1,6 +1,5 @@
 use borrow.Author.Rules.{rules}
-use Rattle.record_pool.proofs.Searching.{Left, left_first, at_range, left_next, ahead, ahead_less, found_here, found_nowhere}
-use Prim.Native.Nat.{◌-◌}
+use Rattle.record_pool.proofs.Searching.{left_first, at_range, left_next, ahead_less, found_here, found_nowhere}
 use Rattle.record_pool.proofs.find.Goals as goal
 
 pub loop-at-init : goal.loop-at-init

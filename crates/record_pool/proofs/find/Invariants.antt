@@ -1,6 +1,4 @@
-use borrow.Author.Rules.{rules}
-use Rattle.record_pool.proofs.Searching.{Left, left_first, at_range, left_next, ahead, ahead_less, found_here, found_nowhere}
-use Prim.Native.Nat.{◌-◌}
+use Rattle.record_pool.proofs.Searching.{Left, ahead}
 use Rattle.record_pool.proofs.find.Given as goal
 
 abbrev pub invariant-loop-at : goal.invariant-loop-at

@@ -1,7 +1,6 @@
 use mathlib.Core.Path.{sym}
 use borrow.Author.Tests.{le-leb, lt-leb}
 use Rattle.record_pool.specs.Pool.{flags_at}
-use borrow.Author.Rules.{rules}
 use Rattle.record_pool.proofs.flags_at.Goals as goal
 
 pub returns-then-pool-at-le1 : goal.returns-then-pool-at-le1

@@ -1,10 +1,5 @@
-use borrow.Author.Rules.{rules}
-use Rattle.record_pool.specs.Lists.{occ}
 use Rattle.record_pool.proofs.Apart.{found_before, not_yet, none_before}
-use lib.ListN.{length, take}
 use native.Mathlib.Omega.{arith}
-use Prim.Native.Nat.{◌≤◌, ◌-◌}
-use mathlib.Core.Path.{◌≡◌, refl}
 use Rattle.record_pool.proofs.is_before.Goals as goal
 
 pub returns-then-numbers-j : goal.returns-then-numbers-j

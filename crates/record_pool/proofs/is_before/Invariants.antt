@@ -1,10 +1,7 @@
-use borrow.Author.Rules.{rules}
 use Rattle.record_pool.specs.Lists.{occ}
-use Rattle.record_pool.proofs.Apart.{found_before, not_yet, none_before}
 use lib.ListN.{length, take}
-use native.Mathlib.Omega.{arith}
 use Prim.Native.Nat.{◌≤◌, ◌-◌}
-use mathlib.Core.Path.{◌≡◌, refl}
+use mathlib.Core.Path.{◌≡◌}
 use Rattle.record_pool.proofs.is_before.Given as goal
 
 abbrev pub invariant-loop-j : goal.invariant-loop-j

@@ -1,9 +1,7 @@
 use borrow.Author.Rules.{rules}
-use Rattle.record_pool.proofs.Apart.{SoFar, so_far_none, so_far_more, twice, all_apart}
-use lib.ListN.{length}
+use Rattle.record_pool.proofs.Apart.{so_far_more, twice, all_apart}
 use native.Mathlib.Omega.{arith}
-use Prim.Native.Nat.{◌≤◌, ◌-◌}
-use mathlib.Core.Path.{◌≡◌, refl}
+use mathlib.Core.Path.{refl}
 use Rattle.record_pool.proofs.is_distinct.Goals as goal
 
 pub returns-then-is_taken : goal.returns-then-is_taken

@@ -1,9 +1,7 @@
-use borrow.Author.Rules.{rules}
-use Rattle.record_pool.proofs.Apart.{SoFar, so_far_none, so_far_more, twice, all_apart}
+use Rattle.record_pool.proofs.Apart.{SoFar}
 use lib.ListN.{length}
-use native.Mathlib.Omega.{arith}
 use Prim.Native.Nat.{◌≤◌, ◌-◌}
-use mathlib.Core.Path.{◌≡◌, refl}
+use mathlib.Core.Path.{◌≡◌}
 use Rattle.record_pool.proofs.is_distinct.Given as goal
 
 abbrev pub invariant-loop-k : goal.invariant-loop-k

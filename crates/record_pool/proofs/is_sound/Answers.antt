@@ -1,6 +1,5 @@
 use mathlib.Core.Path.{sym, ◌∙◌}
 use Rattle.record_pool.specs.Steps.{is_sound}
-use borrow.Author.Rules.{rules}
 use Rattle.record_pool.proofs.is_sound.Goals as goal
 
 pub returns-then-is_number : goal.returns-then-is_number

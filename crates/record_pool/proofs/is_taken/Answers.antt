@@ -1,6 +1,4 @@
 use Rattle.record_pool.proofs.Apart.{not_taken, maybe_taken}
-use Prim.Native.Nat.{◌-◌}
-use borrow.Author.Rules.{rules}
 use Rattle.record_pool.proofs.is_taken.Goals as goal
 
 pub returns-then-mark-eq0 : goal.returns-then-mark-eq0

@@ -1,6 +1,5 @@
 use Rattle.record_pool.specs.Steps.{is_unmarked}
 use borrow.Author.Tests.{lt-ltb, le-ltb, le-leb, lt-leb}
-use Prim.Native.Nat.{◌-◌}
 use Rattle.record_pool.proofs.is_unmarked.Goals as goal
 
 pub returns-then-at-le30 : goal.returns-then-at-le30

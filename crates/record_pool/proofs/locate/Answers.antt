@@ -1,12 +1,10 @@
 use mathlib.Core.Path.{sym, ◌∙◌}
 use Rattle.record_pool.proofs.Passing.{passes_size}
 use Rattle.record_pool.proofs.Locating.{locate_broken, locate_absent, locate_there, slot_there}
-use borrow.Author.Rules.{rules}
 use Rattle.record_pool.proofs.locate.Goals as goal
 
 pub find-position-requires-clause-fact_2 : goal.find-position-requires-clause-fact_2
 find-position-requires-clause-fact_2 c = passes_size _ (sym c.rules_ok.ensures ∙ c.if-rules_ok.true)
-
 
 pub returns-then-position-eq0 : goal.returns-then-position-eq0
 returns-then-position-eq0 c = locate_absent _ _ _ c.rules_ok.ensures _ _ c.if-rules_ok.true c.find-position.ensures c.if-position-eq0.true

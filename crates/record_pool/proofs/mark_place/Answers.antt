@@ -1,7 +1,6 @@
 use Rattle.record_pool.specs.Steps.{mark_place}
 use borrow.Author.Tests.{le-leb, lt-leb}
 use native.Mathlib.Omega.{arith}
-use Prim.Native.Nat.{◌-◌}
 use Rattle.record_pool.proofs.mark_place.Goals as goal
 
 pub returns-then-at-le30 : goal.returns-then-at-le30

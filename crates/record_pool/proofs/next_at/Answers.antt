@@ -1,6 +1,5 @@
 use mathlib.Core.Path.{sym}
 use Rattle.record_pool.specs.Pool.{next_at}
-use borrow.Author.Rules.{rules}
 use Rattle.record_pool.proofs.next_at.Goals as goal
 
 pub returns : goal.returns

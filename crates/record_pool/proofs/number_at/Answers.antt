@@ -1,6 +1,5 @@
 use mathlib.Core.Path.{sym}
 use Rattle.record_pool.specs.Pool.{number_at}
-use borrow.Author.Rules.{rules}
 use Rattle.record_pool.proofs.number_at.Goals as goal
 
 pub returns : goal.returns

@@ -1,6 +1,4 @@
-use mathlib.Core.Path.{sym}
-use Rattle.record_pool.proofs.Walking.{decided, other_size, both_small, agreed, disagreed}
-use borrow.Author.Rules.{rules}
+use Rattle.record_pool.proofs.Walking.{decided, other_size, agreed, disagreed}
 use Rattle.record_pool.proofs.rules_ok.Goals as goal
 
 pub returns-then-pool-ne-POOL_LENGTH : goal.returns-then-pool-ne-POOL_LENGTH

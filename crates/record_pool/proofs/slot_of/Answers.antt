@@ -1,5 +1,4 @@
 use Rattle.record_pool.proofs.Locating.{slot_is}
-use borrow.Author.Rules.{rules}
 use Rattle.record_pool.proofs.slot_of.Goals as goal
 
 pub returns : goal.returns

@@ -7,7 +7,6 @@ use Rattle.record_pool.proofs.vacancy.Goals as goal
 pub find-position-requires-clause-fact_2 : goal.find-position-requires-clause-fact_2
 find-position-requires-clause-fact_2 c = passes_size _ (sym c.rules_ok.ensures ∙ c.if-rules_ok.true)
 
-
 pub index_at-index-requires : goal.index_at-index-requires
 index_at-index-requires c = let s = passes_size _ (sym c.rules_ok.ensures ∙ c.if-rules_ok.true) in search rules
 

@@ -1,11 +1,7 @@
-use Rattle.record_pool.proofs.Walking.{fresh_is, used_first, used_again, used_broken, used_unsound, free_first, free_again, free_broken, told_broken, told_fine, fresh_bounds}
-use mathlib.Core.Path.{◌≡◌, sym, ◌∙◌}
-use mathlib.Core.List.{List}
-use Prim.Native.Nat.{ℕ, ◌≤◌, ◌-◌}
+use Rattle.record_pool.proofs.Walking.{fresh_is, used_first, used_again, used_broken, used_unsound, free_again, free_broken, told_broken, fresh_bounds}
+use mathlib.Core.Path.{sym, ◌∙◌}
 use native.Mathlib.Omega.{arith}
-use lib.ListN.{length}
 use borrow.Author.Rules.{rules}
-use Rattle.record_pool.specs.Steps.{UsedWalk, FreeWalk}
 use Rattle.record_pool.proofs.walks.Goals as goal
 
 pub loop-at-init : goal.loop-at-init

@@ -1,11 +1,7 @@
-use Rattle.record_pool.proofs.Walking.{fresh_is, used_first, used_again, used_broken, used_unsound, free_first, free_again, free_broken, told_broken, told_fine, fresh_bounds}
-use mathlib.Core.Path.{◌≡◌, sym, ◌∙◌}
+use mathlib.Core.Path.{◌≡◌}
 use mathlib.Core.List.{List}
 use Prim.Native.Nat.{ℕ, ◌≤◌, ◌-◌}
-use native.Mathlib.Omega.{arith}
 use lib.ListN.{length}
-use borrow.Author.Rules.{rules}
-use borrow.Author.Tests.{not-true, not-false}
 use Rattle.record_pool.specs.Steps.{UsedWalk, FreeWalk}
 use Rattle.record_pool.proofs.walks.Given as goal
 

@@ -1,7 +1,6 @@
 use mathlib.Core.Path.{ap}
 use Rattle.basicthresholder.specs.declared.Updated.{Updated}
 use Rattle.score_kinds.specs.Watching.{counted}
-use borrow.Author.Rules.{rules}
 use Rattle.score_kinds.proofs.counted.Goals as goal
 
 pub returns-then-x : goal.returns-then-x

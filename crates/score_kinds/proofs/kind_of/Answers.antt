@@ -1,6 +1,5 @@
 use mathlib.Core.Path.{sym}
 use Rattle.score_kinds.specs.Watching.{kind_of, by_grade}
-use borrow.Author.Rules.{rules}
 use Rattle.score_kinds.proofs.kind_of.Goals as goal
 
 pub returns-then-score : goal.returns-then-score

@@ -2,7 +2,6 @@ use mathlib.Core.Path.{sym}
 use native.Mathlib.Omega.{arith}
 use borrow.Author.Tests.{lt-ltb, le-ltb}
 use Rattle.score_kinds.specs.Counting.{lines, one_more, with_line}
-use borrow.Author.Rules.{rules}
 use Rattle.score_kinds.proofs.with_line.Goals as goal
 
 pub overflow_add-after : goal.overflow_add-after

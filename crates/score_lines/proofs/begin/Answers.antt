@@ -1,5 +1,4 @@
 use Rattle.score_lines.specs.Feeding.{begin}
-use borrow.Author.Rules.{rules}
 use Rattle.score_lines.proofs.begin.Goals as goal
 
 pub returns : goal.returns

@@ -1,11 +1,10 @@
 use mathlib.Core.List.{[]}
-use mathlib.Core.Path.{refl, sym}
+use mathlib.Core.Path.{sym}
 use native.Mathlib.Omega.{arith}
 use borrow.Author.Tests.{eq-eqb, ne_eqb}
 use Rattle.score_lines.proofs.Parts.{line_said_length, total_length}
 use Rattle.score_rows.proofs.Bytes.{put_none, put_then}
 use Rattle.score_lines.specs.Feeding.{closed, closing}
-use borrow.Author.Rules.{rules}
 use Rattle.score_lines.proofs.close.Goals as goal
 
 pub total-requires-2 : goal.total-requires-2

@@ -1,5 +1,4 @@
 use mathlib.Core.Path.{◌∙◌, sym}
-use borrow.Author.Rules.{rules}
 use Rattle.score_lines.specs.Output.{finite_only}
 use Rattle.score_lines.proofs.finite_only.Goals as goal
 

@@ -1,5 +1,4 @@
 use borrow.Author.Tests.{lt-ltb, le-ltb, le-leb, lt-leb}
-use borrow.Author.Rules.{rules}
 use Rattle.score_lines.specs.Feeding.{line_of}
 use Rattle.score_lines.proofs.line_of.Goals as goal
 

@@ -1,6 +1,5 @@
 use mathlib.Core.Path.{sym}
 use borrow.Author.Tests.{lt-ltb, le-ltb}
-use borrow.Author.Rules.{rules}
 use Rattle.score_lines.specs.Feeding.{pushed}
 use Rattle.score_lines.proofs.pushed.Goals as goal
 

@@ -1,10 +1,7 @@
 use mathlib.Core.List.{[]}
-use mathlib.Core.Path.{refl}
 use Rattle.score_rows.proofs.Bytes.{put_none, with_room}
 use Rattle.score_lines.specs.Feeding.{total_run, total_said}
-use borrow.Author.Rules.{rules}
 use Rattle.score_lines.proofs.total.Goals as goal
-
 
 pub returns-then-run-clause-fact_1 : goal.returns-then-run-clause-fact_1
 unfolding total_run

@@ -1,9 +1,5 @@
-use Prim.Native.Nat.{◌≤◌, ◌-◌, ◌+◌}
-use mathlib.Core.Path.{◌≡◌}
-use lib.ListN.{length, take}
 use borrow.Author.Rules.{rules}
-use Rattle.score_rows.proofs.Bytes.{put_none, put_next, put_last}
-use Rattle.score_rows.specs.Steps.{Put}
+use Rattle.score_rows.proofs.Bytes.{put_next}
 use Rattle.score_rows.proofs.put_all.Goals as goal
 
 pub loop-i-preserved : goal.loop-i-preserved

@@ -1,8 +1,6 @@
 use Prim.Native.Nat.{◌≤◌, ◌-◌, ◌+◌}
 use mathlib.Core.Path.{◌≡◌}
 use lib.ListN.{length, take}
-use borrow.Author.Rules.{rules}
-use Rattle.score_rows.proofs.Bytes.{put_none, put_next, put_last}
 use Rattle.score_rows.specs.Steps.{Put}
 use Rattle.score_rows.proofs.put_all.Given as goal
 

@@ -1,7 +1,6 @@
 use native.Mathlib.Omega.{arith}
 use Rattle.score_rows.proofs.Bytes.{put_then, decimal_length}
 use Rattle.score_rows.specs.Text.{bad}
-use borrow.Author.Rules.{rules}
 use Rattle.score_rows.proofs.put_bad.Goals as goal
 
 pub returns : goal.returns

@@ -3,7 +3,6 @@ use lib.ListN.{length-append}
 use Rattle.score_rows.proofs.Bytes.{put_then, bad_length, decimal_length}
 use Rattle.types.specs.Refusals.{number}
 use Rattle.score_rows.specs.Text.{bad_row}
-use borrow.Author.Rules.{rules}
 use Rattle.score_rows.proofs.put_bad_row.Goals as goal
 
 pub put-b-requires : goal.put-b-requires

@@ -1,9 +1,7 @@
-use mathlib.Core.Path.{◌∙◌}
 use native.Mathlib.Omega.{arith}
 use lib.ListN.{length-append}
 use Rattle.score_rows.proofs.Bytes.{put_then, decimal_length}
 use Rattle.score_rows.specs.Text.{counts}
-use borrow.Author.Rules.{rules}
 use Rattle.score_rows.proofs.put_counts.Goals as goal
 
 pub put_all-c-requires : goal.put_all-c-requires

@@ -1,7 +1,5 @@
-use mathlib.Core.Path.{sym, ap, ◌∙◌}
-use native.Mathlib.Omega.{arith}
-use lib.ListN.{length}
-use Rattle.score_rows.proofs.Bytes.{decimal_is, decimal_length}
+use mathlib.Core.Path.{sym, ◌∙◌}
+use Rattle.score_rows.proofs.Bytes.{decimal_is}
 use borrow.Author.Rules.{rules}
 use Rattle.score_rows.proofs.put_decimal.Goals as goal
 

@@ -2,7 +2,6 @@ use native.Mathlib.Omega.{arith}
 use lib.ListN.{length-append}
 use Rattle.score_rows.proofs.Bytes.{put_then, bits_length}
 use Rattle.score_rows.specs.Text.{graded}
-use borrow.Author.Rules.{rules}
 use Rattle.score_rows.proofs.put_graded.Goals as goal
 
 pub put-b-requires : goal.put-b-requires

@@ -1,5 +1,4 @@
 use Rattle.score_rows.specs.Text.{shown}
-use borrow.Author.Rules.{rules}
 use Rattle.score_rows.proofs.put_shown.Goals as goal
 
 pub returns-in-Skipped : goal.returns-in-Skipped

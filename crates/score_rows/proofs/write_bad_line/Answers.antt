@@ -1,8 +1,7 @@
 use mathlib.Core.Path.{sym, ◌∙◌}
 use native.Mathlib.Omega.{arith}
-use Rattle.score_rows.proofs.Bytes.{put_then, bad_length, written, unwritten, room_true}
+use Rattle.score_rows.proofs.Bytes.{put_then, bad_length, written, room_true}
 use Rattle.score_rows.specs.Text.{bad_line}
-use borrow.Author.Rules.{rules}
 use Rattle.score_rows.proofs.write_bad_line.Goals as goal
 
 pub put-requires : goal.put-requires

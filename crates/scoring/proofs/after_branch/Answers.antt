@@ -1,4 +1,4 @@
-use Rattle.std.proofs.Common.{refl, rules}
+use Rattle.std.proofs.Common.{refl}
 use Rattle.scoring.proofs.Entering.{enters}
 use Rattle.scoring.proofs.after_branch.Goals as goal
 

@@ -1,5 +1,4 @@
 use Rattle.scoring.proofs.Entering.{enters}
-use Rattle.std.proofs.Common.{rules}
 use Rattle.scoring.proofs.after_corrected.Goals as goal
 
 pub returns : goal.returns

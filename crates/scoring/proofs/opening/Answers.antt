@@ -1,4 +1,4 @@
-use Rattle.std.proofs.Common.{sym, ◌∙◌, rules}
+use Rattle.std.proofs.Common.{sym, ◌∙◌}
 use Rattle.scoring.specs.Scores.{opening}
 use Rattle.scoring.proofs.opening.Goals as goal
 

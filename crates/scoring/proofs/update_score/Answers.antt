@@ -1,5 +1,4 @@
 use Rattle.scoring.specs.Scores.{update_score}
-use Rattle.std.proofs.Common.{rules}
 use Rattle.scoring.proofs.update_score.Goals as goal
 
 pub returns : goal.returns

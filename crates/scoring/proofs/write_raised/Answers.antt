@@ -1,4 +1,4 @@
-use Rattle.std.proofs.Common.{cond, ap, ◌∙◌, rules}
+use Rattle.std.proofs.Common.{cond, ap, ◌∙◌}
 use lib.Ieee.{Float}
 use Rattle.divector.specs.DiVector.{After, all_alike, normalized, normalize_into}
 use Rattle.divector.proofs.Laws.{changed_high, changed_low}

@@ -1,0 +1,5 @@
+use Rattle.watch_ledger.proofs.Demand3 as Demand3
+use Rattle.watch_ledger.proofs.demand_3_of_scores.Goals as goal
+
+pub returns : goal.returns
+returns c = Demand3.demand_3
