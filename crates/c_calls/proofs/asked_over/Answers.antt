@@ -1,6 +1,5 @@
 use mathlib.Core.Path.{sym, ap, ◌∙◌}
 use Rattle.c_calls.specs.Forest.{asked_by, asked_over}
-use borrow.Author.Rules.{rules}
 use Rattle.c_calls.proofs.asked_over.Goals as goal
 
 pub returns-in-Read : goal.returns-in-Read

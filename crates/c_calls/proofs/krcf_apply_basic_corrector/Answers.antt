@@ -1,7 +1,6 @@
 use mir.Syntax.{w32}
 use mir.ValLaws.{to_z-of_z}
 use Rattle.c_calls.proofs.Steps.{corrected, bad_bytes}
-use borrow.Author.Rules.{rules}
 use Rattle.c_calls.proofs.krcf_apply_basic_corrector.Goals as goal
 
 pub returns-then-has_anomaly-use_difference : goal.returns-then-has_anomaly-use_difference

@@ -1,5 +1,4 @@
 use Rattle.c_calls.proofs.Over.{five_long, asked_placed, asked_refused}
-use borrow.Author.Rules.{rules}
 use Rattle.c_calls.proofs.krcf_asked_of_forest.Goals as goal
 
 pub put_asked-requires : goal.put_asked-requires

@@ -1,6 +1,5 @@
 use Rattle.c_calls.specs.Buffers.{expected_point}
 use Rattle.c_calls.proofs.Steps.{passed_on}
-use borrow.Author.Rules.{rules}
 use Rattle.c_calls.proofs.krcf_expected_point.Goals as goal
 
 pub returns : goal.returns

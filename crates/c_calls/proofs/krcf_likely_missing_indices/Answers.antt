@@ -1,7 +1,6 @@
 use mathlib.Core.Path.{sym, ◌∙◌}
 use borrow.Author.Tests.{eq-eqb, ne_eqb}
 use Rattle.c_calls.proofs.Steps.{missing_range, missing_length, missing_placed, missing_refused}
-use borrow.Author.Rules.{rules}
 use Rattle.c_calls.proofs.krcf_likely_missing_indices.Goals as goal
 
 pub returns-in-Done : goal.returns-in-Done

@@ -1,7 +1,6 @@
 use mathlib.Core.Path.{sym, ◌∙◌}
 use borrow.Author.Tests.{eq-eqb, ne_eqb}
 use Rattle.c_calls.proofs.Steps.{bad_codes, bad_length, bad_size, adjusted, unadjusted}
-use borrow.Author.Rules.{rules}
 use Rattle.c_calls.proofs.krcf_update_auto_adjust.Goals as goal
 
 pub returns-in-Done : goal.returns-in-Done

@@ -1,9 +1,6 @@
-use native.Mathlib.Omega.{arith}
 use mathlib.Core.Path.{◌∙◌}
-use lib.ListN.{length-set}
 use Rattle.c_calls.specs.Forest.{numbered}
 use Rattle.c_calls.proofs.Stores.{stores_five}
-use borrow.Author.Rules.{rules}
 use Rattle.c_calls.proofs.put_asked.Goals as goal
 
 pub returns : goal.returns

@@ -2,7 +2,6 @@ use mathlib.Core.Path.{ap, ◌∙◌}
 use borrow.Author.Tests.{ne_eqb}
 use Rattle.types.specs.Refusals.{answered}
 use Rattle.c_judging.proofs.Newest.{row_within, newest_done, newest_length, newest_refused}
-use borrow.Author.Rules.{rules}
 use Rattle.c_judging.proofs.krcf_newest_row.Goals as goal
 
 pub overflow_sub-point : goal.overflow_sub-point

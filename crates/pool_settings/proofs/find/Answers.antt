@@ -3,7 +3,6 @@ use mathlib.Core.Bool.{true, false}
 use native.Mathlib.Omega.{arith}
 use Rattle.record_pool.proofs.Locating.{located}
 use Rattle.pool_settings.proofs.Steps.{found_there, found_refused}
-use borrow.Author.Rules.{rules}
 use Rattle.pool_settings.proofs.find.Goals as goal
 
 pub overflow_add-from : goal.overflow_add-from

@@ -1,6 +1,5 @@
 use native.Mathlib.Omega.{arith}
 use Rattle.pool_settings.proofs.Steps.{found_room, set_refused, horizon_same, horizon_other}
-use borrow.Author.Rules.{rules}
 use Rattle.pool_settings.proofs.krcf_pool_set_horizon.Goals as goal
 
 pub overflow_add-upto : goal.overflow_add-upto

@@ -5,7 +5,6 @@ use Rattle.predictorcorrector.specs.State.{initial_threshold_set}
 use Rattle.pool_settings.specs.Settings.{initial_threshold}
 use Rattle.pool_settings.proofs.Sameness.{initial_threshold_compared}
 use Rattle.pool_settings.proofs.Steps.{found_room, set_same, set_other, set_refused}
-use borrow.Author.Rules.{rules}
 use Rattle.pool_settings.proofs.krcf_pool_set_initial_threshold.Goals as goal
 
 pub overflow_add-upto : goal.overflow_add-upto

@@ -5,7 +5,6 @@ use Rattle.predictorcorrector.specs.State.{lower_threshold_set}
 use Rattle.pool_settings.specs.Settings.{lower_threshold}
 use Rattle.pool_settings.proofs.Sameness.{lower_threshold_compared}
 use Rattle.pool_settings.proofs.Steps.{found_room, set_same, set_other, set_refused}
-use borrow.Author.Rules.{rules}
 use Rattle.pool_settings.proofs.krcf_pool_set_lower_threshold.Goals as goal
 
 pub overflow_add-upto : goal.overflow_add-upto

@@ -5,7 +5,6 @@ use Rattle.predictorcorrector.specs.State.{z_factor_set}
 use Rattle.pool_settings.specs.Settings.{z_factor}
 use Rattle.pool_settings.proofs.Sameness.{z_factor_compared}
 use Rattle.pool_settings.proofs.Steps.{found_room, set_same, set_other, set_refused}
-use borrow.Author.Rules.{rules}
 use Rattle.pool_settings.proofs.krcf_pool_set_z_factor.Goals as goal
 
 pub overflow_add-upto : goal.overflow_add-upto

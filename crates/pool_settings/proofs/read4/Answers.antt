@@ -1,5 +1,4 @@
 use Rattle.layout.specs.Numbers.{le4}
-use borrow.Author.Rules.{rules}
 use Rattle.pool_settings.proofs.read4.Goals as goal
 
 pub returns : goal.returns
