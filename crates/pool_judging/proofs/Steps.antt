@@ -12,7 +12,7 @@ use Rattle.descriptor.specs.Lent.{Lent}
 use Rattle.layout.specs.Places.{state_length}
 use Rattle.layout.specs.Numbers.{pasted}
 use Rattle.c_judging.specs.Judging.{Answered}
-use Rattle.record_pool.specs.Pool.{locate, place, state_at, with_state}
+use Rattle.record_pool.specs.Pool.{locate, state_at, with_state}
 use Rattle.record_pool.specs.declared.Slot.{Slot}
 use Rattle.record_pool.specs.declared.Located.{Located}
 use Rattle.record_pool.specs.declared.Located.TheVariants.{At, Refused}

@@ -14,7 +14,7 @@ use Rattle.layout.specs.Left.{Left}
 use Rattle.predictorcorrector.specs.State.{new}
 use borrow.Author.Tests.{eqb-true, eqb-false, ltb-true, ltb-false, lt-ltb, le-ltb}
 use Rattle.record_pool.specs.Lists.{occ}
-use Rattle.record_pool.specs.Pool.{place, count_of, first_used, first_free, next_at, state_at, state_of, used_of, free_of, rules_ok, record_of, number_at, numbers_of, with_header, opened, removed}
+use Rattle.record_pool.specs.Pool.{place, count_of, first_used, first_free, next_at, state_at, state_of, used_of, free_of, rules_ok, record_of, number_at, numbers_of, with_header, opened}
 use Rattle.record_pool.specs.declared.Slot.{Slot}
 use Rattle.record_pool.proofs.Passing.{passes, passes_size, used_of_lem, free_of_lem, passing, within_used, count_small}
 use Rattle.record_pool.proofs.Occ.{same_other, occ_append, occ_map}

@@ -1,5 +1,4 @@
 use Rattle.pool_drawers.proofs.Calls.{lay_done, lay_refused}
-use borrow.Author.Rules.{rules}
 use Rattle.pool_drawers.proofs.krcf_pool_lay_out.Goals as goal
 
 pub returns-then-pool-eq-POOL_LENGTH : goal.returns-then-pool-eq-POOL_LENGTH

@@ -1,5 +1,4 @@
 use Rattle.pool_drawers.proofs.Calls.{list_done, list_broken, list_short}
-use borrow.Author.Rules.{rules}
 use Rattle.pool_drawers.proofs.krcf_pool_list.Goals as goal
 
 pub returns-then-listed : goal.returns-then-listed

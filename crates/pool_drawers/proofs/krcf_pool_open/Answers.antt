@@ -1,6 +1,5 @@
 use Rattle.pool_drawers.proofs.Calls.{spare, open_room, open_done, open_range, open_unmade, open_refused}
 use borrow.Author.Tests.{le-leb, lt-leb}
-use borrow.Author.Rules.{rules}
 use Rattle.pool_drawers.proofs.krcf_pool_open.Goals as goal
 
 pub take_in-requires : goal.take_in-requires

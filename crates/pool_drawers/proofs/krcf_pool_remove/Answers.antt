@@ -1,5 +1,4 @@
 use Rattle.pool_drawers.proofs.Calls.{held, remove_done, remove_refused}
-use borrow.Author.Rules.{rules}
 use Rattle.pool_drawers.proofs.krcf_pool_remove.Goals as goal
 
 pub take_out-requires : goal.take_out-requires

@@ -1,10 +1,8 @@
 use borrow.Author.Rules.{rules}
 use Rattle.pool_drawers.specs.Drawers.{laid_records}
-use Rattle.pool_drawers.proofs.Calls.{laid_more, laid_all}
-use lib.ListN.{length}
+use Rattle.pool_drawers.proofs.Calls.{laid_more}
 use native.Mathlib.Omega.{arith}
-use Prim.Native.Nat.{◌≤◌, ◌-◌}
-use mathlib.Core.Path.{◌≡◌, refl}
+use mathlib.Core.Path.{refl}
 use Rattle.pool_drawers.proofs.lay_records.Goals as goal
 
 pub loop-k-init : goal.loop-k-init

@@ -1,10 +1,7 @@
-use borrow.Author.Rules.{rules}
 use Rattle.pool_drawers.specs.Drawers.{laid_records}
-use Rattle.pool_drawers.proofs.Calls.{laid_more, laid_all}
 use lib.ListN.{length}
-use native.Mathlib.Omega.{arith}
 use Prim.Native.Nat.{◌≤◌, ◌-◌}
-use mathlib.Core.Path.{◌≡◌, refl}
+use mathlib.Core.Path.{◌≡◌}
 use Rattle.pool_drawers.proofs.lay_records.Given as goal
 
 abbrev pub invariant-loop-k : goal.invariant-loop-k

@@ -1,8 +1,5 @@
-use native.Mathlib.Omega.{arith}
-use lib.ListN.{length-set}
 use Rattle.layout.specs.Numbers.{bytes4}
 use Rattle.layout.proofs.Pasting.{four}
-use borrow.Author.Rules.{rules}
 use Rattle.pool_drawers.proofs.put4.Goals as goal
 
 pub returns : goal.returns

@@ -1,5 +1,4 @@
 use Rattle.record_pool.proofs.Putting.{header_put}
-use borrow.Author.Rules.{rules}
 use Rattle.pool_drawers.proofs.put_header.Goals as goal
 
 pub returns : goal.returns

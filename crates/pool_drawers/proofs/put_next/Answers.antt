@@ -1,7 +1,5 @@
 use Rattle.record_pool.specs.Pool.{with_next}
-use Prim.Native.Nat.{◌-◌}
 use mathlib.Core.Path.{◌∙◌}
-use borrow.Author.Rules.{rules}
 use Rattle.pool_drawers.proofs.put_next.Goals as goal
 
 pub returns : goal.returns

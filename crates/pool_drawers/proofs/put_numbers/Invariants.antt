@@ -1,9 +1,7 @@
-use borrow.Author.Rules.{rules}
 use mathlib.Core.Path.{◌≡◌}
 use Prim.Native.Nat.{◌≤◌, ◌-◌}
-use native.Mathlib.Omega.{arith}
 use lib.ListN.{length}
-use Rattle.pool_drawers.proofs.Calls.{Copied, copied_none, copied_more, copied_all}
+use Rattle.pool_drawers.proofs.Calls.{Copied}
 use Rattle.pool_drawers.proofs.put_numbers.Given as goal
 
 abbrev pub invariant-loop-k : goal.invariant-loop-k

@@ -1,7 +1,6 @@
 use Prim.Native.Nat.{◌+◌, ◌-◌}
 use Rattle.pool_drawers.proofs.Calls.{state_put}
 use native.Mathlib.Omega.{arith}
-use borrow.Author.Rules.{rules}
 use Rattle.pool_drawers.proofs.put_state.Goals as goal
 
 pub returns : goal.returns

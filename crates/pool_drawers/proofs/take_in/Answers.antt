@@ -1,6 +1,5 @@
 use mathlib.Core.Path.{refl}
 use Rattle.pool_drawers.proofs.Calls.{taken_in}
-use borrow.Author.Rules.{rules}
 use Rattle.pool_drawers.proofs.take_in.Goals as goal
 
 pub returns : goal.returns

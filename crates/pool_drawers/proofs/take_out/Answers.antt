@@ -1,5 +1,4 @@
 use Rattle.pool_drawers.proofs.Calls.{taken_out}
-use borrow.Author.Rules.{rules}
 use Rattle.pool_drawers.proofs.take_out.Goals as goal
 
 pub returns : goal.returns

@@ -1,6 +1,5 @@
 use mathlib.Core.Path.{refl}
 use Rattle.pool_drawers.proofs.Calls.{unlink_first, unlink_later}
-use borrow.Author.Rules.{rules}
 use Rattle.pool_drawers.proofs.unlink.Goals as goal
 
 pub returns-then-slot-ne0 : goal.returns-then-slot-ne0

@@ -1,7 +1,6 @@
 use native.Mathlib.Omega.{arith}
 use Rattle.descriptor.specs.Lent.{lent}
-use Rattle.pool_judging.proofs.Steps.{judged_room, judged_there, judged_nowhere}
-use borrow.Author.Rules.{rules}
+use Rattle.pool_judging.proofs.Steps.{judged_room, judged_there}
 use Rattle.pool_judging.proofs.krcf_pool_detect_and_modify.Goals as goal
 
 pub overflow_add-upto : goal.overflow_add-upto
