@@ -35,7 +35,7 @@ use Rattle.detection.specs.Judged.{outcome, outcome_of, state_after}
 use Rattle.detection.specs.declared.Verdict.{Verdict}
 use Rattle.detection.specs.declared.Verdict.TheVariants.{Quiet, Corrected, Raised, Skipped}
 use Rattle.detection.specs.declared.Outcome.{Outcome}
-use Rattle.detection.specs.declared.Outcome.TheVariants.{Accepted, Refused}
+use Rattle.detection.specs.declared.Outcome.TheVariants.{Accepted}
 use Rattle.demand3.specs.Calls.{Judging, answer_at, is_refusal, opened, shown_by}
 use Rattle.demand3.specs.Statement.{is_skipped, Shows, Returned}
 use Rattle.demand3.proofs.Opens.{verdict_shows, zero_skips, quiet_ends}

@@ -1,7 +1,7 @@
 -- What calls reach: the thresholder's count is its primary statistic's. Assumes nothing.
 use mathlib.Core.Path.{◌≡◌, refl, ap, ◌∙◌, subst}
 use mathlib.Core.Bool.{Bool, true, false, cond}
-use lib.IntN.{ℤ, pos, ◌+ℤ◌}
+use lib.IntN.{pos, ◌+ℤ◌}
 use lib.Ieee.{Float}
 use Rattle.types.specs.declared.Refusal.TheVariants.{Discount, Count, Horizon}
 use Rattle.types.specs.declared.Answer.TheVariants as Answers

@@ -1,6 +1,7 @@
 // A higher score never earns a lower grade: the grades of `threshold_and_grade_with_factor` and of `primary_grade`. Definitions and theorems only: a function that does
 // nothing holds the first to its statement, and one that makes two calls says the same of their contracts.
 #![tactic(auto)]
+
 ghost use Rattle.grades.specs.Statement.{HigherScores, InOrder};
 
 use basicthresholder::{BasicThresholder, Graded};
