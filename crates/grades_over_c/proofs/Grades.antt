@@ -22,7 +22,6 @@ use Rattle.grades.proofs.Whole.{higher_scores}
 use Rattle.layout.specs.Numbers.{f32_at, f32_bytes, le4, bytes4}
 use Rattle.layout.specs.States.{joined, encode_graded, read_thresholder}
 use Rattle.layout.specs.Left.{left}
-use Rattle.layout.specs.declared.ThresholderRead.TheVariants as Held
 use Rattle.layout.proofs.Laws.{f32_back}
 use Rattle.c_interface.specs.Calls.{thresholder_read, graded_by}
 use Rattle.demand3_over_c.proofs.Held.{min_fits}

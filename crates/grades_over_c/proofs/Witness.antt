@@ -9,7 +9,6 @@ use lib.Ieee.{binary64, fits, lt, le, eq, of_bits}
 use lib.Ieee.Bits.{of_bits-fits}
 use borrow.Author.Tests.{eq-eqb}
 use Rattle.types.specs.declared.TransformMethod.TheVariants.{NONE}
-use Rattle.types.specs.declared.MethodCode.TheVariants as Code
 use Rattle.deviation.specs.Const.{zero64}
 use Rattle.basicthresholder.specs.Const.{one32, two32}
 use Rattle.basicthresholder.specs.Grades.{threshold_and_grade_with_factor}
