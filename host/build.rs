@@ -34,8 +34,12 @@ fn parts(list: &str, name: &str) -> Vec<String> {
     let mut all = vec![name.to_string()];
     let mut k = 0;
     while k < all.len() {
-        let line = list.lines().find(|text| text.split([' ', ':']).next() == Some(&*all[k]));
-        let needs = line.and_then(|text| text.split_once(':')).map(|(_, needs)| needs);
+        let line = list
+            .lines()
+            .find(|text| text.split([' ', ':']).next() == Some(&*all[k]));
+        let needs = line
+            .and_then(|text| text.split_once(':'))
+            .map(|(_, needs)| needs);
         for need in needs.unwrap_or_default().split_whitespace() {
             if !all.iter().any(|have| have == need) {
                 all.push(need.to_string());
@@ -92,7 +96,8 @@ fn build(root: &Path, name: &str) -> Result<(), String> {
 fn provide(root: &Path, list: &str, place: usize, name: &str) -> Result<(), String> {
     let archive = root.join(format!("target/staticlib/lib{name}.a"));
     println!("cargo:rerun-if-changed={}", archive.display());
-    let newest = sources(root, list, &format!("{name}_c")).map_err(|why| format!("sources of {name}: {why}"))?;
+    let newest = sources(root, list, &format!("{name}_c"))
+        .map_err(|why| format!("sources of {name}: {why}"))?;
     if changed(&archive).is_ok_and(|made| made >= newest) {
         return Ok(());
     }
