@@ -4,7 +4,7 @@ use mathlib.Core.Bool.{Bool, true, false, cond, ◌&&◌}
 use mathlib.Core.List.{List, [], ◌∷◌, ◌++◌}
 use mathlib.Core.Logic.{inl, inr}
 use Prim.Native.Nat.{ℕ, zero, suc, ◌+◌, ◌*◌, ◌<◌, ◌≤◌, ◌-◌}
-use native.Mathlib.Nat.{le_antisymm, le_of_suc-le-suc, eq-or-lt_of_le}
+use native.Mathlib.Nat.{le_of_suc-le-suc, eq-or-lt_of_le}
 use native.Mathlib.Numerals.{add-one}
 use native.Mathlib.Omega.{arith}
 use lib.ListN.{length, get_or, set, take, length-append, get_or-append}
@@ -19,10 +19,6 @@ use Rattle.attributors.specs.declared.Missing.{Missing}
 pub for_more : {A : Type 0} (step : A → ℕ → A) (a s : A) (n : ℕ) → s ≡ for_up_to step a n → step s n ≡ for_up_to step a (n + 1)
 unfolding for_up_to
 for_more {A = A} step a s n e = ap (λ (x : A). step x n) e ∙ ap (for_up_to step a) (sym (add-one n))
-
--- The end of a loop that counts to n.
-pub at_end : {A : Type 0} (f : ℕ → A) (s : A) (i n : ℕ) → s ≡ f i → i ≤ n → n ≤ i → s ≡ f n
-at_end f s i n e h k = e ∙ ap f (le_antisymm h k)
 
 module _ {A : Type 0} (z : A) where
   pub length_padded : (n : ℕ) (xs : List A) → length (padded z n xs) ≡ n
@@ -95,19 +91,6 @@ reaching_few high low limit position (suc n) = by_test (reaches high low limit (
     by_test false r h = omega arith
 
 module _ (high low : List Float) (position base : ℕ) where
-  -- Those found, as far as they are few enough.
-  pub likely_is : (limit : Float) (found : Missing) → limit ≡ attribution_limit high low position base → found ≡ missing (reaching high low limit position base) → eqb base 1 ≡ false
-      → cond (leb found.count 5) found nothing ≡ missing (likely_missing_indices high low position base)
-  unfolding likely_missing_indices missing padded
-  likely_is limit found l e h = rw (e, l, h) (by_test (leb (length indices) 5))
-    where
-      indices : List ℕ
-      indices = reaching high low (attribution_limit high low position base) position base
-
-      by_test : (t : Bool) → cond t (missing indices) nothing ≡ missing (cond t indices [])
-      by_test true = refl
-      by_test false = refl
-
   -- Those likely, where they are asked for, and none where they are not.
   module _ (found : Missing) (e : found ≡ missing (likely_missing_indices high low position base)) where
     pub asked_all : 2 * found.count < length high → found ≡ missing (asked_indices high low position base)

@@ -6,7 +6,7 @@ ghost use Rattle.std.specs.Prelude.{◌≡◌, cond, ◌+◌, ◌*◌, ◌<◌, 
 ghost use Rattle.attributors.specs.Attributors as Attributors;
 ghost use Rattle.attributors.specs.Sorted.{SortedPick};
 
-// Indices of a point. The places from `count` on hold 0.
+// Indices of a point. The places from `count` on hold 0, as C is handed them; and while indices are looked for `count` passes five, which an `ArrayVec` cannot.
 #[derive(Clone, Copy)]
 pub struct Missing {
     pub count: usize,
@@ -24,25 +24,24 @@ fn nothing() -> Missing
 }
 
 // The sum of high and low over the row.
+#[tactic(auto, unfolding(crate::specs::Attributors::attribution_sum, crate::specs::Attributors::for_up_to))]
 fn attribution_sum(high: &[f64], low: &[f64], position: usize, base: usize) -> f64
-    requires base_in_bounds { position + base ≤ length high.now }
-    requires base_in_bounds_2 { position + base ≤ length low.now }
+    requires high_in_bounds { position + base ≤ length high.now }
+    requires low_in_bounds { position + base ≤ length low.now }
     ensures { result ≡ Attributors.attribution_sum high.now low.now position base }
 {
     let mut sum = 0.0f64;
-    let mut i = 0usize;
-    while i < base {
-        let at = position + i;
-        sum = sum + (high[at] + low[at]);
-        i += 1;
+    for at in position..position + base {
+        sum += high[at] + low[at];
     }
     sum
 }
 
 // The tenth of it that an attributor must reach: half, over the most attributors.
+#[tactic(auto, unfolding(crate::specs::Attributors::attribution_limit))]
 fn attribution_limit(high: &[f64], low: &[f64], position: usize, base: usize) -> f64
-    requires base_in_bounds { position + base ≤ length high.now }
-    requires base_in_bounds_2 { position + base ≤ length low.now }
+    requires high_in_bounds { position + base ≤ length high.now }
+    requires low_in_bounds { position + base ≤ length low.now }
     ensures { result ≡ Attributors.attribution_limit high.now low.now position base }
 {
     attribution_sum(high, low, position, base) * 0.5 / 5.0
@@ -76,18 +75,16 @@ fn push(found: Missing, test: bool, index: usize) -> Missing
 }
 
 // The indices of the row whose sum reaches the limit.
+#[tactic(auto, unfolding(crate::specs::Attributors::missing, crate::specs::Attributors::reaching, crate::specs::Attributors::for_up_to, crate::specs::Attributors::padded))]
 fn reaching(high: &[f64], low: &[f64], limit: f64, position: usize, base: usize) -> Missing
-    requires base_in_bounds { position + base ≤ length high.now }
-    requires base_in_bounds_2 { position + base ≤ length low.now }
+    requires high_in_bounds { position + base ≤ length high.now }
+    requires low_in_bounds { position + base ≤ length low.now }
     requires base_bound { base ≤ 16 }
     ensures { result ≡ Attributors.missing (Attributors.reaching high.now low.now limit position base) }
 {
     let mut found = nothing();
-    let mut i = 0usize;
-    while i < base {
-        let at = position + i;
+    for at in position..position + base {
         found = push(found, high[at] + low[at] >= limit, at);
-        i += 1;
     }
     found
 }
@@ -102,9 +99,10 @@ fn at_most_five(found: Missing) -> Missing
     nothing()
 }
 
+#[tactic(auto, unfolding(crate::specs::Attributors::likely_missing_indices, crate::specs::Attributors::missing, crate::specs::Attributors::padded))]
 fn likely_missing_indices(high: &[f64], low: &[f64], position: usize, base: usize) -> Missing
-    requires base_in_bounds { position + base ≤ length high.now }
-    requires base_in_bounds_2 { position + base ≤ length low.now }
+    requires high_in_bounds { position + base ≤ length high.now }
+    requires low_in_bounds { position + base ≤ length low.now }
     requires base_bound { base ≤ 16 }
     ensures { result ≡ Attributors.missing (Attributors.likely_missing_indices high.now low.now position base) }
 {
@@ -134,6 +132,7 @@ fn row_within(position: usize, base: usize, len: usize) -> bool
 }
 
 // Whether high and low are equally long, and the row of 1 to 16 coordinates from `position` on lies in them.
+#[tactic(auto, unfolding(crate::specs::Attributors::row_fits))]
 pub fn row_fits(high: usize, low: usize, position: usize, base: usize) -> bool
     ensures { result ≡ Attributors.row_fits high low position base }
 {
@@ -141,6 +140,7 @@ pub fn row_fits(high: usize, low: usize, position: usize, base: usize) -> bool
 }
 
 // The indices for which the forest is asked: some, at most five, and fewer than half of the dimensions. None where the row does not fit.
+#[tactic(auto, unfolding(crate::specs::Attributors::asked))]
 pub fn asked_indices(high: &[f64], low: &[f64], position: usize, base: usize) -> Missing
     ensures { result ≡ Attributors.asked high.now low.now position base }
 {

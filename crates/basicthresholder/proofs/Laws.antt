@@ -1,5 +1,5 @@
 -- What callers use of the definitions: what a construction answers, when a grade is 0, and what an update does to each part of the state. Assumes nothing.
-use Rattle.std.proofs.Common.{◌≡◌, Bool, true, false, cond, ◌||◌, sym, refl, ap, true≢false}
+use Rattle.std.proofs.Common.{◌≡◌, Bool, true, false, cond, ◌||◌, sym, refl, ap, true≢false, Result, Ok, Err}
 use lib.Ieee as Ieee
 use lib.Ieee.{Float, binary32}
 use Rattle.ieee.specs.Round.{narrow}
@@ -11,39 +11,37 @@ use Rattle.basicthresholder.specs.Const.{zero32, two32}
 use Rattle.basicthresholder.specs.Grades.{graded, graded_or, grade_against, sixteenths, is_deviation_ready, threshold, grade_over, primary_grade, primary_threshold_and_grade}
 use Rattle.basicthresholder.specs.Updates.{fresh_thresholder, new_adjustible, done, refused, with_score_differencing, is_horizon, set_score_differencing, updated, update_threshold, update_primary, update_both, update, threshold_counted, primary_counted, both_counted, counted_over, counts_ok}
 use Rattle.basicthresholder.specs.declared.BasicThresholder.{BasicThresholder}
-use Rattle.basicthresholder.specs.declared.Made.{Made}
-use Rattle.basicthresholder.specs.declared.Made.TheVariants.{Ready, Refused}
 
 -- ---- what a construction's answer tells of the discount.
-abbrev is_ready : Made → Bool
-is_ready (Ready t) = true
-is_ready (Refused why) = false
+abbrev is_ready : Result BasicThresholder Refusal → Bool
+is_ready (Ok t) = true
+is_ready (Err why) = false
 
-abbrev ready_or : BasicThresholder → Made → BasicThresholder
-ready_or t (Ready s) = s
-ready_or t (Refused why) = t
+abbrev ready_or : BasicThresholder → Result BasicThresholder Refusal → BasicThresholder
+ready_or t (Ok s) = s
+ready_or t (Err why) = t
 
-abbrev refused_or : Refusal → Made → Refusal
-refused_or why (Ready s) = why
-refused_or why (Refused because) = because
+abbrev refused_or : Refusal → Result BasicThresholder Refusal → Refusal
+refused_or why (Ok s) = why
+refused_or why (Err because) = because
 
 module _ (d : Float) (adjust : Bool) where
-  abbrev made : Bool → Made
-  made b = cond b (Ready (fresh_thresholder d adjust)) (Refused Discount)
+  abbrev made : Bool → Result BasicThresholder Refusal
+  made b = cond b (Ok (fresh_thresholder d adjust)) (Err Discount)
 
-  pub made_ready : (t : BasicThresholder) → new_adjustible d adjust ≡ Ready t → (is_discount d ≡ true) × (t ≡ fresh_thresholder d adjust)
+  pub made_ready : (t : BasicThresholder) → new_adjustible d adjust ≡ Ok t → (is_discount d ≡ true) × (t ≡ fresh_thresholder d adjust)
   unfolding new_adjustible
   made_ready t = by (is_discount d)
     where
-      by : (b : Bool) → made b ≡ Ready t → (b ≡ true) × (t ≡ fresh_thresholder d adjust)
+      by : (b : Bool) → made b ≡ Ok t → (b ≡ true) × (t ≡ fresh_thresholder d adjust)
       by true e = (refl, ap (ready_or t) (sym e))
       by false e = absurd (true≢false (ap is_ready (sym e)))
 
-  pub made_refused : (why : Refusal) → new_adjustible d adjust ≡ Refused why → (is_discount d ≡ false) × (why ≡ Discount)
+  pub made_refused : (why : Refusal) → new_adjustible d adjust ≡ Err why → (is_discount d ≡ false) × (why ≡ Discount)
   unfolding new_adjustible
   made_refused why = by (is_discount d)
     where
-      by : (b : Bool) → made b ≡ Refused why → (b ≡ false) × (why ≡ Discount)
+      by : (b : Bool) → made b ≡ Err why → (b ≡ false) × (why ≡ Discount)
       by true e = absurd (true≢false (ap is_ready e))
       by false e = (refl, ap (refused_or why) (sym e))
 
@@ -99,23 +97,23 @@ over_zero t spread h = rw h
 
 -- ---- where every count takes an update, the state handed back is the counted one.
 module _ (s : BasicThresholder) (ok : counts_ok s ≡ true) where
-  pub updated_counted : (after : BasicThresholder) → (updated s after).thresholder ≡ after
+  pub updated_counted : (after : BasicThresholder) → (updated s after).state ≡ after
   unfolding updated
   updated_counted after = rw ok
 
-  pub threshold_counted_lem : (x : Float) → (update_threshold s x).thresholder ≡ threshold_counted s x
+  pub threshold_counted_lem : (x : Float) → (update_threshold s x).state ≡ threshold_counted s x
   unfolding update_threshold
   threshold_counted_lem x = updated_counted (threshold_counted s x)
 
-  pub primary_counted_lem : (x : Float) → (update_primary s x).thresholder ≡ primary_counted s x
+  pub primary_counted_lem : (x : Float) → (update_primary s x).state ≡ primary_counted s x
   unfolding update_primary
   primary_counted_lem x = updated_counted (primary_counted s x)
 
-  pub both_counted_lem : (x y : Float) → (update_both s x y).thresholder ≡ both_counted s x y
+  pub both_counted_lem : (x y : Float) → (update_both s x y).state ≡ both_counted s x y
   unfolding update_both
   both_counted_lem x y = updated_counted (both_counted s x y)
 
-  pub capped_counted : (x y last : Float) → (update s x y last).thresholder ≡ both_counted s (minf32 two32 x) (Ieee.sub binary32 y last)
+  pub capped_counted : (x y last : Float) → (update s x y last).state ≡ both_counted s (minf32 two32 x) (Ieee.sub binary32 y last)
   unfolding update
   capped_counted x y last = both_counted_lem (minf32 two32 x) (Ieee.sub binary32 y last)
 

@@ -1,19 +1,16 @@
 -- basicthresholder.rs: construction, updates and setters. One definition for each function, in the Rust's shape. Operators with ₃₂ are those of f32, `/₆₄` is f64's.
-use Rattle.std.specs.Prelude.{Bool, cond, ◌&&◌, ℤ, pos, Float}
+use Rattle.std.specs.Prelude.{Bool, cond, ◌&&◌, ℤ, pos, Float, Result, Ok, Err}
 use Rattle.ieee.specs.Round.{narrow}
 use Rattle.ieee.specs.F32.{◌-₃₂◌, ◌<=₃₂◌, ◌>₃₂◌, ◌>=₃₂◌}
 use Rattle.ieee.specs.F64.{◌/₆₄◌}
 use Rattle.util.specs.Util.{minf32}
 use Rattle.types.specs.declared.Refusal.{Refusal}
 use Rattle.types.specs.declared.Refusal.TheVariants.{Discount, Count, Horizon}
-use Rattle.types.specs.declared.Answer.TheVariants as Answers
 use Rattle.deviation.specs.declared.Deviation.{Deviation}
 use Rattle.deviation.specs.Statistics.{fresh, is_discount, mean, counted, countable, one_more}
 use Rattle.basicthresholder.specs.Const.{zero32, one32, two32, two64, elasticity_default, score_differencing_default, absolute_threshold_default, absolute_score_fraction_default, initial_threshold_default, z_factor_default, factor_adjustment_threshold_default}
 use Rattle.basicthresholder.specs.declared.BasicThresholder.{BasicThresholder}
-use Rattle.basicthresholder.specs.declared.Made.{Made}
-use Rattle.basicthresholder.specs.declared.Made.TheVariants.{Ready, Refused}
-use Rattle.basicthresholder.specs.declared.Updated.{Updated}
+use Rattle.types.specs.declared.Updated.{Updated}
 
 -- A new state by its statistics: the first two are the same, the third has half the discount.
 abbrev pub fresh_by : Deviation → Deviation → Bool → BasicThresholder
@@ -38,15 +35,15 @@ abbrev pub fresh_thresholder : Float → Bool → BasicThresholder
 fresh_thresholder discount adjust = fresh_by (fresh discount) (fresh (discount /₆₄ two64)) adjust
 
 -- Refusal 1 for a discount outside [0, 1).
-unfoldable pub new_adjustible : Float → Bool → Made
-new_adjustible discount adjust = cond (is_discount discount) (Ready (fresh_thresholder discount adjust)) (Refused Discount)
+unfoldable pub new_adjustible : Float → Bool → Result BasicThresholder Refusal
+new_adjustible discount adjust = cond (is_discount discount) (Ok (fresh_thresholder discount adjust)) (Err Discount)
 
 -- A call's answer beside the state; a refusal hands it back as it came.
-abbrev pub done : BasicThresholder → Updated
-done s = record { answer = Answers.Done; thresholder = s }
+abbrev pub done : BasicThresholder → Updated BasicThresholder
+done s = record { answer = Ok tt; state = s }
 
-abbrev pub refused : Refusal → BasicThresholder → Updated
-refused why s = record { answer = Answers.Refused why; thresholder = s }
+abbrev pub refused : Refusal → BasicThresholder → Updated BasicThresholder
+refused why s = record { answer = Err why; state = s }
 
 -- The state with the parts that an update changes: last score, the three statistics, the count.
 abbrev pub with_counted : BasicThresholder → Float → Deviation → Deviation → Deviation → ℤ → BasicThresholder
@@ -101,20 +98,20 @@ counts_ok s =
     && (countable s.primary_deviation.count && (countable s.secondary_deviation.count && countable s.threshold_deviation.count))
 
 -- Otherwise updates refuse it by 6.
-unfoldable pub updated : BasicThresholder → BasicThresholder → Updated
+unfoldable pub updated : BasicThresholder → BasicThresholder → Updated BasicThresholder
 updated before after = cond (counts_ok before) (done after) (refused Count before)
 
-unfoldable pub update_threshold : BasicThresholder → Float → Updated
+unfoldable pub update_threshold : BasicThresholder → Float → Updated BasicThresholder
 update_threshold s score = updated s (threshold_counted s score)
 
-unfoldable pub update_primary : BasicThresholder → Float → Updated
+unfoldable pub update_primary : BasicThresholder → Float → Updated BasicThresholder
 update_primary s score = updated s (primary_counted s score)
 
-unfoldable pub update_both : BasicThresholder → Float → Float → Updated
+unfoldable pub update_both : BasicThresholder → Float → Float → Updated BasicThresholder
 update_both s primary secondary = updated s (both_counted s primary secondary)
 
 -- The primary is capped at 2.
-unfoldable pub update : BasicThresholder → Float → Float → Float → Updated
+unfoldable pub update : BasicThresholder → Float → Float → Float → Updated BasicThresholder
 update s primary secondary last_score = update_both s (minf32 two32 primary) (secondary -₃₂ last_score)
 
 -- The settings that the setters change.
@@ -194,5 +191,5 @@ unfoldable pub is_horizon : Float → Bool
 is_horizon horizon = horizon >=₃₂ zero32 && horizon <=₃₂ one32
 
 -- Refusal 7 for any other horizon.
-unfoldable pub set_score_differencing : BasicThresholder → Float → Updated
+unfoldable pub set_score_differencing : BasicThresholder → Float → Updated BasicThresholder
 set_score_differencing s horizon = cond (is_horizon horizon) (done (with_score_differencing s horizon)) (refused Horizon s)

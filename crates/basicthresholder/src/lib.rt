@@ -12,9 +12,9 @@ ghost use Rattle.grading.specs.Grading.{surprise_index};
 ghost use Rattle.basicthresholder.specs.Grades as Grades;
 ghost use Rattle.basicthresholder.specs.Updates as Updates;
 
-use deviation::{Deviation, Measured};
+use deviation::Deviation;
 use ieee::narrow;
-use types::{Answer, Refusal, TransformMethod};
+use types::{Refusal, TransformMethod, Updated};
 use util::minf32;
 
 const DEFAULT_ELASTICITY: f32 = 0.01;
@@ -54,23 +54,11 @@ pub struct BasicThresholder {
     pub z_factor: f32,
 }
 
-#[derive(Clone, Copy)]
-pub enum Made {
-    Ready(BasicThresholder),
-    Refused(Refusal),
-}
-
 // The Rust's pair (threshold, grade).
 #[derive(Clone, Copy)]
 pub struct Graded {
     pub threshold: f32,
     pub grade: f32,
-}
-
-#[derive(Clone, Copy)]
-pub struct Updated {
-    pub answer: Answer,
-    pub thresholder: BasicThresholder,
 }
 
 fn graded_or(score: f32, threshold: f32, grade: f32) -> Graded
@@ -137,32 +125,32 @@ pub fn counted_over(third: Deviation, primary: Deviation, score: f32) -> Deviati
 }
 
 // An update's answer by the counts before it: refusal 6 hands the state back as it came.
-fn by_counts(before: BasicThresholder, after: BasicThresholder) -> Updated
+fn by_counts(before: BasicThresholder, after: BasicThresholder) -> Updated<BasicThresholder>
     ensures { result ≡ Updates.updated before after }
 {
     if before.counts_ok() {
         return Updated {
-            answer: Answer::Done,
-            thresholder: after,
+            answer: Ok(()),
+            state: after,
         };
     }
     Updated {
-        answer: Answer::Refused(Refusal::Count),
-        thresholder: before,
+        answer: Err(Refusal::Count),
+        state: before,
     }
 }
 
 impl BasicThresholder {
-    pub fn new_adjustible(discount: f64, adjust: bool) -> Made
+    pub fn new_adjustible(discount: f64, adjust: bool) -> Result<BasicThresholder, Refusal>
         ensures { result ≡ Updates.new_adjustible discount adjust }
     {
         if (discount >= 0.0) & (discount < 1.0) {
-            return Made::Ready(BasicThresholder::fresh(discount, adjust));
+            return Ok(BasicThresholder::fresh(discount, adjust));
         }
-        Made::Refused(Refusal::Discount)
+        Err(Refusal::Discount)
     }
 
-    pub fn new(discount: f64) -> Made
+    pub fn new(discount: f64) -> Result<BasicThresholder, Refusal>
         ensures { result ≡ Updates.new_adjustible discount false }
     {
         BasicThresholder::new_adjustible(discount, false)
@@ -390,26 +378,26 @@ impl BasicThresholder {
                 & (deviation::countable(secondary.count) & deviation::countable(third.count)))
     }
 
-    pub fn update_threshold(self, score: f32) -> Updated
+    pub fn update_threshold(self, score: f32) -> Updated<BasicThresholder>
         ensures { result ≡ Updates.update_threshold self score }
     {
         by_counts(self, self.threshold_counted(score))
     }
 
-    pub fn update_primary(self, score: f64) -> Updated
+    pub fn update_primary(self, score: f64) -> Updated<BasicThresholder>
         ensures { result ≡ Updates.update_primary self score }
     {
         by_counts(self, self.primary_counted(score))
     }
 
-    pub fn update_both(self, primary: f32, secondary: f32) -> Updated
+    pub fn update_both(self, primary: f32, secondary: f32) -> Updated<BasicThresholder>
         ensures { result ≡ Updates.update_both self primary secondary }
     {
         by_counts(self, self.both_counted(primary, secondary))
     }
 
     // The primary is capped at 2.
-    pub fn update(self, primary: f32, secondary: f32, last_score: f32) -> Updated
+    pub fn update(self, primary: f32, secondary: f32, last_score: f32) -> Updated<BasicThresholder>
         ensures { result ≡ Updates.update self primary secondary last_score }
     {
         self.update_both(minf32(2.0, primary), secondary - last_score)
@@ -454,20 +442,20 @@ impl BasicThresholder {
     }
 
     // Refusal 7 hands the state back as it came.
-    pub fn set_score_differencing(self, horizon: f32) -> Updated
+    pub fn set_score_differencing(self, horizon: f32) -> Updated<BasicThresholder>
         ensures { result ≡ Updates.set_score_differencing self horizon }
     {
         if is_horizon(horizon) {
             let mut out = self;
             out.score_differencing = horizon;
             return Updated {
-                answer: Answer::Done,
-                thresholder: out,
+                answer: Ok(()),
+                state: out,
             };
         }
         Updated {
-            answer: Answer::Refused(Refusal::Horizon),
-            thresholder: self,
+            answer: Err(Refusal::Horizon),
+            state: self,
         }
     }
 
@@ -478,13 +466,13 @@ impl BasicThresholder {
     }
 
     // What a dashboard reads of a drawer, here and in `primary_deviation`.
-    pub fn primary_mean(self) -> Measured
+    pub fn primary_mean(self) -> Option<f64>
         ensures { result ≡ measured_mean self.primary_deviation }
     {
         self.primary_deviation.mean()
     }
 
-    pub fn primary_deviation(self) -> Measured
+    pub fn primary_deviation(self) -> Option<f64>
         ensures { result ≡ measured_deviation self.primary_deviation }
     {
         self.primary_deviation.deviation()

@@ -6,42 +6,25 @@
 ghost use Rattle.std.specs.Prelude.{◌≡◌, ◌∷◌, length};
 ghost use Rattle.layout.specs.Left.{left};
 ghost use Rattle.layout.specs.Numbers.{flag_byte};
-ghost use Rattle.calls.specs.Calls.{unasked};
 ghost use Rattle.c_calls.specs.Forest as Forest;
 ghost use Rattle.c_calls.specs.Buffers as Buffers;
 ghost use Rattle.c_calls.specs.Buffers.{filled};
 
 use calls::Asked;
-use layout::CallRead;
-use types::{Answer, Refusal};
+use types::Refusal;
 
-// Document 01's refusals of a yes/no byte or a size, and of a length.
+// Document 01's refusals of a yes/no byte or a size, and of a length: numbers, as C is told them.
 const RANGE: u8 = 2;
 
 const LENGTH: u8 = 3;
 
-// Nothing is asked for.
-fn refused(why: Refusal) -> Asked
-    ensures { result ≡ unasked why }
-{
-    Asked {
-        answer: Answer::Refused(why),
-        gap: 0,
-        corrected_score: false,
-        near_neighbor_list: false,
-        new_attribution: false,
-        use_difference: false,
-    }
-}
-
 // What is asked for; `out` is the length of the slice that takes the numbers.
-fn asked_over(state: &[u8], reading: &[u8], last: &[u8], out: usize) -> Asked
+fn asked_over(state: &[u8], reading: &[u8], last: &[u8], out: usize) -> Result<Asked, Refusal>
     ensures { result ≡ Forest.asked_over state.now reading.now last.now out }
 {
-    match layout::read_call(state, reading, last, out == 5) {
-        CallRead::Read(k, r, l) => { calls::asked_of_forest(k.auto_adjust, k.base_dimension, r, l) }
-        CallRead::Refused(why) => refused(why),
-    }
+    let call = layout::read_call(state, reading, last, out == 5)?;
+    let k = call.standing;
+    calls::asked_of_forest(k.auto_adjust, k.base_dimension, call.reading, call.last)
 }
 
 fn flag(b: bool) -> usize
@@ -70,14 +53,12 @@ fn put_asked(out: &mut [usize], asked: Asked)
 pub fn krcf_asked_of_forest(state: &[u8], reading: &[u8], last: &[u8], out: &mut [usize]) -> u8
     ensures { left result out.new ≡ Forest.asked_of_forest state.now reading.now last.now out.old }
 {
-    let asked = asked_over(state, reading, last, out.len());
-    let answer = asked.answer;
-    match answer {
-        Answer::Done => {
+    match asked_over(state, reading, last, out.len()) {
+        Ok(asked) => {
             put_asked(out, asked);
             0
         }
-        Answer::Refused(why) => why.number(),
+        Err(why) => why.number(),
     }
 }
 
@@ -111,15 +92,18 @@ pub fn krcf_likely_missing_indices(
 {
     if descriptor::sizes_ok(shingle_size, base_dimension) {
         if out.len() == 8 {
-            let found = calls::likely_missing_indices(shingle_size, base_dimension, gap, high, low);
-            let answer = found.answer;
-            let indices = found.indices;
-            return match answer {
-                Answer::Done => {
-                    put_missing(out, found.block, found.start, found.count, indices);
+            return match calls::likely_missing_indices(
+                shingle_size,
+                base_dimension,
+                gap,
+                high,
+                low,
+            ) {
+                Ok(found) => {
+                    put_missing(out, found.block, found.start, found.count, found.indices);
                     0
                 }
-                Answer::Refused(why) => why.number(),
+                Err(why) => why.number(),
             };
         }
         return LENGTH;
@@ -142,7 +126,7 @@ pub fn krcf_expected_point(
         ≡ Buffers.expected_point shingle_size base_dimension position point.now high.now low.now
         median.now out.old }
 {
-    calls::expected_point(
+    types::answered(calls::expected_point(
         shingle_size,
         base_dimension,
         position,
@@ -151,8 +135,7 @@ pub fn krcf_expected_point(
         low,
         median,
         out,
-    )
-    .number()
+    ))
 }
 
 // The point with the last anomaly's effect taken out. Behind a no the last points are not looked at.
@@ -187,7 +170,7 @@ pub fn krcf_apply_basic_corrector(
             time_augmented == 1,
             out,
         );
-        return answer.number();
+        return types::answered(answer);
     }
     RANGE
 }
@@ -197,23 +180,24 @@ pub fn krcf_update_auto_adjust(state: &mut [u8], shingle_size: usize, point: &[f
     ensures { left result state.new ≡ Buffers.update_auto_adjust state.old shingle_size point.now }
 {
     if layout::state_codes_ok(state) {
-        if state.len() == layout::STATE_LENGTH {
-            let read = layout::read_state(state);
-            let stored = read.state;
-            let changed = calls::update_auto_adjust(stored, shingle_size, point);
-            let answer = changed.answer;
-            let s = changed.state;
-            return match answer {
-                Answer::Done => {
-                    layout::write_state(state, s);
-                    0
+        return match layout::read_state(state) {
+            Ok(stored) => {
+                let changed = calls::update_auto_adjust(stored, shingle_size, point);
+                match changed.answer {
+                    Ok(()) => {
+                        layout::write_state(state, changed.state);
+                        0
+                    }
+                    Err(why) => why.number(),
                 }
-                Answer::Refused(why) => why.number(),
-            };
-        }
-        if descriptor::sizes_ok(shingle_size, 1) {
-            return LENGTH;
-        }
+            }
+            Err(_) => {
+                if descriptor::sizes_ok(shingle_size, 1) {
+                    return LENGTH;
+                }
+                RANGE
+            }
+        };
     }
     RANGE
 }

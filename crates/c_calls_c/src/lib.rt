@@ -1,10 +1,9 @@
-// The C functions of the crate c_calls, exported: each calls the library's function of its name and keeps its contract.
+// The C functions of the crate c_calls, exported: each calls the library's function of its name and keeps its contract. The kit takes a crate as a library or as a static library, so C needs both.
 #![tactic(auto)]
 
 ghost use Rattle.std.specs.Prelude.{◌≡◌, ◌∷◌, length};
 ghost use Rattle.layout.specs.Left.{left};
 ghost use Rattle.layout.specs.Numbers.{flag_byte};
-ghost use Rattle.calls.specs.Calls.{unasked};
 ghost use Rattle.c_calls.specs.Forest as Forest;
 ghost use Rattle.c_calls.specs.Buffers as Buffers;
 ghost use Rattle.c_calls.specs.Buffers.{filled};

@@ -1,10 +1,10 @@
 -- Construction and setters of the chain's stored state over C. Of several refusals the smallest is answered; nothing inside a slice
 -- of another length is looked at.
-use Rattle.std.specs.Prelude.{ℕ, cond, List, eqb, leb, length, replicate, Float}
+use Rattle.std.specs.Prelude.{ℕ, cond, List, eqb, leb, length, replicate, Float, Result, Ok, Err}
 use Rattle.types.specs.Refusals.{number, answered}
+use Rattle.types.specs.declared.Refusal.{Refusal}
 use Rattle.types.specs.declared.Refusal.TheVariants.{Range, Length}
 use Rattle.predictorcorrector.specs.declared.PredictorCorrector.{PredictorCorrector}
-use Rattle.predictorcorrector.specs.declared.Updated.{Updated}
 use Rattle.predictorcorrector.specs.State.{set_horizon}
 use Rattle.layout.specs.Places.{state_length}
 use Rattle.layout.specs.Chain.{decode_state, encode_state_over, state_codes_ok}
@@ -28,10 +28,9 @@ horizon_set_in x xs =
     (left (chain_refusal xs) xs)
 
 -- A new state over zeros: 1 for its discount, 2 for its base or the yes/no byte `adjust`, then 3.
-unfoldable pub chain_made : Updated → ℕ → List ℕ → Left
-chain_made made adjust out =
-    cond (eqb (answered made.answer) 0)
-    (cond (leb adjust 1)
-    (cond (eqb (length out) state_length) (left 0 (encode_state_over (replicate (length out) 0) made.state)) (left (number Length) out))
-    (left (number Range) out))
-    (left (answered made.answer) out)
+unfoldable pub chain_made : Result PredictorCorrector Refusal → ℕ → List ℕ → Left
+chain_made (Ok s) adjust out =
+    cond (leb adjust 1)
+    (cond (eqb (length out) state_length) (left 0 (encode_state_over (replicate (length out) 0) s)) (left (number Length) out))
+    (left (number Range) out)
+chain_made (Err why) adjust out = left (number why) out

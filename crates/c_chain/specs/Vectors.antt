@@ -1,14 +1,11 @@
 -- The calls on attribution vectors over C.
-use Rattle.std.specs.Prelude.{ℕ, cond, List, eqb, length, Float}
+use Rattle.std.specs.Prelude.{ℕ, cond, List, eqb, length, Float, Result, Ok, Err}
 use Rattle.types.specs.Refusals.{number, answered}
 use Rattle.types.specs.declared.Refusal.TheVariants.{Length}
 use Rattle.divector.specs.DiVector.{After}
-use Rattle.divector.specs.declared.Number.{Number}
-use Rattle.divector.specs.declared.Number.TheVariants as Numbers
-use Rattle.divector.specs.declared.Block.{Block}
-use Rattle.divector.specs.declared.Block.TheVariants as Places
 use Rattle.layout.specs.Numbers.{f64_bytes, bytes8}
 use Rattle.layout.specs.Left.{Left, left, put_into}
+use Rattle.types.specs.declared.Refusal.{Refusal}
 
 -- The answer, and what stands in the two slices afterwards.
 pub record Pair : Type 0 where
@@ -24,11 +21,11 @@ abbrev pub numbered : After → Pair
 numbered a = pair (answered a.answer) a.high a.low
 
 -- A number into a slice of 8 bytes.
-unfoldable pub number_into : Number → List ℕ → Left
-number_into (Numbers.Value x) out = put_into 8 out (f64_bytes x)
-number_into (Numbers.Refused why) out = left (number why) out
+unfoldable pub number_into : Result Float Refusal → List ℕ → Left
+number_into (Ok x) out = put_into 8 out (f64_bytes x)
+number_into (Err why) out = left (number why) out
 
 -- A block's place into a slice of 8 bytes: 3 for the slice goes before 8 for the search.
-unfoldable pub block_into : Block → List ℕ → Left
-block_into (Places.At k) out = put_into 8 out (bytes8 k)
-block_into (Places.Refused why) out = cond (eqb (length out) 8) (left (number why) out) (left (number Length) out)
+unfoldable pub block_into : Result ℕ Refusal → List ℕ → Left
+block_into (Ok k) out = put_into 8 out (bytes8 k)
+block_into (Err why) out = cond (eqb (length out) 8) (left (number why) out) (left (number Length) out)

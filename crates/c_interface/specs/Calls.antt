@@ -1,97 +1,83 @@
 -- What a call over C answers and leaves: document 01's refusal number, 0 where it is done, and the bytes of the slice that it may write. Of several refusals the
 -- smallest is answered, and a refused call writes nothing. What the bytes mean is the crate layout's.
-use Rattle.std.specs.Prelude.{ℕ, true, false, cond, List, ◌∷◌, eqb, leb, drop, Float}
+use Rattle.std.specs.Prelude.{ℕ, true, false, cond, List, ◌∷◌, eqb, leb, drop, Float, Result, Option, Ok, Err, Some, None}
 use Rattle.types.specs.Codes.{method_of}
-use Rattle.types.specs.Refusals.{number}
+use Rattle.types.specs.Refusals.{number, Answer}
 use Rattle.types.specs.declared.Refusal.TheVariants.{Range}
-use Rattle.types.specs.declared.Answer.{Answer}
-use Rattle.types.specs.declared.Answer.TheVariants as Answers
 use Rattle.types.specs.declared.TransformMethod.{TransformMethod}
-use Rattle.types.specs.declared.MethodCode.{MethodCode}
-use Rattle.types.specs.declared.MethodCode.TheVariants as Code
 use Rattle.deviation.specs.declared.Deviation.{Deviation}
-use Rattle.deviation.specs.declared.Measured.{Measured}
-use Rattle.deviation.specs.declared.Measured.TheVariants.{Empty, Number}
-use Rattle.deviation.specs.declared.Updated as Statistic
-use Rattle.deviation.specs.declared.Made as MadeStatistic
-use Rattle.deviation.specs.declared.Made.TheVariants as Statistics
 use Rattle.basicthresholder.specs.Grades.{threshold_and_grade, threshold_and_grade_with_factor, primary_threshold_and_grade}
 use Rattle.basicthresholder.specs.Updates.{new_adjustible, update_threshold, update_primary, update_both, update, with_z_factor, with_lower_threshold, with_absolute_threshold, with_initial_threshold, set_score_differencing}
 use Rattle.basicthresholder.specs.declared.BasicThresholder.{BasicThresholder}
 use Rattle.basicthresholder.specs.declared.Graded.{Graded}
-use Rattle.basicthresholder.specs.declared.Updated.{Updated}
-use Rattle.basicthresholder.specs.declared.Made.{Made}
-use Rattle.basicthresholder.specs.declared.Made.TheVariants.{Ready, Refused}
 use Rattle.layout.specs.Places.{deviation_length, thresholder_length}
 use Rattle.layout.specs.Numbers.{f64_bytes, flag_byte}
 use Rattle.layout.specs.States.{encode_deviation, encode_thresholder, encode_graded, read_thresholder}
-use Rattle.layout.specs.declared.DeviationRead.{DeviationRead}
-use Rattle.layout.specs.declared.DeviationRead.TheVariants as Stored
-use Rattle.layout.specs.declared.ThresholderRead.{ThresholderRead}
-use Rattle.layout.specs.declared.ThresholderRead.TheVariants as Held
 use Rattle.layout.specs.Left.{Left, left, put_into}
+use Rattle.types.specs.declared.Refusal.{Refusal}
+use Rattle.types.specs.declared.Updated.{Updated}
 
 -- What a change leaves of the slice xs of n bytes that was read: ys, unless the change is refused.
 unfoldable pub stored : Answer → ℕ → List ℕ → List ℕ → Left
-stored Answers.Done n xs ys = put_into n xs ys
-stored (Answers.Refused why) n xs ys = left (number why) xs
+stored (Ok _) n xs ys = put_into n xs ys
+stored (Err why) n xs ys = left (number why) xs
 
 -- ---- a stored statistic.
 
 -- A new one.
-unfoldable pub deviation_made : MadeStatistic.Made → List ℕ → Left
-deviation_made (Statistics.Ready d) out = put_into deviation_length out (encode_deviation d)
-deviation_made (Statistics.Refused why) out = left (number why) out
+unfoldable pub deviation_made : Result Deviation Refusal → List ℕ → Left
+deviation_made (Ok d) out = put_into deviation_length out (encode_deviation d)
+deviation_made (Err why) out = left (number why) out
 
 -- Changed in place by f.
-abbrev pub deviation_stored : Statistic.Updated → List ℕ → Left
-deviation_stored u xs = stored u.answer deviation_length xs (encode_deviation u.deviation)
+abbrev pub deviation_stored : Updated Deviation → List ℕ → Left
+deviation_stored u xs = stored u.answer deviation_length xs (encode_deviation u.state)
 
-unfoldable pub deviation_changed : (Deviation → Statistic.Updated) → DeviationRead → List ℕ → Left
-deviation_changed f (Stored.Read d) xs = deviation_stored (f d) xs
-deviation_changed f (Stored.Refused why) xs = left (number why) xs
+unfoldable pub deviation_changed : (Deviation → Updated Deviation) → Result Deviation Refusal → List ℕ → Left
+deviation_changed f (Ok d) xs = deviation_stored (f d) xs
+deviation_changed f (Err why) xs = left (number why) xs
 
 -- A change that is never refused.
-abbrev pub deviation_done : Deviation → Statistic.Updated
-deviation_done d = record { answer = Answers.Done; deviation = d }
+abbrev pub deviation_done : Deviation → Updated Deviation
+deviation_done d = record { answer = Ok tt; state = d }
 
 -- Read by f into a slice of n bytes.
-unfoldable pub deviation_read : (Deviation → List ℕ) → ℕ → DeviationRead → List ℕ → Left
-deviation_read f n (Stored.Read d) out = put_into n out (f d)
-deviation_read f n (Stored.Refused why) out = left (number why) out
+unfoldable pub deviation_read : (Deviation → List ℕ) → ℕ → Result Deviation Refusal → List ℕ → Left
+deviation_read f n (Ok d) out = put_into n out (f d)
+deviation_read f n (Err why) out = left (number why) out
 
 -- What a statistic says of its scores, over the slice `out` of 9 bytes: a yes and the number; or a no, and what stands behind it stays.
-unfoldable pub measured_over : Measured → List ℕ → List ℕ
-measured_over Empty out = flag_byte false ∷ drop 1 out
-measured_over (Number x) out = flag_byte true ∷ f64_bytes x
+unfoldable pub measured_over : Option Float → List ℕ → List ℕ
+measured_over None out = flag_byte false ∷ drop 1 out
+measured_over (Some x) out = flag_byte true ∷ f64_bytes x
 
 -- ---- a stored thresholder.
 
 -- A new one: 1 for its discount, then 2 for the yes/no byte `adjust`, then 3.
-unfoldable pub thresholder_made : Made → ℕ → List ℕ → Left
-thresholder_made (Ready s) adjust out = cond (leb adjust 1) (put_into thresholder_length out (encode_thresholder s)) (left (number Range) out)
-thresholder_made (Refused why) adjust out = left (number why) out
+unfoldable pub thresholder_made : Result BasicThresholder Refusal → ℕ → List ℕ → Left
+thresholder_made (Ok s) adjust out = cond (leb adjust 1) (put_into thresholder_length out (encode_thresholder s)) (left (number Range) out)
+thresholder_made (Err why) adjust out = left (number why) out
 
 -- Changed in place by f.
-abbrev pub thresholder_stored : Updated → List ℕ → Left
-thresholder_stored u xs = stored u.answer thresholder_length xs (encode_thresholder u.thresholder)
+abbrev pub thresholder_stored : Updated BasicThresholder → List ℕ → Left
+thresholder_stored u xs = stored u.answer thresholder_length xs (encode_thresholder u.state)
 
-unfoldable pub thresholder_changed : (BasicThresholder → Updated) → ThresholderRead → List ℕ → Left
-thresholder_changed f (Held.Read s) xs = thresholder_stored (f s) xs
-thresholder_changed f (Held.Refused why) xs = left (number why) xs
+unfoldable pub thresholder_changed : (BasicThresholder → Updated BasicThresholder) → Result BasicThresholder Refusal → List ℕ → Left
+thresholder_changed f (Ok s) xs = thresholder_stored (f s) xs
+thresholder_changed f (Err why) xs = left (number why) xs
 
-abbrev pub thresholder_done : BasicThresholder → Updated
-thresholder_done s = record { answer = Answers.Done; thresholder = s }
+abbrev pub thresholder_done : BasicThresholder → Updated BasicThresholder
+thresholder_done s = record { answer = Ok tt; state = s }
 
 -- Read by f into a slice of n bytes.
-unfoldable pub thresholder_read : (BasicThresholder → List ℕ) → ℕ → ThresholderRead → List ℕ → Left
-thresholder_read f n (Held.Read s) out = put_into n out (f s)
-thresholder_read f n (Held.Refused why) out = left (number why) out
+unfoldable pub thresholder_read : (BasicThresholder → List ℕ) → ℕ → Result BasicThresholder Refusal → List ℕ → Left
+thresholder_read f n (Ok s) out = put_into n out (f s)
+thresholder_read f n (Err why) out = left (number why) out
 
 -- Graded by f with the method of a code; 2 for a code outside its list.
-unfoldable pub graded_by : (BasicThresholder → TransformMethod → Graded) → MethodCode → ThresholderRead → List ℕ → Left
-graded_by f (Code.Known m) t out = thresholder_read (λ s. encode_graded (f s m)) 8 t out
-graded_by f (Code.Refused why) t out = left (number why) out
+unfoldable pub graded_by : (BasicThresholder → TransformMethod → Graded) → Result TransformMethod Refusal → Result BasicThresholder Refusal → List ℕ → Left
+graded_by f (Ok m) t out = thresholder_read (λ s. encode_graded (f s m)) 8 t out
+graded_by f (Err why) t out = left (number why) out
 
 -- ---- the calls on a stored thresholder, each by what it takes; the slice that it writes comes last.
 
@@ -99,7 +85,7 @@ graded_by f (Code.Refused why) t out = left (number why) out
 abbrev pub new_into : Float → ℕ → List ℕ → Left
 new_into discount adjust out = thresholder_made (new_adjustible discount (eqb adjust 1)) adjust out
 
-abbrev pub changed_in : (BasicThresholder → Updated) → List ℕ → Left
+abbrev pub changed_in : (BasicThresholder → Updated BasicThresholder) → List ℕ → Left
 changed_in f xs = thresholder_changed f (read_thresholder xs) xs
 
 abbrev pub update_threshold_in : Float → List ℕ → Left

@@ -18,11 +18,10 @@ ghost use Rattle.layout.specs.Left.{left, put_into};
 ghost use Rattle.c_interface.specs.Calls.{deviation_made, deviation_stored, deviation_changed, deviation_done, deviation_read, measured_over, thresholder_made, thresholder_stored, thresholder_changed, thresholder_done, thresholder_read, graded_by};
 
 use basicthresholder::{BasicThresholder, Graded};
-use deviation::{Deviation, Measured};
-use layout::{DeviationRead, ThresholderRead};
-use types::{Answer, MethodCode, TransformMethod};
+use deviation::Deviation;
+use types::{TransformMethod, Updated};
 
-// Document 01's refusals of a yes/no byte or a code, and of a length.
+// Document 01's refusals of a yes/no byte or a code, and of a length: numbers, as C is told them.
 const RANGE: u8 = 2;
 
 const LENGTH: u8 = 3;
@@ -139,22 +138,22 @@ fn put_flag(out: &mut [u8], b: bool) -> u8
 }
 
 // A yes and the number; or a no, and what stands behind it is left alone.
-fn write_measured(out: &mut [u8], m: Measured)
+fn write_measured(out: &mut [u8], m: Option<f64>)
     requires { length out.old ≡ 9 }
     ensures { out.new ≡ measured_over m out.old }
 {
     match m {
-        Measured::Empty => {
+        None => {
             out[0] = 0;
         }
-        Measured::Number(x) => {
+        Some(x) => {
             layout::write_f64(&mut out[1..9], x);
             out[0] = 1;
         }
     }
 }
 
-fn put_measured(out: &mut [u8], m: Measured) -> u8
+fn put_measured(out: &mut [u8], m: Option<f64>) -> u8
     ensures { left result out.new ≡ put_into 9 out.old (measured_over m out.old) }
 {
     if out.len() == 9 {
@@ -195,25 +194,25 @@ fn put_thresholder(out: &mut [u8], s: BasicThresholder) -> u8
 }
 
 // Writes what a change of a slice's state handed back, unless the change is refused.
-fn store_deviation(state: &mut [u8], u: deviation::Updated) -> u8
+fn store_deviation(state: &mut [u8], u: Updated<Deviation>) -> u8
     ensures { left result state.new ≡ deviation_stored u state.old }
 {
     let answer = u.answer;
-    let after = u.deviation;
+    let after = u.state;
     match answer {
-        Answer::Done => put_deviation(state, after),
-        Answer::Refused(why) => why.number(),
+        Ok(()) => put_deviation(state, after),
+        Err(why) => why.number(),
     }
 }
 
-fn store_thresholder(state: &mut [u8], u: basicthresholder::Updated) -> u8
+fn store_thresholder(state: &mut [u8], u: Updated<BasicThresholder>) -> u8
     ensures { left result state.new ≡ thresholder_stored u state.old }
 {
     let answer = u.answer;
-    let after = u.thresholder;
+    let after = u.state;
     match answer {
-        Answer::Done => put_thresholder(state, after),
-        Answer::Refused(why) => why.number(),
+        Ok(()) => put_thresholder(state, after),
+        Err(why) => why.number(),
     }
 }
 
@@ -221,8 +220,8 @@ pub fn krcf_deviation_new(discount: f64, out: &mut [u8]) -> u8
     ensures { left result out.new ≡ deviation_made (Statistics.new discount) out.old }
 {
     match Deviation::new(discount) {
-        deviation::Made::Ready(d) => put_deviation(out, d),
-        deviation::Made::Refused(why) => why.number(),
+        Ok(d) => put_deviation(out, d),
+        Err(why) => why.number(),
     }
 }
 
@@ -230,8 +229,8 @@ pub fn krcf_deviation_update(state: &mut [u8], score: f64) -> u8
     ensures { left result state.new ≡ deviation_changed (λ d. Statistics.update d score) (read_deviation state.old) state.old }
 {
     match layout::read_deviation(state) {
-        DeviationRead::Read(d) => store_deviation(state, d.update(score)),
-        DeviationRead::Refused(why) => why.number(),
+        Ok(d) => store_deviation(state, d.update(score)),
+        Err(why) => why.number(),
     }
 }
 
@@ -239,14 +238,14 @@ pub fn krcf_deviation_reset(state: &mut [u8]) -> u8
     ensures { left result state.new ≡ deviation_changed (λ d. deviation_done (Statistics.reset d)) (read_deviation state.old) state.old }
 {
     match layout::read_deviation(state) {
-        DeviationRead::Read(d) => store_deviation(
+        Ok(d) => store_deviation(
             state,
-            deviation::Updated {
-                answer: Answer::Done,
-                deviation: d.reset(),
+            Updated {
+                answer: Ok(()),
+                state: d.reset(),
             },
         ),
-        DeviationRead::Refused(why) => why.number(),
+        Err(why) => why.number(),
     }
 }
 
@@ -254,8 +253,8 @@ pub fn krcf_deviation_mean(state: &[u8], out: &mut [u8]) -> u8
     ensures { left result out.new ≡ deviation_read (λ d. measured_over (Statistics.measured_mean d) out.old) 9 (read_deviation state.now) out.old }
 {
     match layout::read_deviation(state) {
-        DeviationRead::Read(d) => put_measured(out, d.mean()),
-        DeviationRead::Refused(why) => why.number(),
+        Ok(d) => put_measured(out, d.mean()),
+        Err(why) => why.number(),
     }
 }
 
@@ -263,8 +262,8 @@ pub fn krcf_deviation_deviation(state: &[u8], out: &mut [u8]) -> u8
     ensures { left result out.new ≡ deviation_read (λ d. measured_over (Statistics.measured_deviation d) out.old) 9 (read_deviation state.now) out.old }
 {
     match layout::read_deviation(state) {
-        DeviationRead::Read(d) => put_measured(out, d.deviation()),
-        DeviationRead::Refused(why) => why.number(),
+        Ok(d) => put_measured(out, d.deviation()),
+        Err(why) => why.number(),
     }
 }
 
@@ -272,8 +271,8 @@ pub fn krcf_deviation_is_empty(state: &[u8], out: &mut [u8]) -> u8
     ensures { left result out.new ≡ deviation_read (λ d. flag_bytes (Statistics.is_empty d)) 1 (read_deviation state.now) out.old }
 {
     match layout::read_deviation(state) {
-        DeviationRead::Read(d) => put_flag(out, d.is_empty()),
-        DeviationRead::Refused(why) => why.number(),
+        Ok(d) => put_flag(out, d.is_empty()),
+        Err(why) => why.number(),
     }
 }
 
@@ -281,13 +280,13 @@ pub fn krcf_thresholder_new(discount: f64, adjust: u8, out: &mut [u8]) -> u8
     ensures { left result out.new ≡ thresholder_made (Updates.new_adjustible discount (eqb adjust 1)) adjust out.old }
 {
     match BasicThresholder::new_adjustible(discount, adjust == 1) {
-        basicthresholder::Made::Ready(s) => {
+        Ok(s) => {
             if adjust <= 1 {
                 return put_thresholder(out, s);
             }
             RANGE
         }
-        basicthresholder::Made::Refused(why) => why.number(),
+        Err(why) => why.number(),
     }
 }
 
@@ -295,8 +294,8 @@ pub fn krcf_thresholder_is_deviation_ready(state: &[u8], out: &mut [u8]) -> u8
     ensures { left result out.new ≡ thresholder_read (λ s. flag_bytes (Grades.is_deviation_ready s)) 1 (read_thresholder state.now) out.old }
 {
     match layout::read_thresholder(state) {
-        ThresholderRead::Read(s) => put_flag(out, s.is_deviation_ready()),
-        ThresholderRead::Refused(why) => why.number(),
+        Ok(s) => put_flag(out, s.is_deviation_ready()),
+        Err(why) => why.number(),
     }
 }
 
@@ -304,8 +303,8 @@ pub fn krcf_threshold(state: &[u8], out: &mut [u8]) -> u8
     ensures { left result out.new ≡ thresholder_read (λ s. f32_bytes (Grades.threshold s)) 4 (read_thresholder state.now) out.old }
 {
     match layout::read_thresholder(state) {
-        ThresholderRead::Read(s) => put_f32(out, s.threshold()),
-        ThresholderRead::Refused(why) => why.number(),
+        Ok(s) => put_f32(out, s.threshold()),
+        Err(why) => why.number(),
     }
 }
 
@@ -313,8 +312,8 @@ pub fn krcf_primary_grade(state: &[u8], score: f32, out: &mut [u8]) -> u8
     ensures { left result out.new ≡ thresholder_read (λ s. f32_bytes (Grades.primary_grade s score)) 4 (read_thresholder state.now) out.old }
 {
     match layout::read_thresholder(state) {
-        ThresholderRead::Read(s) => put_f32(out, s.primary_grade(score)),
-        ThresholderRead::Refused(why) => why.number(),
+        Ok(s) => put_f32(out, s.primary_grade(score)),
+        Err(why) => why.number(),
     }
 }
 
@@ -322,8 +321,8 @@ pub fn krcf_primary_threshold_and_grade(state: &[u8], score: f32, out: &mut [u8]
     ensures { left result out.new ≡ thresholder_read (λ s. encode_graded (Grades.primary_threshold_and_grade s score)) 8 (read_thresholder state.now) out.old }
 {
     match layout::read_thresholder(state) {
-        ThresholderRead::Read(s) => put_graded(out, s.primary_threshold_and_grade(score)),
-        ThresholderRead::Refused(why) => why.number(),
+        Ok(s) => put_graded(out, s.primary_threshold_and_grade(score)),
+        Err(why) => why.number(),
     }
 }
 
@@ -336,15 +335,12 @@ pub fn krcf_threshold_and_grade(
 ) -> u8
     ensures { left result out.new ≡ graded_by (λ s m. Grades.threshold_and_grade s score m shingle_size) (method_of method) (read_thresholder state.now) out.old }
 {
-    match TransformMethod::of_code(method) {
-        MethodCode::Known(m) => match layout::read_thresholder(state) {
-            ThresholderRead::Read(s) => put_graded(
-                out,
-                s.threshold_and_grade(score, m, shingle_size),
-            ),
-            ThresholderRead::Refused(why) => why.number(),
+    match TransformMethod::try_from(method) {
+        Ok(m) => match layout::read_thresholder(state) {
+            Ok(s) => put_graded(out, s.threshold_and_grade(score, m, shingle_size)),
+            Err(why) => why.number(),
         },
-        MethodCode::Refused(why) => why.number(),
+        Err(why) => why.number(),
     }
 }
 
@@ -358,15 +354,15 @@ pub fn krcf_threshold_and_grade_with_factor(
 ) -> u8
     ensures { left result out.new ≡ graded_by (λ s m. Grades.threshold_and_grade_with_factor s score factor m shingle_size) (method_of method) (read_thresholder state.now) out.old }
 {
-    match TransformMethod::of_code(method) {
-        MethodCode::Known(m) => match layout::read_thresholder(state) {
-            ThresholderRead::Read(s) => put_graded(
+    match TransformMethod::try_from(method) {
+        Ok(m) => match layout::read_thresholder(state) {
+            Ok(s) => put_graded(
                 out,
                 s.threshold_and_grade_with_factor(score, factor, m, shingle_size),
             ),
-            ThresholderRead::Refused(why) => why.number(),
+            Err(why) => why.number(),
         },
-        MethodCode::Refused(why) => why.number(),
+        Err(why) => why.number(),
     }
 }
 
@@ -374,8 +370,8 @@ pub fn krcf_update_threshold(state: &mut [u8], score: f32) -> u8
     ensures { left result state.new ≡ thresholder_changed (λ s. Updates.update_threshold s score) (read_thresholder state.old) state.old }
 {
     match layout::read_thresholder(state) {
-        ThresholderRead::Read(s) => store_thresholder(state, s.update_threshold(score)),
-        ThresholderRead::Refused(why) => why.number(),
+        Ok(s) => store_thresholder(state, s.update_threshold(score)),
+        Err(why) => why.number(),
     }
 }
 
@@ -383,8 +379,8 @@ pub fn krcf_update_primary(state: &mut [u8], score: f64) -> u8
     ensures { left result state.new ≡ thresholder_changed (λ s. Updates.update_primary s score) (read_thresholder state.old) state.old }
 {
     match layout::read_thresholder(state) {
-        ThresholderRead::Read(s) => store_thresholder(state, s.update_primary(score)),
-        ThresholderRead::Refused(why) => why.number(),
+        Ok(s) => store_thresholder(state, s.update_primary(score)),
+        Err(why) => why.number(),
     }
 }
 
@@ -392,8 +388,8 @@ pub fn krcf_update_both(state: &mut [u8], primary: f32, secondary: f32) -> u8
     ensures { left result state.new ≡ thresholder_changed (λ s. Updates.update_both s primary secondary) (read_thresholder state.old) state.old }
 {
     match layout::read_thresholder(state) {
-        ThresholderRead::Read(s) => store_thresholder(state, s.update_both(primary, secondary)),
-        ThresholderRead::Refused(why) => why.number(),
+        Ok(s) => store_thresholder(state, s.update_both(primary, secondary)),
+        Err(why) => why.number(),
     }
 }
 
@@ -401,11 +397,8 @@ pub fn krcf_update(state: &mut [u8], primary: f32, secondary: f32, last_score: f
     ensures { left result state.new ≡ thresholder_changed (λ s. Updates.update s primary secondary last_score) (read_thresholder state.old) state.old }
 {
     match layout::read_thresholder(state) {
-        ThresholderRead::Read(s) => store_thresholder(
-            state,
-            s.update(primary, secondary, last_score),
-        ),
-        ThresholderRead::Refused(why) => why.number(),
+        Ok(s) => store_thresholder(state, s.update(primary, secondary, last_score)),
+        Err(why) => why.number(),
     }
 }
 
@@ -413,18 +406,18 @@ pub fn krcf_set_score_differencing(state: &mut [u8], horizon: f32) -> u8
     ensures { left result state.new ≡ thresholder_changed (λ s. Updates.set_score_differencing s horizon) (read_thresholder state.old) state.old }
 {
     match layout::read_thresholder(state) {
-        ThresholderRead::Read(s) => store_thresholder(state, s.set_score_differencing(horizon)),
-        ThresholderRead::Refused(why) => why.number(),
+        Ok(s) => store_thresholder(state, s.set_score_differencing(horizon)),
+        Err(why) => why.number(),
     }
 }
 
 // A change that is never refused.
-fn done(s: BasicThresholder) -> basicthresholder::Updated
+fn done(s: BasicThresholder) -> Updated<BasicThresholder>
     ensures { result ≡ thresholder_done s }
 {
-    basicthresholder::Updated {
-        answer: Answer::Done,
-        thresholder: s,
+    Updated {
+        answer: Ok(()),
+        state: s,
     }
 }
 
@@ -432,8 +425,8 @@ pub fn krcf_set_z_factor(state: &mut [u8], factor: f32) -> u8
     ensures { left result state.new ≡ thresholder_changed (λ s. thresholder_done (Updates.with_z_factor s factor)) (read_thresholder state.old) state.old }
 {
     match layout::read_thresholder(state) {
-        ThresholderRead::Read(s) => store_thresholder(state, done(s.set_z_factor(factor))),
-        ThresholderRead::Refused(why) => why.number(),
+        Ok(s) => store_thresholder(state, done(s.set_z_factor(factor))),
+        Err(why) => why.number(),
     }
 }
 
@@ -441,8 +434,8 @@ pub fn krcf_set_lower_threshold(state: &mut [u8], lower: f32) -> u8
     ensures { left result state.new ≡ thresholder_changed (λ s. thresholder_done (Updates.with_lower_threshold s lower)) (read_thresholder state.old) state.old }
 {
     match layout::read_thresholder(state) {
-        ThresholderRead::Read(s) => store_thresholder(state, done(s.set_lower_threshold(lower))),
-        ThresholderRead::Refused(why) => why.number(),
+        Ok(s) => store_thresholder(state, done(s.set_lower_threshold(lower))),
+        Err(why) => why.number(),
     }
 }
 
@@ -450,8 +443,8 @@ pub fn krcf_set_absolute_threshold(state: &mut [u8], value: f32) -> u8
     ensures { left result state.new ≡ thresholder_changed (λ s. thresholder_done (Updates.with_absolute_threshold s value)) (read_thresholder state.old) state.old }
 {
     match layout::read_thresholder(state) {
-        ThresholderRead::Read(s) => store_thresholder(state, done(s.set_absolute_threshold(value))),
-        ThresholderRead::Refused(why) => why.number(),
+        Ok(s) => store_thresholder(state, done(s.set_absolute_threshold(value))),
+        Err(why) => why.number(),
     }
 }
 
@@ -459,10 +452,7 @@ pub fn krcf_set_initial_threshold(state: &mut [u8], initial: f32) -> u8
     ensures { left result state.new ≡ thresholder_changed (λ s. thresholder_done (Updates.with_initial_threshold s initial)) (read_thresholder state.old) state.old }
 {
     match layout::read_thresholder(state) {
-        ThresholderRead::Read(s) => store_thresholder(
-            state,
-            done(s.set_initial_threshold(initial)),
-        ),
-        ThresholderRead::Refused(why) => why.number(),
+        Ok(s) => store_thresholder(state, done(s.set_initial_threshold(initial))),
+        Err(why) => why.number(),
     }
 }

@@ -1,4 +1,4 @@
-// The C functions of the crate c_interface, exported: each calls the library's function of its name and keeps its contract.
+// The C functions of the crate c_interface, exported: each calls the library's function of its name and keeps its contract. The kit takes a crate as a library or as a static library, so C needs both.
 #![tactic(auto)]
 
 ghost use Rattle.std.specs.Prelude.{◌≡◌, eqb, length, pos};

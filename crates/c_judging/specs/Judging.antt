@@ -1,6 +1,6 @@
 -- Judging over C. The state, the reading, the last descriptor and the verdict are bytes; of the refusals that apply the smallest is answered, and nothing inside
 -- a slice of another length is looked at.
-use Rattle.std.specs.Prelude.{ℕ, ◌-◌, ◌≡◌, cond, List, eqb, ℤ, length, Float}
+use Rattle.std.specs.Prelude.{ℕ, ◌-◌, ◌≡◌, cond, List, eqb, ℤ, length, Float, Result, Err}
 use Rattle.types.specs.Refusals.{number, answered}
 use Rattle.types.specs.declared.Refusal.TheVariants.{Range, Length}
 use Rattle.divector.specs.DiVector.{normalized}
@@ -8,31 +8,31 @@ use Rattle.descriptor.specs.Lent.{Lent}
 use Rattle.predictorcorrector.specs.declared.PredictorCorrector.{PredictorCorrector}
 use Rattle.detection.specs.Judging.{expected}
 use Rattle.detection.specs.Judged.{outcome, outcome_number, state_after, index_after, written}
-use Rattle.detection.specs.declared.Outcome.{Outcome}
-use Rattle.detection.specs.declared.Outcome.TheVariants.{Refused}
 use Rattle.corrector.specs.Corrector.{newest_row_answer}
 use Rattle.layout.specs.Places.{verdict_length}
 use Rattle.layout.specs.Numbers.{bytes8}
 use Rattle.layout.specs.Chain.{decode_state}
 use Rattle.layout.specs.Readings.{decode_reading, decode_last}
+use Rattle.detection.specs.declared.Verdict.{Verdict}
+use Rattle.types.specs.declared.Refusal.{Refusal}
 unfoldable pub use Rattle.layout.specs.Call.{codes_ok, slices_ok, sizes_fit}
 unfoldable pub use Rattle.verdict_bytes.specs.Bytes.{told, changes_state, stored, state_left, verdict_left}
 
 module _ (state reading last : List ℕ) (b : Lent) where
   -- The outcome. The four numbers are the lengths of the slices that may be written beside the state: expected point, attribution, verdict.
-  unfoldable pub outcome_over : (e h w v : ℕ) → Outcome
+  unfoldable pub outcome_over : (e h w v : ℕ) → Result Verdict Refusal
   outcome_over e h w v =
       cond (codes_ok state reading last)
       (cond (slices_ok (length state) (length reading) (length last) (eqb v verdict_length))
       (outcome (decode_state state) (decode_reading reading) (decode_last last) b e h w)
-      (cond (sizes_fit state reading) (Refused Length) (Refused Range)))
-      (Refused Range)
+      (cond (sizes_fit state reading) (Err Length) (Err Range)))
+      (Err Range)
 
   -- The state after an outcome, and the relative index.
-  unfoldable pub state_over : Outcome → PredictorCorrector
+  unfoldable pub state_over : Result Verdict Refusal → PredictorCorrector
   state_over o = state_after (decode_state state) (decode_reading reading) (decode_last last) b o
 
-  unfoldable pub index_over : Outcome → ℤ
+  unfoldable pub index_over : Result Verdict Refusal → ℤ
   index_over o = index_after (decode_reading reading) (decode_last last) b o
 
   -- The contract: the answer n, and what stands in the slices afterwards.

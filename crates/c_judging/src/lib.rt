@@ -7,10 +7,9 @@ ghost use Rattle.std.specs.Prelude.{◌≡◌, ◌-◌, length};
 ghost use Rattle.descriptor.specs.Lent.{lent};
 ghost use Rattle.c_judging.specs.Judging as Judging;
 
-use detection::Outcome;
-use layout::CallRead;
+use descriptor::Lent;
 
-// Document 01's refusal of a length.
+// Document 01's refusal of a length: a number, as C is told it.
 const LENGTH: u8 = 3;
 
 // Judges a reading and changes the state: `judge` decides, and its verdict is put into the bytes.
@@ -47,11 +46,10 @@ pub fn krcf_detect_and_modify(
         last,
         verdict.len() == layout::VERDICT_LENGTH,
     ) {
-        CallRead::Read(k, r, l) => {
-            let decision = detection::judge(
-                k,
-                r,
-                l,
+        Ok(call) => {
+            let r = call.reading;
+            let l = call.last;
+            let b = Lent {
                 point,
                 scale,
                 shift,
@@ -64,14 +62,12 @@ pub fn krcf_detect_and_modify(
                 ideal_high,
                 ideal_low,
                 neighbours,
-                expected,
-                out_high,
-                out_low,
-            );
+            };
+            let decision = detection::judge(call.standing, r, l, b, expected, out_high, out_low);
             let outcome = decision.outcome;
             let newest_expected = decision.newest_expected;
             match outcome {
-                Outcome::Accepted(said) => verdict_bytes::put_verdict(
+                Ok(said) => verdict_bytes::put_verdict(
                     state,
                     verdict,
                     r,
@@ -81,10 +77,10 @@ pub fn krcf_detect_and_modify(
                     point,
                     newest_expected,
                 ),
-                Outcome::Refused(why) => why.number(),
+                Err(why) => why.number(),
             }
         }
-        CallRead::Refused(why) => why.number(),
+        Err(why) => why.number(),
     }
 }
 
@@ -99,7 +95,11 @@ pub fn krcf_newest_row(
         (length out.old)) × (out.new ≡ Judging.newest_bytes shingle_size base_dimension (length point.now)
         out.old) }
 {
-    let number = corrector::newest_row_answer(shingle_size, base_dimension, point.len()).number();
+    let number = types::answered(corrector::newest_row_answer(
+        shingle_size,
+        base_dimension,
+        point.len(),
+    ));
     if number == 0 {
         if out.len() == 8 {
             let row = corrector::newest_row(point, shingle_size, base_dimension);

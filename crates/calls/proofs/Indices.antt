@@ -1,6 +1,8 @@
 -- The block that an accepted attribution names lies in it, so the indices are those of its row. Assumes nothing.
+use Rattle.std.specs.Prelude.{Result, Ok, Err, is_ok}
+use Rattle.std.specs.Result.{result_unwrap_or}
 use mathlib.Core.Path.{◌≡◌, refl, sym, ap, subst, ◌∙◌}
-use mathlib.Core.Bool.{◌&&◌}
+use mathlib.Core.Bool.{◌&&◌, true≢false}
 use mathlib.Core.List.{List}
 use Prim.Native.Nat.{ℕ, ◌+◌, ◌*◌, ◌/◌, ◌%◌, ◌<◌, ◌≤◌}
 use native.Mathlib.Nat.{mul-mod_left, mul-pos}
@@ -10,13 +12,9 @@ use lib.ListN.{length, take}
 use lib.Ieee.{Float}
 use borrow.Author.Tests.{eqb-true}
 use Rattle.types.specs.declared.Refusal.{Refusal}
-use Rattle.types.specs.declared.Answer.{Answer}
-use Rattle.types.specs.declared.Answer.TheVariants.{Done, Refused}
 use Rattle.descriptor.specs.Checks.{sizes_ok, dimension, all_finite}
 use Rattle.descriptor.proofs.Bounds.{both, sizes, dimension_is}
 use Rattle.divector.specs.DiVector.{max_gap_contribution}
-use Rattle.divector.specs.declared.Block.{Block}
-use Rattle.divector.specs.declared.Block.TheVariants.{At}
 use Rattle.divector.proofs.Laws as Search
 use Rattle.divector.proofs.Blocks.{row_within, whole}
 use Rattle.attributors.specs.Attributors.{asked}
@@ -26,16 +24,17 @@ use Rattle.corrector.proofs.Rows.{all_are}
 use Rattle.calls.specs.Calls.{gap_answer, missing_answer, block_of, missing_at, missing_within, missing_by, likely_missing_indices, AskedIndicesAreExpected}
 use Rattle.calls.specs.declared.Missing.{Missing}
 use Rattle.calls.proofs.Accepted.{passed, gap_above}
+use Rattle.types.specs.Refusals.{Answer}
 
 -- The row of a block that a search answers.
-pub block_inside : (high low : List Float) (base gap : ℕ) {k : ℕ} → max_gap_contribution high low base gap ≡ At k → k * base + base ≤ length high
+pub block_inside : (high low : List Float) (base gap : ℕ) {k : ℕ} → max_gap_contribution high low base gap ≡ Ok k → k * base + base ≤ length high
 block_inside high low base gap {k} e =
     let a = Search.accepted high low base gap e in
     let w = row_within k (length high / base) base (Search.chosen high low base gap e).1 in
     let n = whole (length high) base a.whole in
     omega arith
 
-module _ (shingle base gap : ℕ) (high low : List Float) (done : missing_answer shingle base gap high low ≡ Done) where
+module _ (shingle base gap : ℕ) (high low : List Float) (done : missing_answer shingle base gap high low ≡ Ok tt) where
   -- An accepted attribution's block has its row in it.
   row_asked : Row (length high) (length low) (block_of (max_gap_contribution high low base gap) * base) base
   unfolding missing_answer block_of
@@ -59,29 +58,24 @@ module _ (shingle base gap : ℕ) (high low : List Float) (done : missing_answer
         low_long = same;
         some = z.base_least;
         few = z.base_most;
-        inside = subst (λ (b : Block). block_of b * base + base ≤ length high) (sym a) (block_inside high low base gap a);
+        inside = subst (λ (b : Result ℕ Refusal). block_of b * base + base ≤ length high) (sym a) (block_inside high low base gap a);
       }
 
 module _ (base gap : ℕ) (high low point median : List Float) (m : Missing) where
-  accepted : (shingle : ℕ) → missing_answer shingle base gap high low ≡ Done → m ≡ missing_by Done base gap high low
+  accepted : (shingle : ℕ) → missing_answer shingle base gap high low ≡ Ok tt → m ≡ missing_within high low base gap
       → expected_point high low m.start base point median ≡ predicted (take m.count m.indices) median point
-  unfolding missing_by missing_within missing_at expected_point
+  unfolding missing_within missing_at expected_point
   accepted shingle q r =
       let start : ℕ = block_of (max_gap_contribution high low base gap) * base in
       rw r
       (ap (λ (indices : List ℕ). predicted indices median point)
       (sym (all_are high low start base (asked high low start base) (asked_row high low start base (row_asked shingle base gap high low q)))))
 
-  refused : (why : Refusal) → m ≡ missing_by (Refused why) base gap high low → m.answer ≡ Done
-      → expected_point high low m.start base point median ≡ predicted (take m.count m.indices) median point
-  unfolding missing_by
-  refused why r h = absurd (let f = ap (λ (n : Missing). n.answer) r in let z : ◌≡◌ {A = ℕ} 0 1 = cc in omega arith)
-
 pub asked_indices_are_expected : AskedIndicesAreExpected
-unfolding likely_missing_indices
-asked_indices_are_expected shingle base gap high low point median m e h = by_answer (missing_answer shingle base gap high low) refl e
+unfolding likely_missing_indices missing_by
+asked_indices_are_expected shingle base gap high low point median m e = by_answer (missing_answer shingle base gap high low) refl e
   where
-    by_answer : (a : Answer) → missing_answer shingle base gap high low ≡ a → m ≡ missing_by a base gap high low
+    by_answer : (a : Answer) → missing_answer shingle base gap high low ≡ a → missing_by a base gap high low ≡ Ok m
         → expected_point high low m.start base point median ≡ predicted (take m.count m.indices) median point
-    by_answer Done q r = accepted base gap high low point median m shingle q r
-    by_answer (Refused why) q r = refused base gap high low point median m why r h
+    by_answer (Ok _) q r = accepted base gap high low point median m shingle q (ap (λ (f : Result Missing Refusal). result_unwrap_or f m) (sym r))
+    by_answer (Err why) q r = absurd (true≢false (ap is_ok (sym r)))

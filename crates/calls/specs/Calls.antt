@@ -1,11 +1,9 @@
 -- The calls on a reading's buffers that predictorcorrector.rs has public, and what its detect_and_modify asks the forest for: what each answers, and what it leaves
 -- in its buffer or state.
-use Rattle.std.specs.Prelude.{ℕ, ◌-◌, ◌*◌, ◌≡◌, Bool, true, false, cond, ◌&&◌, List, [], ◌∷◌, leb, ltb, eqb, length, take, ℤ, Float}
+use Rattle.std.specs.Prelude.{ℕ, ◌-◌, ◌*◌, ◌≡◌, Bool, true, false, cond, ◌&&◌, List, [], ◌∷◌, leb, ltb, eqb, length, take, ℤ, Float, Result, Ok, Err}
 use Rattle.types.specs.Codes.{is_differenced}
 use Rattle.types.specs.declared.Refusal.{Refusal}
 use Rattle.types.specs.declared.Refusal.TheVariants.{Range, Length, NotFinite, ValuesSeen, Count}
-use Rattle.types.specs.declared.Answer.{Answer}
-use Rattle.types.specs.declared.Answer.TheVariants.{Done, Refused}
 use Rattle.descriptor.specs.Checks as Checks
 use Rattle.descriptor.specs.Checks.{sizes_ok, dimension, range_ok, seen_ok, last_points_ok, numbers_finite, all_finite}
 use Rattle.descriptor.specs.declared.Reading.{Reading}
@@ -17,19 +15,20 @@ use Rattle.divector.specs.DiVector.{max_gap_contribution}
 use Rattle.corrector.specs.Corrector.{predicted, expected_point, apply_basic_corrector}
 use Rattle.predictorcorrector.specs.State.{auto_adjusted, state_counts_ok}
 use Rattle.predictorcorrector.specs.declared.PredictorCorrector.{PredictorCorrector}
-use Rattle.predictorcorrector.specs.declared.Updated.{Updated}
 use Rattle.calls.specs.declared.Missing.{Missing}
 use Rattle.calls.specs.declared.Asked.{Asked}
+use Rattle.types.specs.declared.Updated.{Updated}
+use Rattle.types.specs.Refusals.{Answer}
 
 -- The first test that fails names the refusal: 2, 3, 4, then the call's own.
 unfoldable pub first_refusal : Bool → Bool → Bool → Answer → Answer
 first_refusal sizes lengths finite last =
-    cond sizes (cond lengths (cond finite last (Refused NotFinite)) (Refused Length)) (Refused Range)
+    cond sizes (cond lengths (cond finite last (Err NotFinite)) (Err Length)) (Err Range)
 
 -- What a buffer holds afterwards: the new contents of a call that was carried out.
 unfoldable pub written : Answer → List Float → List Float → List Float
-written Done new old = new
-written (Refused why) new old = old
+written (Ok _) new old = new
+written (Err why) new old = old
 
 -- ---- expected_point
 -- A start position is not beyond D - base.
@@ -49,7 +48,7 @@ expected_answer shingle base position point high low median out =
     first_refusal (sizes_ok shingle base)
     (expected_lengths (dimension shingle base) base position (length point) (length high) (length low) (length median) out)
     (expected_finite point high low median)
-    Done
+    (Ok tt)
 
 -- The buffer afterwards.
 abbrev pub expected_left : (shingle base position : ℕ) → (point high low median out : List Float) → List Float
@@ -69,7 +68,7 @@ corrector_finite point has_anomaly expected anomalous = all_finite point && last
 
 -- Refusal 5 for gap 0.
 unfoldable pub gap_answer : ℕ → Answer
-gap_answer gap = cond (eqb gap 0) (Refused ValuesSeen) Done
+gap_answer gap = cond (eqb gap 0) (Err ValuesSeen) (Ok tt)
 
 unfoldable pub corrector_answer : (shingle base gap : ℕ) → (point : List Float) → Bool → (expected anomalous : List Float) → (out : ℕ) → Answer
 corrector_answer shingle base gap point has_anomaly expected anomalous out =
@@ -94,7 +93,7 @@ missing_answer shingle base gap high low =
 -- The block, where its row starts and the indices asked for in the row.
 unfoldable pub missing_at : (high low : List Float) → (base block start : ℕ) → Missing
 missing_at high low base block start =
-    record { answer = Done; block = block; start = start; count = (asked high low start base).count; indices = (asked high low start base).indices }
+    record { block = block; start = start; count = (asked high low start base).count; indices = (asked high low start base).indices }
 
 -- The same of the block that contributes most.
 unfoldable pub missing_within : (high low : List Float) → (base gap : ℕ) → Missing
@@ -102,23 +101,23 @@ missing_within high low base gap =
     let block = block_of (max_gap_contribution high low base gap) in
     missing_at high low base block (block * base)
 
-unfoldable pub missing_by : Answer → (base gap : ℕ) → (high low : List Float) → Missing
-missing_by Done base gap high low = missing_within high low base gap
-missing_by (Refused why) base gap high low = record { answer = Refused why; block = 0; start = 0; count = 0; indices = 0 ∷ 0 ∷ 0 ∷ 0 ∷ 0 ∷ [] }
+unfoldable pub missing_by : Answer → (base gap : ℕ) → (high low : List Float) → Result Missing Refusal
+missing_by (Ok _) base gap high low = Ok (missing_within high low base gap)
+missing_by (Err why) base gap high low = Err why
 
-unfoldable pub likely_missing_indices : (shingle base gap : ℕ) → (high low : List Float) → Missing
+unfoldable pub likely_missing_indices : (shingle base gap : ℕ) → (high low : List Float) → Result Missing Refusal
 likely_missing_indices shingle base gap high low = missing_by (missing_answer shingle base gap high low) base gap high low
 
 -- What an accepted call is for: the expected point of the block's row is the point with the median at exactly these indices.
 abbrev pub AskedIndicesAreExpected : Type 0
 AskedIndicesAreExpected =
-    (shingle base gap : ℕ) (high low point median : List Float) (m : Missing) → m ≡ likely_missing_indices shingle base gap high low → m.answer ≡ Done
+    (shingle base gap : ℕ) (high low point median : List Float) (m : Missing) → likely_missing_indices shingle base gap high low ≡ Ok m
     → expected_point high low m.start base point median ≡ predicted (take m.count m.indices) median point
 
 -- ---- asked_of_forest: what the chain asks its forest for past an opening grade above 0
 -- Refusal 5 for values_seen.
 unfoldable pub seen_answer : Bool → Answer
-seen_answer ok = cond ok Done (Refused ValuesSeen)
+seen_answer ok = cond ok (Ok tt) (Err ValuesSeen)
 
 -- The tests of a reading, as far as no buffer is lent: the last anomaly's points are none.
 unfoldable pub asked_answer : (state_base : ℕ) → Reading → LastDescriptor → Answer
@@ -130,7 +129,6 @@ asked_answer state_base r l =
 -- size, with an anomaly or without.
 unfoldable pub asked_after : (gap : ℕ) → Bool → Reading → LastDescriptor → Asked
 asked_after gap auto_adjust r l = record {
-  answer = Done;
   gap = gap;
   corrected_score = is_recent l.has_anomaly gap r.shingle_size;
   near_neighbor_list = auto_adjust;
@@ -138,28 +136,17 @@ asked_after gap auto_adjust r l = record {
   use_difference = is_differenced r.transform_method;
 }
 
--- A refusal asks for nothing.
-unfoldable pub unasked : Refusal → Asked
-unasked why = record {
-  answer = Refused why;
-  gap = 0;
-  corrected_score = false;
-  near_neighbor_list = false;
-  new_attribution = false;
-  use_difference = false;
-}
+unfoldable pub asked_by : Answer → Bool → Reading → LastDescriptor → Result Asked Refusal
+asked_by (Ok _) auto_adjust r l = Ok (asked_after (gap_of r.values_seen l.has_anomaly l.anomaly.values_seen) auto_adjust r l)
+asked_by (Err why) auto_adjust r l = Err why
 
-unfoldable pub asked_by : Answer → Bool → Reading → LastDescriptor → Asked
-asked_by Done auto_adjust r l = asked_after (gap_of r.values_seen l.has_anomaly l.anomaly.values_seen) auto_adjust r l
-asked_by (Refused why) auto_adjust r l = unasked why
-
-unfoldable pub asked_of_forest : Bool → (state_base : ℕ) → Reading → LastDescriptor → Asked
+unfoldable pub asked_of_forest : Bool → (state_base : ℕ) → Reading → LastDescriptor → Result Asked Refusal
 asked_of_forest auto_adjust state_base r l = asked_by (asked_answer state_base r l) auto_adjust r l
 
 -- ---- update_auto_adjust
 -- Refusal 6 for counts that take no update.
 unfoldable pub counts_answer : Bool → Answer
-counts_answer ok = cond ok Done (Refused Count)
+counts_answer ok = cond ok (Ok tt) (Err Count)
 
 unfoldable pub adjust_answer : PredictorCorrector → ℕ → List Float → Answer
 adjust_answer s shingle point =
@@ -170,9 +157,9 @@ adjust_answer s shingle point =
 
 -- A refusal hands the state back as it came.
 unfoldable pub adjusted_by : Answer → PredictorCorrector → List Float → PredictorCorrector
-adjusted_by Done s point = auto_adjusted s point
-adjusted_by (Refused why) s point = s
+adjusted_by (Ok _) s point = auto_adjusted s point
+adjusted_by (Err why) s point = s
 
-unfoldable pub update_auto_adjust : PredictorCorrector → ℕ → List Float → Updated
+unfoldable pub update_auto_adjust : PredictorCorrector → ℕ → List Float → Updated PredictorCorrector
 update_auto_adjust s shingle point =
     record { answer = adjust_answer s shingle point; state = adjusted_by (adjust_answer s shingle point) s point }

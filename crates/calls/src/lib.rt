@@ -6,11 +6,16 @@ ghost use Rattle.descriptor.specs.Checks as Checks;
 ghost use Rattle.calls.specs.Calls as Calls;
 
 use descriptor::{LastDescriptor, Reading};
-use divector::Block;
-use predictorcorrector::{PredictorCorrector, Updated};
-use types::{Answer, Refusal};
+use predictorcorrector::PredictorCorrector;
+use types::{Refusal, Updated};
 
-fn first_refusal(sizes: bool, lengths: bool, finite: bool, last: Answer) -> Answer
+#[tactic(auto, unfolding(crate::specs::Calls::first_refusal))]
+fn first_refusal(
+    sizes: bool,
+    lengths: bool,
+    finite: bool,
+    last: Result<(), Refusal>,
+) -> Result<(), Refusal>
     ensures { result ≡ Calls.first_refusal sizes lengths finite last }
 {
     if sizes {
@@ -18,11 +23,11 @@ fn first_refusal(sizes: bool, lengths: bool, finite: bool, last: Answer) -> Answ
             if finite {
                 return last;
             }
-            return Answer::Refused(Refusal::NotFinite);
+            return Err(Refusal::NotFinite);
         }
-        return Answer::Refused(Refusal::Length);
+        return Err(Refusal::Length);
     }
-    Answer::Refused(Refusal::Range)
+    Err(Refusal::Range)
 }
 
 fn at_most(position: usize, d: usize, base: usize) -> bool
@@ -34,6 +39,7 @@ fn at_most(position: usize, d: usize, base: usize) -> bool
     position == 0
 }
 
+#[tactic(auto, unfolding(crate::specs::Calls::expected_answer, crate::specs::Calls::expected_lengths, crate::specs::Calls::expected_finite))]
 fn expected_answer(
     shingle_size: usize,
     base: usize,
@@ -43,7 +49,7 @@ fn expected_answer(
     low: &[f64],
     median: &[f32],
     out: usize,
-) -> Answer
+) -> Result<(), Refusal>
     ensures { result ≡ Calls.expected_answer
         shingle_size base position point.now high.now low.now median.now out }
 {
@@ -54,10 +60,10 @@ fn expected_answer(
             & ((high.len() == d)
                 & ((low.len() == d)
                     & ((median.len() == d) & ((out == d) & at_most(position, d, base))))),
-        descriptor::all_finite_f32(point)
-            & (descriptor::all_finite_f64(high)
-                & (descriptor::all_finite_f64(low) & descriptor::all_finite_f32(median))),
-        Answer::Done,
+        descriptor::all_finite(point)
+            & (descriptor::all_finite(high)
+                & (descriptor::all_finite(low) & descriptor::all_finite(median))),
+        Ok(()),
     )
 }
 
@@ -71,11 +77,11 @@ pub fn expected_point(
     low: &[f64],
     median: &[f32],
     out: &mut [f32],
-) -> Answer
-    ensures fact_1 { result ≡ Calls.expected_answer
+) -> Result<(), Refusal>
+    ensures answer { result ≡ Calls.expected_answer
         shingle_size base position point.now high.now low.now median.now
         (length out.old) }
-    ensures fact_2 { out.new ≡ Calls.expected_left
+    ensures buffer { out.new ≡ Calls.expected_left
         shingle_size base position point.now high.now low.now median.now
         out.old }
 {
@@ -90,38 +96,42 @@ pub fn expected_point(
         out.len(),
     );
     match answer {
-        Answer::Done => {
+        Ok(()) => {
             corrector::write_expected_point(high, low, position, base, point, median, out);
             answer
         }
-        Answer::Refused(_) => answer,
+        Err(_) => answer,
     }
 }
 
-fn gap_answer(gap: usize) -> Answer
+#[tactic(auto, unfolding(crate::specs::Calls::gap_answer))]
+fn gap_answer(gap: usize) -> Result<(), Refusal>
     ensures { result ≡ Calls.gap_answer gap }
 {
     if gap == 0 {
-        return Answer::Refused(Refusal::ValuesSeen);
+        return Err(Refusal::ValuesSeen);
     }
-    Answer::Done
+    Ok(())
 }
 
+#[tactic(auto, unfolding(crate::specs::Calls::corrector_finite))]
 fn corrector_finite(point: &[f32], has_anomaly: bool, expected: &[f32], anomalous: &[f32]) -> bool
     ensures { result ≡ Calls.corrector_finite point.now has_anomaly expected.now anomalous.now }
 {
-    descriptor::all_finite_f32(point) & both_finite(has_anomaly, expected, anomalous)
+    descriptor::all_finite(point) & both_finite(has_anomaly, expected, anomalous)
 }
 
+#[tactic(auto, unfolding(crate::specs::Calls::last_finite))]
 fn both_finite(has_anomaly: bool, expected: &[f32], anomalous: &[f32]) -> bool
     ensures { result ≡ Calls.last_finite has_anomaly expected.now anomalous.now }
 {
     if has_anomaly {
-        return descriptor::all_finite_f32(expected) & descriptor::all_finite_f32(anomalous);
+        return descriptor::all_finite(expected) & descriptor::all_finite(anomalous);
     }
     true
 }
 
+#[tactic(auto, unfolding(crate::specs::Calls::corrector_answer, crate::specs::Calls::corrector_lengths))]
 fn corrector_answer(
     shingle_size: usize,
     base: usize,
@@ -131,7 +141,7 @@ fn corrector_answer(
     expected: &[f32],
     anomalous: &[f32],
     out: usize,
-) -> Answer
+) -> Result<(), Refusal>
     ensures { result ≡ Calls.corrector_answer
         shingle_size base gap point.now has_anomaly expected.now anomalous.now out }
 {
@@ -159,11 +169,11 @@ pub fn apply_basic_corrector(
     use_difference: bool,
     time_augmented: bool,
     out: &mut [f32],
-) -> Answer
-    ensures fact_1 { result ≡ Calls.corrector_answer
+) -> Result<(), Refusal>
+    ensures answer { result ≡ Calls.corrector_answer
         shingle_size base gap point.now has_anomaly last_expected.now
         last_anomalous.now (length out.old) }
-    ensures fact_2 { out.new ≡ Calls.corrector_left
+    ensures buffer { out.new ≡ Calls.corrector_left
         shingle_size base gap point.now has_anomaly last_expected.now
         last_anomalous.now relative_index use_difference time_augmented out.old }
 {
@@ -178,7 +188,7 @@ pub fn apply_basic_corrector(
         out.len(),
     );
     match answer {
-        Answer::Done => {
+        Ok(()) => {
             corrector::write_corrected_point(
                 point,
                 gap,
@@ -194,41 +204,47 @@ pub fn apply_basic_corrector(
             );
             answer
         }
-        Answer::Refused(_) => answer,
+        Err(_) => answer,
     }
 }
 
 // What the forest's conditional field is asked for behind an attribution: the block that contributes most, where its row starts, and the likely missing indices of
-// the row. The places from `count` on hold 0; a refusal has no block and no indices, all zero.
+// the row. The places from `count` on hold 0, as C is handed them.
 #[derive(Clone, Copy)]
 pub struct Missing {
-    pub answer: Answer,
     pub block: usize,
     pub start: usize,
     pub count: usize,
     pub indices: [usize; 5],
 }
 
-fn missing_answer(shingle_size: usize, base: usize, gap: usize, high: &[f64], low: &[f64]) -> Answer
+#[tactic(auto, unfolding(crate::specs::Calls::missing_answer))]
+fn missing_answer(
+    shingle_size: usize,
+    base: usize,
+    gap: usize,
+    high: &[f64],
+    low: &[f64],
+) -> Result<(), Refusal>
     ensures { result ≡ Calls.missing_answer shingle_size base gap high.now low.now }
 {
     let d = descriptor::dimension(shingle_size, base);
     first_refusal(
         descriptor::sizes_ok(shingle_size, base),
         (high.len() == d) & (low.len() == d),
-        descriptor::all_finite_f64(high) & descriptor::all_finite_f64(low),
+        descriptor::all_finite(high) & descriptor::all_finite(low),
         gap_answer(gap),
     )
 }
 
 // What is asked for behind a block that starts at `start`.
+#[tactic(auto, unfolding(crate::specs::Calls::missing_at))]
 fn missing_at(high: &[f64], low: &[f64], base: usize, block: usize, start: usize) -> Missing
     ensures { result ≡ Calls.missing_at high.now low.now base block start }
 {
     let asked = attributors::asked_indices(high, low, start, base);
     let indices = asked.indices;
     Missing {
-        answer: Answer::Done,
         block,
         start,
         count: asked.count,
@@ -241,8 +257,8 @@ fn missing_within(high: &[f64], low: &[f64], base: usize, gap: usize) -> Missing
 {
     let found = divector::max_gap_contribution(high, low, base, gap);
     match found {
-        Block::At(block) => missing_at(high, low, base, block, block * base),
-        Block::Refused(_) => missing_at(high, low, base, 0, 0),
+        Ok(block) => missing_at(high, low, base, block, block * base),
+        Err(_) => missing_at(high, low, base, 0, 0),
     }
 }
 
@@ -254,20 +270,11 @@ pub fn likely_missing_indices(
     gap: usize,
     high: &[f64],
     low: &[f64],
-) -> Missing
+) -> Result<Missing, Refusal>
     ensures { result ≡ Calls.likely_missing_indices shingle_size base gap high.now low.now }
 {
-    let answer = missing_answer(shingle_size, base, gap, high, low);
-    match answer {
-        Answer::Done => missing_within(high, low, base, gap),
-        Answer::Refused(_) => Missing {
-            answer,
-            block: 0,
-            start: 0,
-            count: 0,
-            indices: [0, 0, 0, 0, 0],
-        },
-    }
+    missing_answer(shingle_size, base, gap, high, low)?;
+    Ok(missing_within(high, low, base, gap))
 }
 
 // Holds the law to its statement.
@@ -276,24 +283,14 @@ fn asked_indices_are_expected()
 {}
 
 // What detect_and_modify asks its forest for past an opening grade above 0, beside the corrected point's attribution and the conditional field: the corrected point's
-// score, the neighbours, the expected point's attribution (the Rust's `new_attribution`); and the gap and `use_difference` that it hands to its corrector. A refusal
-// asks for nothing: no gap, and no to the rest.
+// score, the neighbours, the expected point's attribution (the Rust's `new_attribution`); and the gap and `use_difference` that it hands to its corrector.
 #[derive(Clone, Copy)]
 pub struct Asked {
-    pub answer: Answer,
     pub gap: usize,
     pub corrected_score: bool,
     pub near_neighbor_list: bool,
     pub new_attribution: bool,
     pub use_difference: bool,
-}
-
-fn numbers_finite(r: Reading, l: LastDescriptor) -> bool
-    ensures { result ≡ Checks.numbers_finite r l }
-{
-    ieee::is_finite(r.score)
-        & (ieee::is_finite(r.corrected_score)
-            & (ieee::is_finite(l.score) & ieee::is_finite(l.threshold)))
 }
 
 // The last anomaly's score, behind its yes/no. Its points are not lent.
@@ -307,34 +304,36 @@ fn anomaly_finite(l: LastDescriptor) -> bool
     true
 }
 
-fn seen_answer(ok: bool) -> Answer
+#[tactic(auto, unfolding(crate::specs::Calls::seen_answer))]
+fn seen_answer(ok: bool) -> Result<(), Refusal>
     ensures { result ≡ Calls.seen_answer ok }
 {
     if ok {
-        return Answer::Done;
+        return Ok(());
     }
-    Answer::Refused(Refusal::ValuesSeen)
+    Err(Refusal::ValuesSeen)
 }
 
-fn asked_answer(state_base: usize, r: Reading, l: LastDescriptor) -> Answer
+#[tactic(auto, unfolding(crate::specs::Calls::asked_answer))]
+fn asked_answer(state_base: usize, r: Reading, l: LastDescriptor) -> Result<(), Refusal>
     ensures { result ≡ Calls.asked_answer state_base r l }
 {
     let anomaly = l.anomaly;
     first_refusal(
         descriptor::range_ok(r.shingle_size, r.base_dimension, state_base),
         true,
-        numbers_finite(r, l) & anomaly_finite(l),
+        descriptor::numbers_finite(r, l) & anomaly_finite(l),
         seen_answer(descriptor::seen_ok(r.values_seen, l.has_anomaly, anomaly.values_seen)),
     )
 }
 
 // What is asked for so long after the last anomaly, or the start.
+#[tactic(auto, unfolding(crate::specs::Calls::asked_after))]
 fn asked_after(gap: usize, auto_adjust: bool, r: Reading, l: LastDescriptor) -> Asked
     ensures { result ≡ Calls.asked_after gap auto_adjust r l }
 {
     let method = r.transform_method;
     Asked {
-        answer: Answer::Done,
         gap,
         corrected_score: scoring::is_recent(l.has_anomaly, gap, r.shingle_size),
         near_neighbor_list: auto_adjust,
@@ -344,54 +343,55 @@ fn asked_after(gap: usize, auto_adjust: bool, r: Reading, l: LastDescriptor) -> 
 }
 
 // The forest's part in a reading past its opening grade; auto adjust and base are the state's.
-pub fn asked_of_forest(auto_adjust: bool, state_base: usize, r: Reading, l: LastDescriptor) -> Asked
+pub fn asked_of_forest(
+    auto_adjust: bool,
+    state_base: usize,
+    r: Reading,
+    l: LastDescriptor,
+) -> Result<Asked, Refusal>
     ensures { result ≡ Calls.asked_of_forest auto_adjust state_base r l }
 {
-    let answer = asked_answer(state_base, r, l);
-    match answer {
-        Answer::Done => asked_after(scoring::gap(r, l), auto_adjust, r, l),
-        Answer::Refused(_) => Asked {
-            answer,
-            gap: 0,
-            corrected_score: false,
-            near_neighbor_list: false,
-            new_attribution: false,
-            use_difference: false,
-        },
-    }
+    asked_answer(state_base, r, l)?;
+    Ok(asked_after(scoring::gap(r, l), auto_adjust, r, l))
 }
 
-fn counts_answer(ok: bool) -> Answer
+#[tactic(auto, unfolding(crate::specs::Calls::counts_answer))]
+fn counts_answer(ok: bool) -> Result<(), Refusal>
     ensures { result ≡ Calls.counts_answer ok }
 {
     if ok {
-        return Answer::Done;
+        return Ok(());
     }
-    Answer::Refused(Refusal::Count)
+    Err(Refusal::Count)
 }
 
-fn adjust_answer(s: PredictorCorrector, shingle_size: usize, point: &[f32]) -> Answer
+#[tactic(auto, unfolding(crate::specs::Calls::adjust_answer))]
+fn adjust_answer(s: PredictorCorrector, shingle_size: usize, point: &[f32]) -> Result<(), Refusal>
     ensures { result ≡ Calls.adjust_answer s shingle_size point.now }
 {
     let base = s.base_dimension as usize;
     first_refusal(
         descriptor::sizes_ok(shingle_size, base),
         point.len() == descriptor::dimension(shingle_size, base),
-        descriptor::all_finite_f32(point),
+        descriptor::all_finite(point),
         counts_answer(s.counts_ok()),
     )
 }
 
 // Within a run with auto adjust, counts the oldest row of the point.
-pub fn update_auto_adjust(s: PredictorCorrector, shingle_size: usize, point: &[f32]) -> Updated
+pub fn update_auto_adjust(
+    s: PredictorCorrector,
+    shingle_size: usize,
+    point: &[f32],
+) -> Updated<PredictorCorrector>
     ensures { result ≡ Calls.update_auto_adjust s shingle_size point.now }
 {
     let answer = adjust_answer(s, shingle_size, point);
     match answer {
-        Answer::Done => Updated {
+        Ok(()) => Updated {
             answer,
             state: s.auto_adjusted(point),
         },
-        Answer::Refused(_) => Updated { answer, state: s },
+        Err(_) => Updated { answer, state: s },
     }
 }

@@ -9,45 +9,20 @@
 // descriptor, 23 bytes each.
 #![tactic(auto)]
 
-ghost use Rattle.std.specs.Prelude.{◌<◌};
-
 use std::io;
 use std::io::{ErrorKind, Read};
 
 // The bytes of a stored state.
 const STATE_LENGTH: usize = 1310;
 
-fn wide(b: u8) -> u32
-    ensures { result < 0x100 }
-{
-    b as u32
-}
-
-// A float takes its four bytes one after the other, and is right with the last.
+// The 80 floats behind the head.
 fn reals(b: &[u8; 336]) -> [f32; 80] {
     let mut out = [0.0f32; 80];
-    let mut word = 0u32;
-    let mut i = 0usize;
-    while i < 320 {
-        word = (word >> 8) | (wide(b[16 + i]) << 24);
-        out[i / 4] = ieee::f32_from_bits(word);
-        i += 1;
+    let (fours, _) = b[16..].as_chunks::<4>();
+    for (x, four) in out.iter_mut().zip(fours) {
+        *x = ieee::f32_from_bits(u32::from_le_bytes(*four));
     }
     out
-}
-
-fn wides(x: &[f32; 80]) -> [f64; 80] {
-    let mut out = [0.0f64; 80];
-    let mut i = 0usize;
-    while i < 80 {
-        out[i] = ieee::widen(x[i]);
-        i += 1;
-    }
-    out
-}
-
-fn size(b: u8) -> usize {
-    b as usize
 }
 
 fn below_zero(b: u8) -> i32 {
@@ -77,73 +52,42 @@ struct Head {
 
 fn head_of(b: &[u8; 336]) -> Head {
     Head {
-        shingle_size: size(b[1]),
-        base_dimension: size(b[2]),
-        at: size(b[3]),
+        shingle_size: usize::from(b[1]),
+        base_dimension: usize::from(b[2]),
+        at: usize::from(b[3]),
         has_anomaly: b[4],
         use_difference: b[5],
         time_augmented: b[6],
         relative_index: below_zero(b[7]),
-        point: size(b[8]),
-        second: size(b[9]),
-        third: size(b[10]),
-        high: size(b[11]),
-        low: size(b[12]),
-        out: size(b[13]),
+        point: usize::from(b[8]),
+        second: usize::from(b[9]),
+        third: usize::from(b[10]),
+        high: usize::from(b[11]),
+        low: usize::from(b[12]),
+        out: usize::from(b[13]),
     }
 }
 
 // Of each of these `n` elements from `at` on, or all where there are fewer.
-fn row(x: &[f32], at: usize, n: usize) -> &[f32] {
-    if at <= x.len() {
-        if n <= x.len() - at {
-            return &x[at..at + n];
-        }
-    }
-    x
-}
-
-fn wide_row(x: &[f64], at: usize, n: usize) -> &[f64] {
-    if at <= x.len() {
-        if n <= x.len() - at {
-            return &x[at..at + n];
-        }
-    }
-    x
+fn row<T>(x: &[T], at: usize, n: usize) -> &[T] {
+    x.get(at..).and_then(|rest| rest.get(..n)).unwrap_or(x)
 }
 
 fn mix(sum: u64, bits: u64) -> u64 {
-    std::num::wrapping_add_u64((sum << 7) | (sum >> 57), bits)
+    sum.rotate_left(7).wrapping_add(bits)
 }
 
-fn mix_floats(x: [f32; 16]) -> u64 {
-    let mut sum = 0u64;
-    let mut i = 0usize;
-    while i < 16 {
-        sum = mix(sum, ieee::f32_to_bits(x[i]) as u64);
-        i += 1;
-    }
-    sum
+fn mix_floats(x: &[f32; 16]) -> u64 {
+    x.iter()
+        .fold(0, |sum, x| mix(sum, u64::from(ieee::f32_to_bits(*x))))
 }
 
-fn mix_bytes(x: [u8; STATE_LENGTH]) -> u64 {
-    let mut sum = 0u64;
-    let mut i = 0usize;
-    while i < STATE_LENGTH {
-        sum = mix(sum, wide(x[i]) as u64);
-        i += 1;
-    }
-    sum
+fn mix_bytes(x: &[u8; STATE_LENGTH]) -> u64 {
+    x.iter().fold(0, |sum, b| mix(sum, u64::from(*b)))
 }
 
-fn mix_numbers(x: [usize; 8]) -> u64 {
-    let mut sum = 0u64;
-    let mut i = 0usize;
-    while i < 8 {
-        sum = mix(sum, x[i] as u64);
-        i += 1;
-    }
-    sum
+fn mix_numbers(x: &[usize; 8]) -> u64 {
+    x.iter().fold(0, |sum, n| mix(sum, *n as u64))
 }
 
 // The refusal's number or 0, and the checksum.
@@ -161,14 +105,14 @@ fn expected_point(h: Head, x: &[f32], w: &[f64]) -> Said {
         h.base_dimension,
         h.at,
         row(x, 0, h.point),
-        wide_row(w, 48, h.high),
-        wide_row(w, 64, h.low),
+        row(w, 48, h.high),
+        row(w, 64, h.low),
         row(x, 16, h.second),
         &mut out[..n],
     );
     Said {
         number,
-        sum: mix_floats(out),
+        sum: mix_floats(&out),
     }
 }
 
@@ -190,29 +134,21 @@ fn apply_basic_corrector(h: Head, x: &[f32]) -> Said {
     );
     Said {
         number,
-        sum: mix_floats(out),
+        sum: mix_floats(&out),
     }
-}
-
-fn blank_state() -> [u8; STATE_LENGTH] {
-    [0u8; STATE_LENGTH]
 }
 
 // Fills `out`; no where the input ends before.
 fn fill(input: &mut impl Read, out: &mut [u8]) -> io::Result<bool> {
     match input.read_exact(out) {
         Ok(()) => Ok(true),
-        Err(e) => {
-            if e.kind() == ErrorKind::UnexpectedEof {
-                return Ok(false);
-            }
-            Err(e)
-        }
+        Err(e) if e.kind() == ErrorKind::UnexpectedEof => Ok(false),
+        Err(e) => Err(e),
     }
 }
 
 fn update_auto_adjust(input: &mut impl Read, h: Head, x: &[f32]) -> io::Result<Said> {
-    let mut state = blank_state();
+    let mut state = [0u8; STATE_LENGTH];
     fill(input, &mut state)?;
     let n = STATE_LENGTH - h.out % 2;
     let number = c_calls::krcf_update_auto_adjust(
@@ -222,7 +158,7 @@ fn update_auto_adjust(input: &mut impl Read, h: Head, x: &[f32]) -> io::Result<S
     );
     Ok(Said {
         number,
-        sum: mix_bytes(state),
+        sum: mix_bytes(&state),
     })
 }
 
@@ -233,26 +169,22 @@ fn likely_missing_indices(h: Head, w: &[f64]) -> Said {
         h.shingle_size,
         h.base_dimension,
         h.at,
-        wide_row(w, 48, h.high),
-        wide_row(w, 64, h.low),
+        row(w, 48, h.high),
+        row(w, 64, h.low),
         &mut out[..n],
     );
     Said {
         number,
-        sum: mix_numbers(out),
+        sum: mix_numbers(&out),
     }
 }
 
-fn blank_numbers() -> [u8; 23] {
-    [0u8; 23]
-}
-
 fn asked_of_forest(input: &mut impl Read, h: Head) -> io::Result<Said> {
-    let mut state = blank_state();
+    let mut state = [0u8; STATE_LENGTH];
     fill(input, &mut state)?;
-    let mut reading = blank_numbers();
+    let mut reading = [0u8; 23];
     fill(input, &mut reading)?;
-    let mut last = blank_numbers();
+    let mut last = [0u8; 23];
     fill(input, &mut last)?;
     let mut out = [9usize; 8];
     let s = STATE_LENGTH - h.shingle_size % 2;
@@ -267,14 +199,14 @@ fn asked_of_forest(input: &mut impl Read, h: Head) -> io::Result<Said> {
     );
     Ok(Said {
         number,
-        sum: mix_numbers(out),
+        sum: mix_numbers(&out),
     })
 }
 
 fn call(input: &mut impl Read, b: &[u8; 336]) -> io::Result<Said> {
     let h = head_of(b);
     let singles = reals(b);
-    let doubles = wides(&singles);
+    let doubles = singles.map(ieee::widen);
     let x = &singles[..];
     let w = &doubles[..];
     match b[0] {
@@ -286,29 +218,16 @@ fn call(input: &mut impl Read, b: &[u8; 336]) -> io::Result<Said> {
     }
 }
 
-fn write_line(rt: &impl Print, operation: u8, said: Said) -> io::Result<()> {
-    println!(rt;
-        "{:04x}{:016x}",
-        wide(operation) * 0x100 + wide(said.number),
-        said.sum
-    )
-}
-
-fn blank() -> [u8; 336] {
-    [0u8; 336]
-}
-
 // Up to 1000 calls, to the end of the input.
 fn main(rt: HostRuntime) -> io::Result<()> {
     let mut input = rt.reader();
-    let mut k = 0usize;
-    while k < 1000 {
-        let mut bytes = blank();
+    for _ in 0..1000 {
+        let mut bytes = [0u8; 336];
         if !fill(&mut input, &mut bytes)? {
             return Ok(());
         }
-        write_line(&rt, bytes[0], call(&mut input, &bytes)?)?;
-        k += 1;
+        let said = call(&mut input, &bytes)?;
+        println!(rt; "{:02x}{:02x}{:016x}", bytes[0], said.number, said.sum)?;
     }
     Ok(())
 }

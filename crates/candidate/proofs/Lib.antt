@@ -1,2 +1,1 @@
-mod Conditions
 pub mod Last

@@ -16,12 +16,10 @@ use util::{absf32, maxf32};
 fn same_strategy(a: ScoringStrategy, b: ScoringStrategy) -> bool
     ensures { result ≡ Candidate.same_strategy a b }
 {
-    if a.is_height() {
-        return b.is_height();
-    }
-    !b.is_height()
+    a == b
 }
 
+#[tactic(auto, unfolding(crate::specs::Candidate::run_share))]
 fn run_share(run_length: u32, shingle_size: u32) -> f32
     ensures { result ≡ Candidate.run_share run_length shingle_size }
 {
@@ -31,6 +29,7 @@ fn run_share(run_length: u32, shingle_size: u32) -> f32
     )
 }
 
+#[tactic(auto, unfolding(crate::specs::Candidate::still_high))]
 fn still_high(score: f32, threshold: f32, last_score: f32, last_threshold: f32, share: f32) -> bool
     ensures { result ≡ Candidate.still_high score threshold last_score last_threshold share }
 {
@@ -41,6 +40,7 @@ fn still_high(score: f32, threshold: f32, last_score: f32, last_threshold: f32, 
 }
 
 // Whether a reading is one of a run.
+#[tactic(auto, unfolding(crate::specs::Candidate::is_candidate))]
 pub fn is_candidate(
     r: Reading,
     l: LastDescriptor,
@@ -60,6 +60,7 @@ pub fn is_candidate(
 }
 
 // One coordinate of the drift test; each root once.
+#[tactic(auto, unfolding(crate::specs::Candidate::near_means))]
 fn near_means(
     actual: Deviation,
     expected: Deviation,
@@ -92,10 +93,7 @@ fn value_at(xs: &[f32], i: usize) -> f32
 pub fn last_place(base: usize) -> usize
     ensures { result ≡ base - 1 }
 {
-    if 1 <= base {
-        return base - 1;
-    }
-    0
+    base.saturating_sub(1)
 }
 
 // The last entry of a list with a row's number counted.
@@ -106,6 +104,7 @@ fn last_counted(entry: Deviation, value: f32) -> Deviation
 }
 
 // The drift test of the last coordinate, which alone decides, where it is due: by the last entries of the two lists, as they came.
+#[tactic(auto, unfolding(crate::specs::Candidate::near_next))]
 fn is_drift_at(
     due: bool,
     base: usize,
@@ -133,6 +132,7 @@ fn is_drift_at(
 }
 
 // Whether a reading past the other exits is data drift: of the lists, only the last entries are looked at.
+#[tactic(auto, unfolding(crate::specs::Candidate::drift_at))]
 pub fn is_data_drift(
     r: Reading,
     l: LastDescriptor,
@@ -162,6 +162,7 @@ pub fn is_data_drift(
 }
 
 // The state with the newest rows counted, of a candidate; left alone where one of the rows cannot be.
+#[tactic(auto, unfolding(crate::specs::Candidate::candidate_with))]
 pub fn count_rows(
     s: PredictorCorrector,
     r: Reading,

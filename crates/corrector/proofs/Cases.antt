@@ -1,10 +1,9 @@
 -- Edges of the calls beside document 01's drill sheet, computed on the definitions.
-use Rattle.std.proofs.Common.{◌≡◌, ℕ, Bool, true, false, List, [], ◌∷◌, map, ℤ, pos, negsuc, refl}
+use Rattle.std.proofs.Common.{◌≡◌, ℕ, Bool, true, false, List, [], ◌∷◌, map, ℤ, pos, negsuc, refl, Err}
 use lib.Ieee as Ieee
 use lib.Ieee.{Float, binary32, binary64}
 use Rattle.corrector.specs.Corrector as Corrector
 use Rattle.types.specs.declared.Refusal.TheVariants.{Length}
-use Rattle.types.specs.declared.Answer.TheVariants.{Refused}
 use Rattle.descriptor.specs.Checks.{sizes_ok, dimension}
 use Rattle.attributors.specs.Attributors as Attributors
 use Rattle.corrector.specs.Corrector.{apply_basic_corrector, expected_point, trigger, point_fits, newest_row_answer, newest_row}
@@ -61,7 +60,7 @@ unfolding trigger Corrector.trigger_fits Corrector.exceeds Corrector.differentia
 triggers = refl
 
 -- A point of another length.
-refusal : newest_row_answer 3 2 5 ≡ Refused Length
+refusal : newest_row_answer 3 2 5 ≡ Err Length
 unfolding newest_row_answer sizes_ok dimension
 refusal = refl
 

@@ -1,9 +1,8 @@
 -- For callers: what the expected and the corrected point keep of the point, and that sizes which fit are taken. Assumes nothing.
-use Rattle.std.proofs.Common.{◌≡◌, ℕ, zero, suc, ◌+◌, ◌-◌, ◌*◌, ◌<◌, ◌≤◌, Bool, true, false, cond, not, ◌&&◌, ◌||◌, eqb, ltb, ◌⊎◌, List, [], ◌∷◌, length, get_or, set, ℤ, sym, refl, ◌∙◌, inl, inr, le_of_lt, mul-le-mul_right, arith, length-append, length-drop, length-set, get_or-set_other, ltb-true, lt-ltb, eq-eqb, le-leb}
+use Rattle.std.proofs.Common.{◌≡◌, ℕ, zero, suc, ◌+◌, ◌-◌, ◌*◌, ◌<◌, ◌≤◌, Bool, true, false, cond, not, ◌&&◌, ◌||◌, eqb, ltb, ◌⊎◌, List, [], ◌∷◌, length, get_or, set, ℤ, sym, refl, ◌∙◌, inl, inr, le_of_lt, mul-le-mul_right, arith, length-append, length-drop, length-set, get_or-set_other, ltb-true, lt-ltb, eq-eqb, le-leb, Ok, Err}
 use lib.Ieee.{Float, nan}
 use Rattle.types.specs.Refusals.{answered}
 use Rattle.types.specs.declared.Refusal.TheVariants.{Range, Length}
-use Rattle.types.specs.declared.Answer.TheVariants.{Done, Refused}
 use Rattle.descriptor.specs.Checks.{sizes_ok, dimension, last_points_ok}
 use Rattle.attributors.specs.Attributors.{asked_indices, asked, missing}
 use Rattle.attributors.proofs.Laws.{Within, asked_within, Row, row_fits_lem, asked_row}
@@ -113,7 +112,7 @@ pub fits_answered : (shingle base len : ℕ) → answered (newest_row_answer shi
 unfolding point_fits newest_row_answer
 fits_answered shingle base len = by_tests (sizes_ok shingle base) (eqb len (dimension shingle base))
   where
-    by_tests : (t u : Bool) → answered (cond t (cond u Done (Refused Length)) (Refused Range)) ≡ 0 → (t && u) ≡ true
+    by_tests : (t u : Bool) → answered (cond t (cond u (Ok tt) (Err Length)) (Err Range)) ≡ 0 → (t && u) ≡ true
     by_tests true true h = refl
     by_tests true false h = absurd (omega arith)
     by_tests false u h = absurd (omega arith)

@@ -1,27 +1,13 @@
 -- What loops and callers cite: a turn of a loop and its end, copies, what a test that held says. Assumes nothing.
-use Rattle.std.proofs.Common.{◌≡◌, ℕ, zero, suc, ◌+◌, ◌-◌, ◌*◌, ◌<◌, ◌≤◌, Bool, true, false, cond, ◌||◌, eqb, ltb, List, [], length, get_or, take, drop, set, ℤ, pos, negsuc, sym, refl, ap, ◌∙◌, ap₂, inl, inr, append-nil, suc-mul, eq-or-lt_of_le, zero-add, add-one, arith, length-drop, drop_of_length-le, get_or-drop, take_all, w32, SFits, to_z, of_z, ltb-true, le-ltb, lt-ltb, ne_eqb, eqb-true, leb-true}
-use lib.Seq.{paste, paste-suc, take-length, take-paste, length-paste, drop-length, take-nil}
+use Rattle.std.proofs.Common.{◌≡◌, ℕ, zero, suc, ◌+◌, ◌-◌, ◌*◌, ◌<◌, ◌≤◌, Bool, true, false, cond, ◌||◌, eqb, ltb, List, [], ◌++◌, length, take, drop, ℤ, pos, negsuc, sym, refl, ap, ◌∙◌, ap₂, inl, inr, append-nil, suc-mul, eq-or-lt_of_le, arith, length-drop, drop_of_length-le, take_at, take_all, w32, SFits, to_z, of_z, ltb-true, le-ltb, lt-ltb, ne_eqb, eqb-true, leb-true}
+use lib.Seq.{drop-length, take-nil}
 use lib.Ieee.{Float}
 use mir.ValLaws.{to_z-of_z}
 use Rattle.descriptor.specs.Checks.{sizes_ok, dimension}
 use Rattle.descriptor.proofs.Bounds.{sizes, dimension_is, base_inside, last_points}
 use Rattle.attributors.proofs.Laws.{both, row_of}
-pub use Rattle.attributors.proofs.Laws.{for_more, at_end}
 use Rattle.corrector.specs.Corrector.{is_zero, expected_fits, trigger_fits, point_fits, corrector_fits, shifted, newest_row}
 use Rattle.corrector.specs.Steps.{Expecting, Triggering, Accepted, Correcting}
-
-module _ {A : Type 0} where
-  -- A turn of the loop that copies from `from` on.
-  pub paste_more : (out d : List A) (at : ℕ) (s : List A) (from k : ℕ) (z : A) → at + k < length d → from + k < length s
-      → out ≡ paste d at (drop from s) k → set out (at + k) (get_or s (from + k) z) ≡ paste d at (drop from s) (k + 1)
-  paste_more out d at s from k z hd hs e =
-      ap₂ (λ (l : List A) (x : A). set l (at + k) x) e (sym (get_or-drop from s k z))
-      ∙ paste-suc d at (drop from s) k z hd (simp length-drop (omega arith))
-      ∙ ap (paste d at (drop from s)) (sym (add-one k))
-
-  -- A whole list copied over one of its length.
-  pub copied : (out s : List A) → length out ≡ length s → paste out 0 (drop 0 s) (length s) ≡ s
-  copied out s e = simp (take-length, zero-add, drop_of_length-le out {i = length s} (omega arith), append-nil)
 
 -- A row's width, and the rows before the last of `gap`, within all of them.
 pub rows : (gap base : ℕ) → 0 < gap → (gap - 1) * base + base ≡ gap * base
@@ -110,18 +96,20 @@ correcting point gap shingle base h expected anomalous out e =
 
 module _ (point expected : List Float) (shift : ℕ) (within : shift ≤ length point) (same : length expected ≡ length point) where
   -- Two copies make the shifted point.
-  pub shifted_is : (out first second : List Float) → length out ≡ length point → first ≡ paste out 0 (drop shift expected) (length point - shift)
-      → second ≡ paste first (length point - shift) (drop (length point - shift) point) shift → second ≡ shifted point expected shift
+  pub shifted_is : (out first second : List Float) → length out ≡ length point → first ≡ take (length expected - shift) (drop shift expected)
+      → second ≡ take (length point - (length point - shift)) (drop (length point - shift) point)
+      → take (length point - shift) (first ++ drop (length point - shift) out)
+      ++ (second ++ drop (length (first ++ drop (length point - shift) out) - (length point - shift)) (drop (length point - shift) (first ++ drop (length point - shift) out)))
+      ≡ shifted point expected shift
   unfolding shifted
   shifted_is out first second l e₁ e₂ =
       let kept : ℕ = length point - shift in
-      let room : kept ≤ length (drop shift expected) = simp length-drop (omega arith) in
-      let head : take kept (paste out 0 (drop shift expected) kept) ≡ take kept (drop shift expected) = rw zero-add (rw zero-add at (take-paste out 0 (drop shift expected) kept (omega arith) room)) in
-      let front : take kept first ≡ drop shift expected =
-      ap (take kept) e₁ ∙ head ∙ take_all kept (drop shift expected) (simp length-drop (omega arith)) in
-      let long : length first ≡ length point = ap length e₁ ∙ length-paste out 0 (drop shift expected) kept (omega arith) room ∙ l in
-      let none : drop (kept + shift) first ≡ [] = drop_of_length-le first {i = kept + shift} (omega arith) in
-      e₂ ∙ simp (front, none, append-nil, take_all shift (drop kept point) (simp length-drop (omega arith)))
+      let f : first ≡ drop shift expected = e₁ ∙ take_all _ (drop shift expected) (simp length-drop (omega arith)) in
+      let s : second ≡ drop kept point = e₂ ∙ take_all _ (drop kept point) (simp length-drop (omega arith)) in
+      let long : length first ≡ kept = ap length f ∙ simp length-drop (omega arith) in
+      let head : take kept (first ++ drop kept out) ≡ first = take_at first (drop kept out) kept long in
+      let none : drop (length (first ++ drop kept out) - kept) (drop kept (first ++ drop kept out)) ≡ [] = drop_of_length-le (drop kept (first ++ drop kept out)) {i = length (first ++ drop kept out) - kept} (simp length-drop (omega arith)) in
+      rw (head, none, append-nil) (ap₂ (λ (a b : List Float). a ++ b) f s)
 
 -- With a gap of the whole shingle nothing is shifted.
 pub start_is : (point expected : List Float) (gap shingle base : ℕ) → length expected ≡ length point → length point ≡ shingle * base → gap ≤ shingle

@@ -1,11 +1,11 @@
 -- The row of the expected point: how it is made, and that the point with it in its place is the expected point. Assumes nothing.
-use Rattle.std.proofs.Common.{◌≡◌, ℕ, zero, suc, ◌+◌, ◌-◌, ◌<◌, ◌≤◌, Bool, true, false, cond, List, [], ◌∷◌, ◌++◌, length, get_or, take, drop, set, sym, refl, ap, ◌∙◌, ap₂, add-one, arith, length-drop, length-set, take-append-drop, length-take, length-take-le, get_or-drop, take-suc, drop-set-lt, take-add}
+use Rattle.std.proofs.Common.{◌≡◌, ℕ, zero, suc, ◌+◌, ◌-◌, ◌<◌, ◌≤◌, Bool, true, false, cond, List, [], ◌∷◌, ◌++◌, length, get_or, take, drop, set, sym, refl, ap, ◌∙◌, ap₂, arith, length-drop, length-set, take-append-drop, length-take, length-take-le, drop-set-lt, take-add}
 use lib.Seq.{paste, take-set-lt, take-set-le, drop-set-add}
 use lib.Ieee.{Float, nan}
 use Rattle.ieee.specs.F32.{zero32}
 use Rattle.attributors.specs.Attributors.{asked_indices, missing, padded, row_fits}
 use Rattle.attributors.specs.declared.Missing.{Missing}
-use Rattle.attributors.proofs.Laws.{Within, padded_more, padded_set, take_padded, get_d_padded, count_is, asked_few, asked_within, Row, row_fits_lem}
+use Rattle.attributors.proofs.Laws.{Within, padded_set, take_padded, get_d_padded, count_is, asked_few, asked_within, Row, row_fits_lem}
 use Rattle.corrector.specs.Corrector.{predicted, expected_point, row_at, expected_row, write_row}
 use Rattle.corrector.specs.Steps.{Missed, predicted_row, Expecting}
 use Rattle.corrector.proofs.Kept.{expected_keeps, expects}
@@ -14,16 +14,12 @@ use Rattle.corrector.proofs.Kept.{expected_keeps, expects}
 abbrev pub row_of : ℕ → ℕ → List Float → List Float
 row_of start base point = padded zero32 16 (take base (drop start point))
 
--- A turn of the loop that reads a row.
-pub row_more : (row point : List Float) (start i : ℕ) → start + i < length point → row ≡ row_of start i point → set row i (get_or point (start + i) nan) ≡ row_of start (i + 1) point
-row_more row point start i h e =
-    let l : List Float = drop start point in
-    let inside : i < length l = simp length-drop (omega arith) in
-    let long : length (take i l) ≡ i = length-take-le i l (omega arith) in
-    ap₂ (λ (r : List Float) (x : Float). set r i x) e (sym (get_or-drop start point i nan))
-    ∙ ap (λ (n : ℕ). set (row_of start i point) n (get_or l i nan)) (sym long)
-    ∙ padded_more zero32 16 (take i l) (get_or l i nan)
-    ∙ ap (padded zero32 16) (sym (take-suc l i nan inside) ∙ ap (λ (n : ℕ). take n l) (sym (add-one i)))
+-- A list over the places before those that pad it.
+pub padded_over : {A : Type 0} (z : A) (n : ℕ) (xs : List A) → length xs ≤ n → xs ++ drop (length xs) (padded z n []) ≡ padded z n xs
+unfolding padded
+padded_over z n [] h = refl
+padded_over z zero (x ∷ xs) h = absurd (omega arith)
+padded_over z (suc n) (x ∷ xs) h = ap (λ l. x ∷ l) (padded_over z n xs (omega arith))
 
 -- A row that lies in the point, or one of no coordinates.
 pub row_at_is : (point : List Float) (start base : ℕ) → base ≤ 16 → start + base ≤ length point → row_at point start base ≡ row_of start base point
@@ -35,20 +31,6 @@ row_at_is point start zero few inside = none (row_fits (length point) (length po
     none false = refl
 row_at_is point start (suc n) few inside =
     rw (row_fits_lem (length point) (length point) start (suc n) (record { low_long = refl; some = omega arith; few = few; inside = inside })) refl
-
--- A turn of the loop that predicts.
-predicted_last : (start : ℕ) (indices : List ℕ) (i : ℕ) (prediction row : List Float)
-    → predicted_row start (indices ++ (i ∷ [])) prediction row ≡ set (predicted_row start indices prediction row) (i - start) (get_or prediction i nan)
-unfolding predicted_row
-predicted_last start [] i prediction row = refl
-predicted_last start (j ∷ indices) i prediction row = predicted_last start indices i prediction (set row (j - start) (get_or prediction j nan))
-
-pub predicted_more : (start : ℕ) (indices : List ℕ) (k : ℕ) (prediction row out : List Float) → k < length indices → out ≡ predicted_row start (take k indices) prediction row
-    → set out (get_or indices k 0 - start) (get_or prediction (get_or indices k 0) nan) ≡ predicted_row start (take (k + 1) indices) prediction row
-predicted_more start indices k prediction row out h e =
-    ap (λ (r : List Float). set r (get_or indices k 0 - start) (get_or prediction (get_or indices k 0) nan)) e
-    ∙ sym (predicted_last start (take k indices) (get_or indices k 0) prediction row)
-    ∙ ap (λ (is : List ℕ). predicted_row start is prediction row) (sym (take-suc indices k 0 h) ∙ ap (λ (n : ℕ). take n indices) (sym (add-one k)))
 
 -- A store in the row of a point is the row of the point after it.
 stored : (point : List Float) (start base i : ℕ) (x : Float) → start + base ≤ length point → start ≤ i → i < start + base

@@ -1,6 +1,6 @@
 -- The calls of predictorcorrector.rs on lent points and attributions, as the Rust has them: the expected point, the trigger, the basic corrector; and the newest row.
 -- Each `..Fits` says where a call can be carried out; elsewhere a buffer stays as it was. Behind a no, its slices are not looked at.
-use Rattle.std.specs.Prelude.{ℕ, ◌+◌, ◌-◌, ◌*◌, Bool, true, false, cond, not, ◌&&◌, ◌||◌, List, [], ◌∷◌, ◌++◌, length, get_or, take, drop, ℤ, pos, negsuc, ◌==◌, nat_le, nat_lt, slice_index_or, slice_set, Float}
+use Rattle.std.specs.Prelude.{ℕ, ◌+◌, ◌-◌, ◌*◌, Bool, true, false, cond, not, ◌&&◌, ◌||◌, List, [], ◌∷◌, ◌++◌, length, get_or, take, drop, ℤ, pos, negsuc, ◌==◌, nat_le, nat_lt, slice_index_or, slice_set, Float, Ok, Err}
 use Rattle.std.proofs.Math.Seq.{paste}
 use Rattle.std.specs.Float.Ieee as Ieee
 use Rattle.std.specs.Float.{nan, binary32}
@@ -9,11 +9,10 @@ use Rattle.ieee.specs.F32.{zero32, ◌>₃₂◌, ◌+₃₂◌, ◌-₃₂◌, 
 use Rattle.ieee.specs.F64.{◌-₆₄◌}
 use Rattle.ieee.specs.Round.{narrow}
 use Rattle.types.specs.declared.Refusal.TheVariants.{Range, Length}
-use Rattle.types.specs.declared.Answer.{Answer}
-use Rattle.types.specs.declared.Answer.TheVariants.{Done, Refused}
 use Rattle.descriptor.specs.Checks.{sizes_ok, dimension, last_points_ok}
 use Rattle.attributors.specs.Attributors.{asked_indices, padded, row_fits}
 use Rattle.corrector.specs.Const.{factor32}
+use Rattle.types.specs.Refusals.{Answer}
 unfoldable pub use Rattle.attributors.specs.Attributors.{for_up_to}
 
 -- for i in indices { answer[i] = prediction[i] }
@@ -135,7 +134,7 @@ write_corrected_point point gap shingle base has_anomaly expected anomalous rela
 
 -- The answer to a point of this length: refusal 2 for a size out of range, then 3 for another length.
 unfoldable pub newest_row_answer : (shingle base len : ℕ) → Answer
-newest_row_answer shingle base len = cond (sizes_ok shingle base) (cond (len == dimension shingle base) Done (Refused Length)) (Refused Range)
+newest_row_answer shingle base len = cond (sizes_ok shingle base) (cond (len == dimension shingle base) (Ok tt) (Err Length)) (Err Range)
 
 -- The newest row of a point, the part from dimension - base on; nothing where the point is refused.
 unfoldable pub newest_row : List Float → ℕ → ℕ → List Float

@@ -3,29 +3,16 @@
 #![tactic(auto)]
 
 ghost use Rattle.std.specs.Prelude.{◌≡◌, ◌+◌, ◌-◌, ◌*◌, ◌<◌, ◌≤◌, true, [], length, take, drop};
-ghost use Rattle.std.proofs.Math.Seq.{paste};
 ghost use Rattle.ieee.specs.F32.{zero32};
 ghost use Rattle.attributors.specs.Attributors.{padded};
 ghost use Rattle.corrector.specs.Corrector as Corrector;
 ghost use Rattle.corrector.specs.Steps as Steps;
 
 use attributors::Missing;
-use types::{Answer, Refusal};
-
-// Writes n elements of source, from `from` on, over those of out from `at` on.
-fn copy_part(out: &mut [f32], at: usize, source: &[f32], from: usize, n: usize)
-    requires n_in_bounds { at + n ≤ length out.old }
-    requires n_in_bounds_2 { from + n ≤ length source.now }
-    ensures { out.new ≡ paste out.old at (drop from source.now) n }
-{
-    let mut k = 0usize;
-    while k < n {
-        out[at + k] = source[from + k];
-        k += 1;
-    }
-}
+use types::Refusal;
 
 // Whether the expected point's slices, of these lengths, and its row fit.
+#[tactic(auto, unfolding(crate::specs::Corrector::expected_fits))]
 fn expected_fits(
     high: usize,
     low: usize,
@@ -42,6 +29,7 @@ fn expected_fits(
 }
 
 // No row: zeros.
+#[tactic(auto, unfolding(attributors::specs::Attributors::padded))]
 fn no_row() -> [f32; 16]
     ensures { result ≡ padded zero32 16 [] }
 {
@@ -55,15 +43,12 @@ fn copy_row(point: &[f32], start: usize, base: usize) -> [f32; 16]
     ensures { result ≡ padded zero32 16 (take base (drop start point.now)) }
 {
     let mut row = no_row();
-    let mut i = 0usize;
-    while i < base {
-        row[i] = point[start + i];
-        i += 1;
-    }
+    row[..base].copy_from_slice(&point[start..start + base]);
     row
 }
 
 // The same of any point and row: no row unless 1 to 16 coordinates from `start` on lie in the point.
+#[tactic(auto, using(attributors::proofs::Laws::row_of), unfolding(crate::specs::Corrector::row_at))]
 pub fn row_at(point: &[f32], start: usize, base: usize) -> [f32; 16]
     ensures { result ≡ Corrector.row_at point.now start base }
 {
@@ -75,23 +60,22 @@ pub fn row_at(point: &[f32], start: usize, base: usize) -> [f32; 16]
 }
 
 // The row that starts at `start`, with the prediction at each of the missing indices.
+#[tactic(auto, unfolding(crate::specs::Steps::predicted_row))]
 fn predict(row: [f32; 16], start: usize, missing: Missing, prediction: &[f32]) -> [f32; 16]
     requires { Steps.Missed missing start (length prediction.now) }
     ensures { result ≡ Steps.predicted_row start (take missing.count missing.indices) prediction.now row }
 {
     let indices = missing.indices;
     let mut out = row;
-    let mut k = 0usize;
-    while k < missing.count {
-        let at = indices[k];
-        out[at - start] = prediction[at];
-        k += 1;
+    for at in &indices[..missing.count] {
+        out[*at - start] = prediction[*at];
     }
     out
 }
 
 // The row of the expected point from `start` on, zeros behind it: what is expected there where few of its coordinates account for the score. Zeros where
 // something does not fit.
+#[tactic(auto, using(crate::proofs::Laws::expecting), unfolding(crate::specs::Corrector::expected_row))]
 pub fn expected_row(
     high: &[f64],
     low: &[f64],
@@ -121,12 +105,13 @@ pub fn expected_row(
 
 // Writes the point with a row of it, from `start` on, replaced by the first `base` coordinates of another. Leaves `out` alone unless it is as long as the
 // point, and 1 to 16 coordinates from `start` on lie in it.
+#[tactic(auto, using(attributors::proofs::Laws::row_of), unfolding(crate::specs::Corrector::write_row))]
 pub fn write_row(point: &[f32], start: usize, base: usize, row: [f32; 16], out: &mut [f32])
     ensures { out.new ≡ Corrector.write_row point.now start base row out.old }
 {
     if attributors::row_fits(point.len(), out.len(), start, base) {
-        copy_part(out, 0, point, 0, point.len());
-        copy_part(out, start, &row, 0, base);
+        out.copy_from_slice(point);
+        out[start..start + base].copy_from_slice(&row[..base]);
         return;
     }
 }
@@ -162,6 +147,7 @@ pub fn write_expected_point(
 }
 
 // Whether the trigger's slices, of these lengths, fit.
+#[tactic(auto, unfolding(crate::specs::Corrector::trigger_fits))]
 fn trigger_fits(high: usize, low: usize, base: usize, ideal_high: usize, ideal_low: usize) -> bool
     ensures { result ≡ Corrector.trigger_fits high low base ideal_high ideal_low }
 {
@@ -171,6 +157,7 @@ fn trigger_fits(high: usize, low: usize, base: usize, ideal_high: usize, ideal_l
 }
 
 // sum + |a - b|, the difference narrowed first.
+#[tactic(auto, unfolding(crate::specs::Corrector::plus_difference))]
 fn plus_difference(sum: f32, a: f64, b: f64) -> f32
     ensures { result ≡ Corrector.plus_difference sum a b }
 {
@@ -178,6 +165,7 @@ fn plus_difference(sum: f32, a: f64, b: f64) -> f32
 }
 
 // How far two attributions are apart in the n coordinates from `start` on.
+#[tactic(auto, unfolding(crate::specs::Corrector::differential_remainder, crate::specs::Corrector::for_up_to))]
 fn differential_remainder(
     high: &[f64],
     low: &[f64],
@@ -186,25 +174,23 @@ fn differential_remainder(
     start: usize,
     n: usize,
 ) -> f32
-    requires n_in_bounds { start + n ≤ length high.now }
-    requires n_in_bounds_2 { start + n ≤ length low.now }
-    requires n_in_bounds_3 { start + n ≤ length ideal_high.now }
-    requires n_in_bounds_4 { start + n ≤ length ideal_low.now }
+    requires high_in_bounds { start + n ≤ length high.now }
+    requires low_in_bounds { start + n ≤ length low.now }
+    requires ideal_high_in_bounds { start + n ≤ length ideal_high.now }
+    requires ideal_low_in_bounds { start + n ≤ length ideal_low.now }
     ensures { result ≡ Corrector.differential_remainder
         high.now low.now ideal_high.now ideal_low.now start n }
 {
     let mut sum = 0.0f32;
-    let mut i = 0usize;
-    while i < n {
-        let at = start + i;
+    for at in start..start + n {
         let low_added = plus_difference(sum, low[at], ideal_low[at]);
         sum = plus_difference(low_added, high[at], ideal_high[at]);
-        i += 1;
     }
     sum
 }
 
 // Whether the remainder is large beside the last score, and scaled to all dimensions beside the threshold.
+#[tactic(auto, unfolding(crate::specs::Corrector::exceeds))]
 fn exceeds(
     remainder: f32,
     dimensions: u32,
@@ -223,6 +209,7 @@ fn exceeds(
 }
 
 // The trigger behind a last anomaly with its attribution, for slices that fit.
+#[tactic(auto, using(crate::proofs::Laws::triggering), unfolding(crate::specs::Corrector::trigger))]
 fn compare(
     high: &[f64],
     low: &[f64],
@@ -265,6 +252,7 @@ fn compare(
 }
 
 // Whether a reading so soon after an anomaly differs enough from what was expected to be one of its own.
+#[tactic(auto, unfolding(crate::specs::Corrector::trigger))]
 pub fn trigger(
     high: &[f64],
     low: &[f64],
@@ -306,6 +294,7 @@ pub fn trigger(
 }
 
 // Whether the sizes are in range, and a point so long is as long as they say.
+#[tactic(auto, unfolding(crate::specs::Corrector::point_fits))]
 fn point_fits(shingle_size: usize, base_dimension: usize, len: usize) -> bool
     ensures { result ≡ Corrector.point_fits shingle_size base_dimension len }
 {
@@ -314,6 +303,7 @@ fn point_fits(shingle_size: usize, base_dimension: usize, len: usize) -> bool
 }
 
 // Whether the corrector's slices, of these lengths, fit.
+#[tactic(auto, unfolding(crate::specs::Corrector::corrector_fits))]
 fn corrector_fits(
     point: usize,
     gap: usize,
@@ -333,6 +323,7 @@ fn corrector_fits(
 }
 
 // corrected[i] += anomalous[j] - expected[j] for the n coordinates from `at` and from `from` on.
+#[tactic(auto, unfolding(crate::specs::Corrector::amended_row, crate::specs::Corrector::for_up_to))]
 fn amend_row(
     corrected: &mut [f32],
     at: usize,
@@ -341,17 +332,15 @@ fn amend_row(
     from: usize,
     n: usize,
 )
-    requires n_in_bounds { at + n ≤ length corrected.old }
-    requires n_in_bounds_2 { from + n ≤ length anomalous.now }
-    requires n_in_bounds_3 { from + n ≤ length expected.now }
+    requires corrected_in_bounds { at + n ≤ length corrected.old }
+    requires anomalous_in_bounds { from + n ≤ length anomalous.now }
+    requires expected_in_bounds { from + n ≤ length expected.now }
     ensures { corrected.new ≡ Corrector.amended_row corrected.old at anomalous.now expected.now from n }
 {
-    let mut y = 0usize;
-    while y < n {
+    for y in 0..n {
         let i = at + y;
         let j = from + y;
         corrected[i] = corrected[i] + (anomalous[j] - expected[j]);
-        y += 1;
     }
 }
 
@@ -363,11 +352,12 @@ fn shift_in(point: &[f32], expected: &[f32], shift: usize, out: &mut [f32])
     ensures { out.new ≡ Corrector.shifted point.now expected.now shift }
 {
     let kept = point.len() - shift;
-    copy_part(out, 0, expected, shift, kept);
-    copy_part(out, kept, point, kept, shift);
+    out[..kept].copy_from_slice(&expected[shift..]);
+    out[kept..].copy_from_slice(&point[kept..]);
 }
 
 // Behind a last anomaly in the newest row: what was differenced against it.
+#[tactic(auto, unfolding(crate::specs::Corrector::amended))]
 fn amend(
     corrected: &mut [f32],
     expected: &[f32],
@@ -406,6 +396,7 @@ fn amend(
 }
 
 // The corrected point, for slices that fit.
+#[tactic(auto, unfolding(crate::specs::Corrector::apply_basic_corrector))]
 fn correct(
     point: &[f32],
     gap: usize,
@@ -443,14 +434,15 @@ fn correct(
             }
             return;
         }
-        copy_part(out, 0, point, 0, point.len());
+        out.copy_from_slice(point);
         return;
     }
-    copy_part(out, 0, point, 0, point.len());
+    out.copy_from_slice(point);
 }
 
 // Writes the point as it would be had the last anomaly not been: its rows as they were expected, and what was differenced against it put right.
 // Leaves `out` alone where something does not fit or the gap is 0.
+#[tactic(auto, using(crate::proofs::Laws::correcting))]
 pub fn write_corrected_point(
     point: &[f32],
     gap: usize,
@@ -492,19 +484,24 @@ pub fn write_corrected_point(
 }
 
 // How `newest_row` answers a point so long: refusal 2, then 3.
-pub fn newest_row_answer(shingle_size: usize, base_dimension: usize, len: usize) -> Answer
+#[tactic(auto, unfolding(crate::specs::Corrector::newest_row_answer))]
+pub fn newest_row_answer(
+    shingle_size: usize,
+    base_dimension: usize,
+    len: usize,
+) -> Result<(), Refusal>
     ensures { result ≡ Corrector.newest_row_answer shingle_size base_dimension len }
 {
     if descriptor::sizes_ok(shingle_size, base_dimension) {
         if len == descriptor::dimension(shingle_size, base_dimension) {
-            return Answer::Done;
+            return Ok(());
         }
-        return Answer::Refused(Refusal::Length);
+        return Err(Refusal::Length);
     }
-    Answer::Refused(Refusal::Range)
+    Err(Refusal::Range)
 }
 
-// The newest row, a part of the caller's own point; empty where `newest_row_answer` refuses, which an accepted row never is.
+// The newest row, a part of the caller's own point, as document 01 names the form; empty where `newest_row_answer` refuses, which an accepted row never is.
 pub fn newest_row(point: &[f32], shingle_size: usize, base_dimension: usize) -> &[f32]
     ensures { result.now ≡ Corrector.newest_row point.now shingle_size base_dimension }
 {

@@ -3,7 +3,7 @@
 #![tactic(auto)]
 
 use basicthresholder::{BasicThresholder, Graded};
-use deviation::{Deviation, Measured};
+use deviation::Deviation;
 use std::io;
 use types::TransformMethod;
 
@@ -15,10 +15,10 @@ fn say_number(rt: &impl Print, name: &str, x: f32) -> io::Result<()> {
     print!(rt; "{name}{:08x}", ieee::f32_to_bits(x))
 }
 
-fn say_measured(rt: &impl Print, name: &str, m: Measured) -> io::Result<()> {
+fn say_measured(rt: &impl Print, name: &str, m: Option<f64>) -> io::Result<()> {
     match m {
-        Measured::Empty => print!(rt; "{name}empty"),
-        Measured::Number(x) => say_number(rt, name, ieee::narrow(x)),
+        None => print!(rt; "{name}empty"),
+        Some(x) => say_number(rt, name, ieee::narrow(x)),
     }
 }
 
@@ -31,8 +31,8 @@ fn say_graded(rt: &impl Print, graded: Graded) -> io::Result<()> {
 // The scores 1 and 2.
 fn discounted(rt: &impl Print, discount: f64) -> io::Result<()> {
     let fresh = Deviation::create(discount, 0.0, 0.0, 0.0, 0);
-    let one = fresh.update(1.0).deviation;
-    let two = one.update(2.0).deviation;
+    let one = fresh.update(1.0).state;
+    let two = one.update(2.0).state;
     say_number(rt, "discount ", ieee::narrow(discount))?;
     say_number(rt, ": sum ", ieee::narrow(two.sum()))?;
     say_number(rt, " squares ", ieee::narrow(two.sum_squared()))?;
@@ -56,10 +56,8 @@ fn fresh() -> BasicThresholder {
 
 fn counted(drawer: BasicThresholder, score: f64, times: u64) -> BasicThresholder {
     let mut out = drawer;
-    let mut left = times;
-    while left > 0 {
-        out = out.update_primary(score).thresholder;
-        left -= 1;
+    for _ in 0..times {
+        out = out.update_primary(score).state;
     }
     out
 }

@@ -64,6 +64,7 @@ pub struct Digits {
 }
 
 // Nothing read.
+#[tactic(auto, unfolding(crate::specs::Pushing::fresh))]
 pub fn fresh() -> Content
     ensures { result ≡ Pushing.fresh }
 {
@@ -76,6 +77,7 @@ pub fn fresh() -> Content
     }
 }
 
+#[tactic(auto, unfolding(crate::specs::Pushing::spoil))]
 fn spoil(c: Content) -> Content
     ensures { result ≡ Pushing.spoil c }
 {
@@ -86,8 +88,8 @@ fn spoil(c: Content) -> Content
 
 // Whether the word has that byte at that place.
 fn byte_is(word: &[u8], i: u32, b: u8) -> bool
-    ensures fact_1 { result ≡ eqb (get_or word.now i 256) b }
-    ensures fact_2 { (result ≡ true → i < length word.now) }
+    ensures is_equal { result ≡ eqb (get_or word.now i 256) b }
+    ensures within { (result ≡ true → i < length word.now) }
 {
     let at = i as usize;
     if at < word.len() {
@@ -96,9 +98,10 @@ fn byte_is(word: &[u8], i: u32, b: u8) -> bool
     false
 }
 
+#[tactic(auto, unfolding(crate::specs::Pushing::letter, crate::specs::Contents::word))]
 fn letter_is(field: u32, i: u32, b: u8) -> bool
-    ensures fact_1 { result ≡ eqb (Pushing.letter field i) b }
-    ensures fact_2 { (result ≡ true → i < 6) }
+    ensures is_equal { result ≡ eqb (Pushing.letter field i) b }
+    ensures within { (result ≡ true → i < 6) }
 {
     if field == 0 {
         return byte_is(b"drawer", i, b);
@@ -109,6 +112,7 @@ fn letter_is(field: u32, i: u32, b: u8) -> bool
     byte_is(b"score", i, b)
 }
 
+#[tactic(auto, unfolding(crate::specs::Pushing::push_letter))]
 fn push_letter(field: u32, c: Content, b: u8) -> Content
     ensures { result ≡ Pushing.push_letter field c b }
 {
@@ -120,6 +124,7 @@ fn push_letter(field: u32, c: Content, b: u8) -> Content
     spoil(c)
 }
 
+#[tactic(auto, unfolding(crate::specs::Contents::is_digit))]
 fn is_digit(b: u8) -> bool
     ensures { result ≡ Contents.is_digit b }
 {
@@ -127,6 +132,7 @@ fn is_digit(b: u8) -> bool
 }
 
 // A number with one more digit, or the cap.
+#[tactic(auto, unfolding(crate::specs::Pushing::grown))]
 fn grown(n: u32, b: u8) -> u32
     requires { 48 ≤ b }
     ensures { result ≡ Pushing.grown n b }
@@ -143,19 +149,20 @@ pub fn take_digits(n: u32, input: &[u8], from: usize) -> Digits
     ensures { result ≡ Pushing.digits_from n from (drop from input.now) }
 {
     let mut number = n;
-    let mut i = from;
-    while i < input.len() {
+    for i in from..input.len() {
         let b = input[i];
-        if is_digit(b) {
-            number = grown(number, b);
-            i += 1;
-            continue;
+        if !is_digit(b) {
+            return Digits { number, next: i };
         }
-        return Digits { number, next: i };
+        number = grown(number, b);
     }
-    Digits { number, next: i }
+    Digits {
+        number,
+        next: from.max(input.len()),
+    }
 }
 
+#[tactic(auto, unfolding(crate::specs::Pushing::push_digit))]
 fn push_digit(c: Content, b: u8) -> Content
     ensures { result ≡ Pushing.push_digit c b }
 {
@@ -195,6 +202,7 @@ fn push_score(c: Content, b: u8) -> Content
 }
 
 // A byte of the content of the field of that number, in the header or below it.
+#[tactic(auto, unfolding(crate::specs::Pushing::push))]
 pub fn push(header: bool, field: u32, c: Content, b: u8) -> Content
     ensures { result ≡ Pushing.push header field c b }
 {
@@ -207,6 +215,7 @@ pub fn push(header: bool, field: u32, c: Content, b: u8) -> Content
     push_digit(c, b)
 }
 
+#[tactic(auto, unfolding(crate::specs::Pushing::word_length))]
 fn word_length(field: u32) -> u32
     ensures { result ≡ Pushing.word_length field }
 {
@@ -220,6 +229,7 @@ fn word_length(field: u32) -> u32
 }
 
 // Whether the content is what its field asks for.
+#[tactic(auto, unfolding(crate::specs::Pushing::good, crate::specs::Pushing::good_word, crate::specs::Pushing::good_score, crate::specs::Pushing::good_number, crate::specs::Pushing::limit))]
 pub fn good(header: bool, field: u32, c: Content) -> bool
     ensures { result ≡ Pushing.good header field c }
 {
@@ -236,6 +246,7 @@ pub fn good(header: bool, field: u32, c: Content) -> bool
 }
 
 // The score that the content writes.
+#[tactic(auto, unfolding(crate::specs::Pushing::score))]
 pub fn score(c: Content) -> f32
     ensures { result ≡ Pushing.score c }
 {
@@ -262,6 +273,7 @@ fn plain_turn(b: u8) -> Turn
 }
 
 // A byte behind a quote inside quotes.
+#[tactic(auto, unfolding(crate::specs::Quoting::closed_turn))]
 fn closed_turn(b: u8) -> Turn
     ensures { result ≡ Quoting.closed_turn b }
 {
@@ -281,6 +293,7 @@ fn closed_turn(b: u8) -> Turn
 }
 
 // A byte at each place of a field.
+#[tactic(auto, unfolding(crate::specs::Quoting::byte_turn))]
 pub fn byte_turn(place: Place, b: u8) -> Turn
     ensures { result ≡ Quoting.byte_turn place b }
 {
@@ -310,6 +323,7 @@ pub fn byte_turn(place: Place, b: u8) -> Turn
 }
 
 // The end of the input, in the field of that number. Where no row is under way all is well, but for the header.
+#[tactic(auto, unfolding(crate::specs::Quoting::end_turn))]
 pub fn end_turn(header: bool, field: u32, place: Place) -> Turn
     ensures { result ≡ Quoting.end_turn header field place }
 {
@@ -334,6 +348,7 @@ pub fn end_turn(header: bool, field: u32, place: Place) -> Turn
 }
 
 // Whether a byte spoils the content of a field: a carriage return before it was one of the content, unless it is a line feed; a second quote is a quote of the content.
+#[tactic(auto, unfolding(crate::specs::Quoting::spoils))]
 pub fn spoils(place: Place, b: u8) -> bool
     ensures { result ≡ Quoting.spoils place b }
 {
@@ -348,6 +363,7 @@ pub fn spoils(place: Place, b: u8) -> bool
 }
 
 // The content, spoilt where the flag says so.
+#[tactic(auto, unfolding(crate::specs::Quoting::held))]
 pub fn held(spoilt: bool, c: Content) -> Content
     ensures { result ≡ Quoting.held spoilt c }
 {
@@ -357,6 +373,7 @@ pub fn held(spoilt: bool, c: Content) -> Content
 }
 
 // Whether the next byte follows a field without quotes as it stands: no quote has been read, and no carriage return just before.
+#[tactic(auto, unfolding(crate::specs::Quoting::is_plain))]
 pub fn is_plain(place: Place) -> bool
     ensures { result ≡ Quoting.is_plain place }
 {

@@ -59,6 +59,7 @@ pub struct Reached {
     pub next: usize,
 }
 
+#[tactic(auto, unfolding(crate::specs::Scanning::start))]
 fn start() -> Token
     ensures { result ≡ Scanning.start }
 {
@@ -68,6 +69,7 @@ fn start() -> Token
     }
 }
 
+#[tactic(auto, unfolding(crate::specs::Scanning::begin_row))]
 fn begin_row(header: bool) -> Scan
     ensures { result ≡ Scanning.begin_row header }
 {
@@ -82,6 +84,7 @@ fn begin_row(header: bool) -> Scan
 }
 
 // The start of an input.
+#[tactic(auto, unfolding(crate::specs::Scanning::begin))]
 pub fn begin() -> Scan
     ensures { result ≡ Scanning.begin }
 {
@@ -89,6 +92,7 @@ pub fn begin() -> Scan
 }
 
 // A faulty row ends the scan.
+#[tactic(auto, unfolding(crate::specs::Scanning::refused))]
 fn refused(s: Scan, why: Refusal) -> Stepped
     ensures { result ≡ Scanning.refused s why }
 {
@@ -101,6 +105,7 @@ fn refused(s: Scan, why: Refusal) -> Stepped
 }
 
 // The field of that content has ended, and another follows.
+#[tactic(auto, unfolding(crate::specs::Scanning::next_field, crate::specs::Scanning::field_after))]
 fn next_field(s: Scan, c: Content) -> Scan
     ensures { result ≡ Scanning.next_field s c }
 {
@@ -138,6 +143,7 @@ fn verdict(header: bool, field: u32, good: bool, drawer: u32, c: Content) -> Row
 }
 
 // The scan behind a row. `taken` and `finish` both call it, so it is small and apart from `verdict`: then it is inlined, and the scan stays in registers.
+#[tactic(auto, unfolding(crate::specs::Scanning::after_row))]
 fn after_row(s: Scan, row: Row) -> Stepped
     ensures { result ≡ Scanning.after_row s row }
 {
@@ -151,6 +157,7 @@ fn after_row(s: Scan, row: Row) -> Stepped
 }
 
 // The byte b is taken by the field of that content.
+#[tactic(auto, unfolding(crate::specs::Scanning::taken, crate::specs::Scanning::row_ended))]
 fn taken(s: Scan, turn: Turn, c: Content, b: u8) -> Stepped
     ensures { result ≡ Scanning.taken s turn c b }
 {
@@ -185,6 +192,7 @@ fn taken(s: Scan, turn: Turn, c: Content, b: u8) -> Stepped
 }
 
 // One byte of the input.
+#[tactic(auto, unfolding(crate::specs::Scanning::stepped))]
 fn step(scan: Scan, b: u8) -> Stepped
     ensures { result ≡ Scanning.stepped scan b }
 {
@@ -205,6 +213,7 @@ fn step(scan: Scan, b: u8) -> Stepped
     )
 }
 
+#[tactic(auto, unfolding(crate::specs::Scanning::is_nothing))]
 fn is_nothing(row: Row) -> bool
     ensures { result ≡ Scanning.is_nothing row }
 {
@@ -217,6 +226,7 @@ fn is_nothing(row: Row) -> bool
 }
 
 // Whether the scan is in a drawer or a seen number without quotes, and not behind a carriage return.
+#[tactic(auto, unfolding(crate::specs::Steps::in_number))]
 fn in_number(s: Scan) -> bool
     ensures { result ≡ Steps.in_number s }
 {
@@ -226,6 +236,7 @@ fn in_number(s: Scan) -> bool
 }
 
 // The digits of such a number that stand at the place i, in one go; elsewhere none.
+#[tactic(auto, unfolding(crate::specs::Steps::digits_at))]
 fn digits_at(s: Scan, input: &[u8], i: usize) -> Digits
     ensures { result ≡ Steps.digits_at s i (drop i input.now) }
 {
@@ -237,6 +248,7 @@ fn digits_at(s: Scan, input: &[u8], i: usize) -> Digits
     Digits { number: 0, next: i }
 }
 
+#[tactic(auto, unfolding(crate::specs::Steps::with_number))]
 fn with_number(s: Scan, n: u32) -> Scan
     ensures { result ≡ Steps.with_number s n }
 {
@@ -264,6 +276,7 @@ pub fn read(scan: Scan, input: &[u8], from: usize) -> Reached
 {
     let mut s = scan;
     let mut i = from;
+    // No `for`: the place jumps over digits.
     while i < input.len() {
         let digits = digits_at(s, input, i);
         if i < digits.next {
@@ -292,6 +305,7 @@ pub fn read(scan: Scan, input: &[u8], from: usize) -> Reached
 }
 
 // The end of the input. What it does to a content is what a comma does.
+#[tactic(auto, unfolding(crate::specs::Scanning::finished, crate::specs::Scanning::closed_by, crate::specs::Scanning::row_ended))]
 pub fn finish(scan: Scan) -> Stepped
     ensures { result ≡ Scanning.finished scan }
 {

@@ -9,9 +9,9 @@ ghost use Rattle.decimal.specs.Nearest as Nearest;
 
 // 10 ^ places; places beyond 6 count as 6.
 fn power(places: u32) -> u64
-    ensures fact_1 { result ≡ 10 ^ min places 6 }
-    ensures fact_2 { 1 ≤ result }
-    ensures fact_3 { result ≤ 1_000_000 }
+    ensures value { result ≡ 10 ^ min places 6 }
+    ensures nonzero { 1 ≤ result }
+    ensures bound { result ≤ 1_000_000 }
 {
     if places < 1 {
         return 1;
@@ -36,9 +36,9 @@ fn power(places: u32) -> u64
 
 // a in units of twice the half, to the nearest, a tie to the even one.
 fn to_nearest(a: u64, half: u64) -> u64
-    requires fact_1 { a < 2 ^ 63 }
-    requires fact_2 { 1 ≤ half }
-    requires fact_3 { half ≤ 128_000_000 }
+    requires a_bound { a < 2 ^ 63 }
+    requires half_nonzero { 1 ≤ half }
+    requires half_bound { half ≤ 128_000_000 }
     ensures { result ≡ closest a (2 * half) }
 {
     let unit = 2 * half;
@@ -53,12 +53,12 @@ fn to_nearest(a: u64, half: u64) -> u64
 // digits that an `f32` keeps.
 // The exponent's field is added to them, so a carry out of the digits goes where it belongs.
 fn pattern(n: u64, ten: u64) -> u64
-    requires fact_1 { 1 ≤ n }
-    requires fact_2 { n < 2 ^ 32 }
-    requires fact_3 { 1 ≤ ten }
-    requires fact_4 { ten ≤ 1_000_000 }
-    ensures fact_1 { result < 0x7f80_0000 }
-    ensures fact_2 { of_bits binary32 result ≡ round binary32 false n ten }
+    requires n_nonzero { 1 ≤ n }
+    requires n_bound { n < 2 ^ 32 }
+    requires ten_nonzero { 1 ≤ ten }
+    requires ten_bound { ten ≤ 1_000_000 }
+    ensures bound { result < 0x7f80_0000 }
+    ensures value { of_bits binary32 result ≡ round binary32 false n ten }
 {
     let half = ten * 128;
     let unit = ten * 256;

@@ -33,7 +33,7 @@ kept (suc n) s = (
 
 made_is : Made nought false 1 made
 unfolding State.new fits lt le eq of_bits
-made_is = record { discount = tt; contract = refl; accepted = refl }
+made_is = record { discount = tt; contract = refl }
 
 sized_one : Sized one
 sized_one = record { plain = tt; least = lit≤ tt; most = lit≤ tt }
@@ -42,7 +42,7 @@ sizes : (n : ℕ) (s : PredictorCorrector) → Sizes (told_of s (judgings n s))
 sizes zero s = tt
 sizes (suc n) s = ((λ h. inr sized_one), sizes n (judging s).judgment.state)
 
-all_accepted : accepted (told_of made.state eleven) ≡ 11
+all_accepted : accepted (told_of made eleven) ≡ 11
 unfolding answer_of range_ok sizes_ok lengths_of lengths_ok dimension points_ok rows_ok neighbours_ok last_points_ok finite_ok numbers_finite last_finite every seen_ok is_later
     state_counts_ok counts_ok countable list_countable first_countable State.new fresh_state fresh_list
     lt le eq ne of_bits round add sub mul div of_int
@@ -51,10 +51,10 @@ unfolding answer_of range_ok sizes_ok lengths_of lengths_ok dimension points_ok 
     primary_threshold_and_grade threshold threshold_by primary_grade grade_over is_deviation_ready counts_ready minf32
 all_accepted = refl
 
-pub calm_met : InTurn (new nought false 1 made ∷ eleven) × ZUnset eleven × InBounds (z_of eleven) (told_of made.state eleven) × (accepted (told_of made.state eleven) ≡ 11)
+pub calm_met : InTurn (new nought false 1 made ∷ eleven) × ZUnset eleven × InBounds (z_of eleven) (told_of made eleven) × (accepted (told_of made eleven) ≡ 11)
 calm_met = (
-  (made_is, kept 11 made.state),
+  (made_is, kept 11 made),
   tt,
-  default_z (told_of made.state eleven) (subst (λ (n : ℕ). n ≤ most_readings) (sym all_accepted) (lit≤ tt)) (sizes 11 made.state),
+  default_z (told_of made eleven) (subst (λ (n : ℕ). n ≤ most_readings) (sym all_accepted) (lit≤ tt)) (sizes 11 made),
   all_accepted,
 )

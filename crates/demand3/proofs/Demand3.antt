@@ -1,13 +1,14 @@
 -- Demand 3 of calls: a construction, settings of z and horizon, then DISTANCE readings judged in turn. Assumes nothing.
+use Rattle.std.specs.Prelude.{Result, Ok, Err, is_ok}
+use Rattle.std.specs.Result.{result_unwrap_or}
 use mathlib.Core.Path.{◌≡◌, refl, sym, ap, ap₂, ◌∙◌, subst}
-use mathlib.Core.Bool.{Bool, true, false, cond, ◌&&◌}
+use mathlib.Core.Bool.{Bool, true, false, cond, ◌&&◌, true≢false}
 use mathlib.Core.List.{List, [], ◌∷◌}
 use Prim.Native.Nat.{ℕ, ◌≤◌}
 use lib.Dec.{T, leb}
 use lib.Ieee.{Float, binary64, fits}
+use Rattle.types.specs.declared.Refusal.{Refusal}
 use Rattle.types.specs.declared.Refusal.TheVariants as Refusals
-use Rattle.types.specs.declared.Answer.{Answer}
-use Rattle.types.specs.declared.Answer.TheVariants as Answers
 use Rattle.deviation.specs.Statistics.{is_discount}
 use Rattle.basicthresholder.specs.Const.{z_factor_default}
 use Rattle.ledger.specs.Statement.{most_readings, Told, Shown, told, showed, accepted, Sizes, InBounds, Demand3}
@@ -15,13 +16,13 @@ use Rattle.ledger.specs.Theorem.{New}
 use Rattle.ledger.proofs.Laws.{new_fresh, new_z, new_horizon, by_default}
 use Rattle.ledger.proofs.WholeList as WholeList
 use Rattle.predictorcorrector.specs.State as State
-use Rattle.predictorcorrector.specs.State.{fresh_state, refused_new, set_horizon}
+use Rattle.predictorcorrector.specs.State.{fresh_state, set_horizon}
 use Rattle.predictorcorrector.specs.declared.PredictorCorrector.{PredictorCorrector}
-use Rattle.predictorcorrector.specs.declared.Updated.{Updated}
 use Rattle.demand3.specs.Calls.{Judging, Call, new, set_z_factor, set_horizon_call, detect_and_modify, Contract, JudgedInTurn, SetInTurn, InTurn, z_after, z_of, ZUnset, answer_at, is_refusal, told_of, shown_by, shown_of}
 use Rattle.demand3.specs.Statement.{Returned, Demand3OfCalls}
 use Rattle.demand3.proofs.Keeps.{Lending, watch, returned_at, watch_keeps}
 use Rattle.demand3.proofs.Calmness.{calm_met}
+use Rattle.types.specs.declared.Updated.{Updated}
 
 pub returned : (s : PredictorCorrector) (c : Judging) → Contract s c → Returned s c c.judgment.outcome
 returned s c k = subst (Returned s c) (sym k.says) (returned_at s c)
@@ -71,9 +72,9 @@ z_stays (set_horizon_call x r ∷ cs) s z k = absurd k
 z_stays (detect_and_modify c ∷ cs) s z k = z_stays cs c.judgment.state z k.1
 
 -- ---- settings before them
-horizon_left : (d z x : Float) (s : PredictorCorrector) (r : Updated) → r ≡ set_horizon s x → New d z s.basic_thresholder → New d z r.state.basic_thresholder
+horizon_left : (d z x : Float) (s : PredictorCorrector) (r : Updated PredictorCorrector) → r ≡ set_horizon s x → New d z s.basic_thresholder → New d z r.state.basic_thresholder
 unfolding set_horizon
-horizon_left d z x s r e n = subst (λ (u : Updated). New d z u.state.basic_thresholder) (sym e) (new_horizon d z x s.basic_thresholder n)
+horizon_left d z x s r e n = subst (λ (u : Updated PredictorCorrector). New d z u.state.basic_thresholder) (sym e) (new_horizon d z x s.basic_thresholder n)
 
 set_in_turn : (d : Float) → T (fits binary64 d) → T (is_discount d) → (cs : List Call) (z : Float) (s : PredictorCorrector) → New d z s.basic_thresholder → SetInTurn s cs
     → InBounds (z_after z cs) (told_of s cs) → Demand3 d (z_after z cs) (told_of s cs) (shown_of s cs)
@@ -93,25 +94,20 @@ pub record Fresh (d : Float) (s : PredictorCorrector) : Type 0 where
   pub discount : T (is_discount d)
   pub new : New d z_factor_default s.basic_thresholder
 
-pub fresh : (d : Float) (auto : Bool) (base : ℕ) → (State.new d auto base).answer ≡ Answers.Done → Fresh d (State.new d auto base).state
-unfolding State.new refused_new fresh_state
-fresh d auto base e = (let p = go (is_discount d) (leb 1 base && leb base 16) e in record { discount = p.0; new = p.1 })
+pub fresh : (d : Float) (auto : Bool) (base : ℕ) (s : PredictorCorrector) → State.new d auto base ≡ Ok s → Fresh d s
+unfolding State.new fresh_state
+fresh d auto base s e = (let p = go (is_discount d) (leb 1 base && leb base 16) e in record { discount = p.0; new = p.1 })
   where
-    by : Bool → Bool → Updated
-    by c k = cond c (cond k (record { answer = Answers.Done; state = fresh_state d auto base }) (refused_new (Answers.Refused Refusals.Range))) (refused_new (Answers.Refused Refusals.Discount))
+    go : (c k : Bool) → cond c (cond k (Ok (fresh_state d auto base)) (Err Refusals.Range)) (Err Refusals.Discount) ≡ Ok s → T c × New d z_factor_default s.basic_thresholder
+    go true true q = (tt, subst (λ (u : PredictorCorrector). New d z_factor_default u.basic_thresholder) (ap (λ (r : Result PredictorCorrector Refusal). result_unwrap_or r s) q) (new_fresh d false))
+    go true false q = absurd (true≢false (ap is_ok (sym q)))
+    go false k q = absurd (true≢false (ap is_ok (sym q)))
 
-    go : (c k : Bool) → (by c k).answer ≡ Answers.Done → T c × New d z_factor_default (by c k).state.basic_thresholder
-    go true true q = (tt, new_fresh d false)
-    go true false q = absurd (subst (λ (a : Answer). T (is_refusal a)) q tt)
-    go false k q = absurd (subst (λ (a : Answer). T (is_refusal a)) q tt)
-
-pub demand_3 : (d : Float) (auto : Bool) (base : ℕ) (r : Updated) (cs : List Call) → InTurn (new d auto base r ∷ cs) → InBounds (z_of cs) (told_of r.state cs)
-    → Demand3 d (z_of cs) (told_of r.state cs) (shown_of r.state cs)
-demand_3 d auto base r cs k b =
-    let m = k.0 in
-    let n = fresh d auto base (ap (λ (c : Updated). c.answer) (sym m.contract) ∙ m.accepted) in
-    set_in_turn d m.discount n.discount cs z_factor_default r.state
-    (subst (λ (c : Updated). New d z_factor_default c.state.basic_thresholder) (sym m.contract) n.new) k.1 b
+pub demand_3 : (d : Float) (auto : Bool) (base : ℕ) (s : PredictorCorrector) (cs : List Call) → InTurn (new d auto base s ∷ cs) → InBounds (z_of cs) (told_of s cs)
+    → Demand3 d (z_of cs) (told_of s cs) (shown_of s cs)
+demand_3 d auto base s cs k b =
+    let n = fresh d auto base s k.0.contract in
+    set_in_turn d k.0.discount n.discount cs z_factor_default s n.new k.1 b
 
 z_unset : (z : Float) (cs : List Call) → ZUnset cs → z_after z cs ≡ z
 z_unset z [] u = refl
@@ -120,9 +116,9 @@ z_unset z (set_z_factor x s ∷ cs) u = absurd u
 z_unset z (set_horizon_call x r ∷ cs) u = z_unset z cs u
 z_unset z (detect_and_modify c ∷ cs) u = z_unset z cs u
 
-default_z : (d : Float) (auto : Bool) (base : ℕ) (r : Updated) (cs : List Call) → InTurn (new d auto base r ∷ cs) → ZUnset cs
-    → accepted (told_of r.state cs) ≤ most_readings → Sizes (told_of r.state cs) → Demand3 d z_factor_default (told_of r.state cs) (shown_of r.state cs)
-default_z d auto base r cs k u = by_default d (z_of cs) (told_of r.state cs) (shown_of r.state cs) (z_unset z_factor_default cs u) (demand_3 d auto base r cs k)
+default_z : (d : Float) (auto : Bool) (base : ℕ) (s : PredictorCorrector) (cs : List Call) → InTurn (new d auto base s ∷ cs) → ZUnset cs
+    → accepted (told_of s cs) ≤ most_readings → Sizes (told_of s cs) → Demand3 d z_factor_default (told_of s cs) (shown_of s cs)
+default_z d auto base s cs k u = by_default d (z_of cs) (told_of s cs) (shown_of s cs) (z_unset z_factor_default cs u) (demand_3 d auto base s cs k)
 
 pub demand_3_of_calls : Demand3OfCalls
 demand_3_of_calls = record { returned = returned; demand_3 = demand_3; default_z = default_z; met = calm_met }

@@ -1,4 +1,5 @@
 -- What judging by DISTANCE keeps: the laws that the ledger's theorem asks of a judge. Assumes nothing.
+use Rattle.std.specs.Prelude.{Result, Ok, Err}
 use mathlib.Core.Path.{◌≡◌, refl, sym, ap, ◌∙◌, subst}
 use mathlib.Core.Bool.{Bool, true, false, not, cond, ◌&&◌, true≢false}
 use mathlib.Core.List.{List}
@@ -7,8 +8,6 @@ use lib.ListN.{length}
 use lib.Ieee.{Float, eq, of_bits}
 use Rattle.types.specs.Codes.{is_height}
 use Rattle.types.specs.declared.Refusal.TheVariants.{Range, Length, NotFinite, ValuesSeen, Count}
-use Rattle.types.specs.declared.Answer.{Answer}
-use Rattle.types.specs.declared.Answer.TheVariants as Answers
 use Rattle.types.specs.declared.ScoringStrategy.{ScoringStrategy}
 use Rattle.types.specs.declared.ScoringStrategy.TheVariants.{DISTANCE}
 use Rattle.deviation.specs.Const.{count_limit}
@@ -34,18 +33,18 @@ use Rattle.detection.specs.Judging.{opening, update_score, entered, candidate_wi
 use Rattle.detection.specs.Judged.{outcome, outcome_of, state_after}
 use Rattle.detection.specs.declared.Verdict.{Verdict}
 use Rattle.detection.specs.declared.Verdict.TheVariants.{Quiet, Corrected, Raised, Skipped}
-use Rattle.detection.specs.declared.Outcome.{Outcome}
-use Rattle.detection.specs.declared.Outcome.TheVariants.{Accepted}
 use Rattle.demand3.specs.Calls.{Judging, answer_at, is_refusal, opened, shown_by}
 use Rattle.demand3.specs.Statement.{is_skipped, Shows, Returned}
 use Rattle.demand3.proofs.Opens.{verdict_shows, zero_skips, quiet_ends}
+use Rattle.types.specs.declared.Refusal.{Refusal}
+use Rattle.types.specs.Refusals.{Answer}
 
 -- ---- the watch as a judge of the ledger's theorem: a DISTANCE reading with all that it lends, its answer left out
 pub record Lending : Type 0 where
   pub call : Judging
   pub distance : call.reading.scoring_strategy ≡ DISTANCE
 
-abbrev pub outcome_at : PredictorCorrector → Judging → Outcome
+abbrev pub outcome_at : PredictorCorrector → Judging → Result Verdict Refusal
 outcome_at s c = outcome s c.reading c.last c.lent (length c.expected) (length c.high) (length c.low)
 
 abbrev pub watch : Judge
@@ -110,11 +109,11 @@ module _ (s : PredictorCorrector) (r : Reading) (l : LastDescriptor) (b : Lent) 
   candidate_keeps threshold = with_keeps _ s _ _
 
   entered_counts : (u : PredictorCorrector) (corrected : Float) → is_height r.scoring_strategy ≡ false → u.basic_thresholder ≡ s.basic_thresholder
-      → (entered u r l corrected).basic_thresholder ≡ (update_primary s.basic_thresholder r.score).thresholder
+      → (entered u r l corrected).basic_thresholder ≡ (update_primary s.basic_thresholder r.score).state
   unfolding entered update_score State.update_score
-  entered_counts u corrected d e = rw d (ap (λ (t : BasicThresholder). (update_primary t r.score).thresholder) e)
+  entered_counts u corrected d e = rw d (ap (λ (t : BasicThresholder). (update_primary t r.score).state) e)
 
-  after_counts : (v : Verdict) → is_height r.scoring_strategy ≡ false → is_skipped v ≡ false → (after r l b s v).basic_thresholder ≡ (update_primary s.basic_thresholder r.score).thresholder
+  after_counts : (v : Verdict) → is_height r.scoring_strategy ≡ false → is_skipped v ≡ false → (after r l b s v).basic_thresholder ≡ (update_primary s.basic_thresholder r.score).state
   unfolding after
   after_counts (Quiet t) d k = entered_counts (run_ended s) _ d (ended_keeps s)
   after_counts (Corrected t m) d k = entered_counts (cond (is_drift_mode m) (candidate_state r l b s t) (auto_adjusted s b.point)) _ d (same_either (is_drift_mode m) s.basic_thresholder _ _ (candidate_keeps t) (adjusted_keeps s b.point))
@@ -122,22 +121,22 @@ module _ (s : PredictorCorrector) (r : Reading) (l : LastDescriptor) (b : Lent) 
   after_counts Skipped d k = absurd (true≢false k)
 
   -- ---- an accepted reading, a refused one
-  accepted_outcome : (a : Answer) → T (not (is_refusal a)) → outcome_of (verdict r l b s) a ≡ Accepted (verdict r l b s)
+  accepted_outcome : (a : Answer) → T (not (is_refusal a)) → outcome_of (verdict r l b s) a ≡ Ok (verdict r l b s)
   unfolding outcome_of
-  accepted_outcome Answers.Done k = refl
-  accepted_outcome (Answers.Refused why) k = absurd k
+  accepted_outcome (Ok tt) k = refl
+  accepted_outcome (Err why) k = absurd k
 
   refused_state : (a : Answer) → T (is_refusal a) → state_after s r l b (outcome_of (verdict r l b s) a) ≡ s
   unfolding outcome_of state_after
-  refused_state Answers.Done k = absurd k
-  refused_state (Answers.Refused why) k = refl
+  refused_state (Ok tt) k = absurd k
+  refused_state (Err why) k = refl
 
-  skipped_state : verdict r l b s ≡ Skipped → state_after s r l b (Accepted (verdict r l b s)) ≡ s
+  skipped_state : verdict r l b s ≡ Skipped → state_after s r l b (Ok (verdict r l b s)) ≡ s
   unfolding state_after after
   skipped_state e = rw e refl
 
   accepted_counts : is_height r.scoring_strategy ≡ false → eq r.score zero32 ≡ false
-      → (state_after s r l b (Accepted (verdict r l b s))).basic_thresholder ≡ (update_primary s.basic_thresholder r.score).thresholder
+      → (state_after s r l b (Ok (verdict r l b s))).basic_thresholder ≡ (update_primary s.basic_thresholder r.score).state
   unfolding state_after
   accepted_counts d e = after_counts (verdict r l b s) d (verdict_shows s r l b e).skipped
 
@@ -150,7 +149,7 @@ module _ (s : PredictorCorrector) (c : Judging) where
   abbrev said : Verdict
   said = verdict c.reading c.last c.lent s
 
-  accepted_at : T (not (is_refusal (answer_at s c))) → outcome_at s c ≡ Accepted said
+  accepted_at : T (not (is_refusal (answer_at s c))) → outcome_at s c ≡ Ok said
   unfolding outcome
   accepted_at k = accepted_outcome s c.reading c.last c.lent (answer_at s c) k
 
@@ -168,7 +167,7 @@ module _ (s : PredictorCorrector) (c : Judging) where
       (finite_ok c.reading c.last c.lent) (seen_ok c.reading.values_seen c.last.has_anomaly c.last.anomaly.values_seen) (state_counts_ok s) a)
     where
       pick : (range lengths finite seen counts : Bool)
-          → T (not (is_refusal (cond range (cond lengths (cond finite (cond seen (cond counts Answers.Done (Answers.Refused Count)) (Answers.Refused ValuesSeen)) (Answers.Refused NotFinite)) (Answers.Refused Length)) (Answers.Refused Range))))
+          → T (not (is_refusal (cond range (cond lengths (cond finite (cond seen (cond counts (Ok tt) (Err Count)) (Err ValuesSeen)) (Err NotFinite)) (Err Length)) (Err Range))))
           → counts ≡ true
       pick true true true true true a = refl
       pick true true true true false a = absurd a
@@ -183,15 +182,15 @@ module _ (s : PredictorCorrector) (c : Judging) where
   returned_at = go (answer_at s c) refl
     where
       go : (a : Answer) → answer_at s c ≡ a → Returned s c (outcome_of said a)
-      go Answers.Done e = (ap is_refusal e, λ (z : T (not (eq c.reading.score zero32))). verdict_shows s c.reading c.last c.lent (false_of _ z))
-      go (Answers.Refused why) e = ap is_refusal e
+      go (Ok tt) e = (ap is_refusal e, λ (z : T (not (eq c.reading.score zero32))). verdict_shows s c.reading c.last c.lent (false_of _ z))
+      go (Err why) e = ap is_refusal e
 
   -- ---- the laws, of an accepted reading
   module _ (a : T (not (is_refusal (answer_at s c)))) where
-    state_of : state_after s c.reading c.last c.lent (outcome_at s c) ≡ state_after s c.reading c.last c.lent (Accepted said)
+    state_of : state_after s c.reading c.last c.lent (outcome_at s c) ≡ state_after s c.reading c.last c.lent (Ok said)
     state_of = ap (state_after s c.reading c.last c.lent) (accepted_at a)
 
-    shown_of : shown_by s c.reading (outcome_at s c) ≡ shown_by s c.reading (Accepted said)
+    shown_of : shown_by s c.reading (outcome_at s c) ≡ shown_by s c.reading (Ok said)
     shown_of = ap (shown_by s c.reading) (accepted_at a)
 
     zeros : T (eq c.reading.score zero32) → state_after s c.reading c.last c.lent (outcome_at s c) ≡ s

@@ -1,10 +1,8 @@
 -- Calls of the watch's functions, each with what it took and what it returned, and what the ledger's statement is told and shown of them. The quoted words are
 -- document 01's. Definitions only.
-use Rattle.std.specs.Prelude.{ℕ, ◌≡◌, Bool, true, false, List, [], ◌∷◌, length, T, Float}
+use Rattle.std.specs.Prelude.{ℕ, ◌≡◌, Bool, true, false, List, [], ◌∷◌, length, T, Float, Result, Ok, Err}
 use Rattle.std.specs.Float.{binary64}
 use Rattle.std.specs.Float.Ieee.{fits}
-use Rattle.types.specs.declared.Answer.{Answer}
-use Rattle.types.specs.declared.Answer.TheVariants as Answers
 use Rattle.types.specs.declared.ScoringStrategy.TheVariants.{DISTANCE}
 use Rattle.basicthresholder.specs.Const.{zero32, z_factor_default}
 use Rattle.basicthresholder.specs.declared.Graded.{Graded}
@@ -16,14 +14,14 @@ use Rattle.descriptor.specs.declared.LastDescriptor.{LastDescriptor}
 use Rattle.predictorcorrector.specs.State as State
 use Rattle.predictorcorrector.specs.State.{z_factor_set, set_horizon, state_counts_ok}
 use Rattle.predictorcorrector.specs.declared.PredictorCorrector.{PredictorCorrector}
-use Rattle.predictorcorrector.specs.declared.Updated.{Updated}
 use Rattle.detection.specs.Judging.{opening}
 use Rattle.detection.specs.Judged.{Judged}
 use Rattle.detection.specs.declared.Verdict.{Verdict}
 use Rattle.detection.specs.declared.Verdict.TheVariants.{Quiet, Corrected, Raised, Skipped}
-use Rattle.detection.specs.declared.Outcome.{Outcome}
-use Rattle.detection.specs.declared.Outcome.TheVariants.{Accepted, Refused}
 use Rattle.detection.specs.declared.Judgment.{Judgment}
+use Rattle.types.specs.declared.Refusal.{Refusal}
+use Rattle.types.specs.declared.Updated.{Updated}
+use Rattle.types.specs.Refusals.{Answer}
 
 -- ---- the calls
 -- `detect_and_modify`: "each reading lends its own inputs". What it took beside the state, what it returned, and the three buffers that it may write, before
@@ -40,11 +38,11 @@ pub record Judging : Type 0 where
   pub high' : List Float
   pub low' : List Float
 
--- A call: what it took beside the state, and what it returned. `new` took the discount, auto adjust and the base dimension.
+-- A call: what it took beside the state, and what it returned. `new` took the discount, auto adjust and the base dimension, and was accepted.
 pub data Call : Type 0 where
-  new : Float → Bool → ℕ → Updated → Call
+  new : Float → Bool → ℕ → PredictorCorrector → Call
   set_z_factor : Float → PredictorCorrector → Call
-  set_horizon_call : Float → Updated → Call
+  set_horizon_call : Float → Updated PredictorCorrector → Call
   detect_and_modify : Judging → Call
 
 -- ---- calls in turn
@@ -59,7 +57,7 @@ pub record Kept (s : PredictorCorrector) (c : Judging) : Type 0 where
 -- "Each reading takes the state that the one before it returned; nothing else writes the state in between."
 abbrev pub JudgedInTurn : PredictorCorrector → List Call → Type 0
 JudgedInTurn s [] = Unit
-JudgedInTurn s (new d auto base r ∷ cs) = ⊥
+JudgedInTurn s (new d auto base s' ∷ cs) = ⊥
 JudgedInTurn s (set_z_factor x s' ∷ cs) = ⊥
 JudgedInTurn s (set_horizon_call x r ∷ cs) = ⊥
 JudgedInTurn s (detect_and_modify c ∷ cs) = Kept s c × JudgedInTurn c.judgment.state cs
@@ -67,20 +65,19 @@ JudgedInTurn s (detect_and_modify c ∷ cs) = Kept s c × JudgedInTurn c.judgmen
 -- "Only z and horizon may be set, before the first reading." A horizon that is refused is among them.
 abbrev pub SetInTurn : PredictorCorrector → List Call → Type 0
 SetInTurn s [] = Unit
-SetInTurn s (new d auto base r ∷ cs) = ⊥
+SetInTurn s (new d auto base s' ∷ cs) = ⊥
 SetInTurn s (set_z_factor x s' ∷ cs) = (s' ≡ z_factor_set s x) × SetInTurn s' cs
 SetInTurn s (set_horizon_call x r ∷ cs) = (r ≡ set_horizon s x) × SetInTurn r.state cs
 SetInTurn s (detect_and_modify c ∷ cs) = JudgedInTurn s (detect_and_modify c ∷ cs)
 
 -- "Fresh here is a newly built state": a construction that was accepted, then settings, then judgments.
-pub record Made (d : Float) (auto : Bool) (base : ℕ) (r : Updated) : Type 0 where
+pub record Made (d : Float) (auto : Bool) (base : ℕ) (s : PredictorCorrector) : Type 0 where
   pub discount : T (fits binary64 d)
-  pub contract : r ≡ State.new d auto base
-  pub accepted : r.answer ≡ Answers.Done
+  pub contract : State.new d auto base ≡ Ok s
 
 abbrev pub InTurn : List Call → Type 0
 InTurn [] = ⊥
-InTurn (new d auto base r ∷ cs) = Made d auto base r × SetInTurn r.state cs
+InTurn (new d auto base s ∷ cs) = Made d auto base s × SetInTurn s cs
 InTurn (set_z_factor x s' ∷ cs) = ⊥
 InTurn (set_horizon_call x r ∷ cs) = ⊥
 InTurn (detect_and_modify c ∷ cs) = ⊥
@@ -111,13 +108,13 @@ answer_at s c =
     answer_of c.reading c.last c.lent (length c.expected) (length c.high) (length c.low) s.base_dimension (state_counts_ok s)
 
 abbrev pub is_refusal : Answer → Bool
-is_refusal Answers.Done = false
-is_refusal (Answers.Refused why) = true
+is_refusal (Ok _) = false
+is_refusal (Err why) = true
 
 -- "Whether the refusal table refuses it", and its score.
 abbrev pub told_of : PredictorCorrector → List Call → List Told
 told_of s [] = []
-told_of s (new d auto base r ∷ cs) = told_of r.state cs
+told_of s (new d auto base s' ∷ cs) = told_of s' cs
 told_of s (set_z_factor x s' ∷ cs) = told_of s' cs
 told_of s (set_horizon_call x r ∷ cs) = told_of r.state cs
 told_of s (detect_and_modify c ∷ cs) = record { refused = is_refusal (answer_at s c); score = c.reading.score } ∷ told_of c.judgment.state cs
@@ -141,13 +138,13 @@ abbrev pub opened : PredictorCorrector → Reading → Graded
 opened s r = opening s.basic_thresholder r r.score
 
 -- By the state s that it took and the outcome that it returned. A verdict does not carry the opening grade; `Shows` ties the two.
-abbrev pub shown_by : PredictorCorrector → Reading → Outcome → Shown
-shown_by s r (Accepted v) = record { threshold = threshold_of v; opening = (opened s r).grade; ends = grade_of v }
-shown_by s r (Refused why) = record { threshold = zero32; opening = zero32; ends = zero32 }
+abbrev pub shown_by : PredictorCorrector → Reading → Result Verdict Refusal → Shown
+shown_by s r (Ok v) = record { threshold = threshold_of v; opening = (opened s r).grade; ends = grade_of v }
+shown_by s r (Err why) = record { threshold = zero32; opening = zero32; ends = zero32 }
 
 abbrev pub shown_of : PredictorCorrector → List Call → List Shown
 shown_of s [] = []
-shown_of s (new d auto base r ∷ cs) = shown_of r.state cs
+shown_of s (new d auto base s' ∷ cs) = shown_of s' cs
 shown_of s (set_z_factor x s' ∷ cs) = shown_of s' cs
 shown_of s (set_horizon_call x r ∷ cs) = shown_of r.state cs
 shown_of s (detect_and_modify c ∷ cs) = shown_by s c.reading c.judgment.outcome ∷ shown_of c.judgment.state cs

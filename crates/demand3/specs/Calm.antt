@@ -1,5 +1,5 @@
 -- Eleven calm readings by calls that keep the contract: that the statement's premises can be met. Definitions only.
-use Rattle.std.specs.Prelude.{ℕ, zero, suc, false, List, [], ◌∷◌, pos, length, Float}
+use Rattle.std.specs.Prelude.{ℕ, zero, suc, false, List, [], ◌∷◌, pos, length, Float, Result}
 use Rattle.std.specs.Float.{fin}
 use Rattle.types.specs.declared.ScoringStrategy.TheVariants.{DISTANCE}
 use Rattle.types.specs.declared.TransformMethod.TheVariants as Methods
@@ -9,11 +9,11 @@ use Rattle.descriptor.specs.declared.Reading.{Reading}
 use Rattle.descriptor.specs.declared.LastDescriptor.{LastDescriptor}
 use Rattle.predictorcorrector.specs.State as State
 use Rattle.predictorcorrector.specs.declared.PredictorCorrector.{PredictorCorrector}
-use Rattle.predictorcorrector.specs.declared.Updated.{Updated}
 use Rattle.detection.specs.Judging as Exits
 use Rattle.detection.specs.Judged.{outcome, state_after, index_after, written}
-use Rattle.detection.specs.declared.Outcome.{Outcome}
 use Rattle.demand3.specs.Calls.{Judging, Call, detect_and_modify}
+use Rattle.detection.specs.declared.Verdict.{Verdict}
+use Rattle.types.specs.declared.Refusal.{Refusal}
 
 abbrev pub nought : Float
 nought = fin false 0 (pos 0)
@@ -50,7 +50,7 @@ abbrev pub buffers : Lent
 buffers = lent ones ones ones ones [] [] ones ones ones ones ones []
 
 -- What the contract says of it from the state s, and the call.
-abbrev pub said : PredictorCorrector → Outcome
+abbrev pub said : PredictorCorrector → Result Verdict Refusal
 said s = outcome s reading last buffers (length ones) (length ones) (length ones)
 
 abbrev pub judging : PredictorCorrector → Judging
@@ -76,8 +76,8 @@ judgings zero s = []
 judgings (suc n) s = detect_and_modify (judging s) ∷ judgings n (judging s).judgment.state
 
 -- Discount 0, no auto adjust, base 1; then eleven of them in turn.
-abbrev pub made : Updated
-made = State.new nought false 1
+abbrev pub made : PredictorCorrector
+made = State.fresh_state nought false 1
 
 abbrev pub eleven : List Call
-eleven = judgings 11 made.state
+eleven = judgings 11 made

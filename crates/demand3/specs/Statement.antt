@@ -1,17 +1,15 @@
 -- Demand 3 of calls of the watch's functions: what this crate proves. The quoted words are document 01's. Definitions only.
-use Rattle.std.specs.Prelude.{ℕ, ◌≤◌, ◌≡◌, Bool, true, false, not, List, ◌∷◌, T, Float}
+use Rattle.std.specs.Prelude.{ℕ, ◌≤◌, ◌≡◌, Bool, true, false, not, List, ◌∷◌, T, Float, Result, Ok, Err}
 use Rattle.std.specs.Float.Ieee.{eq}
 use Rattle.basicthresholder.specs.Const.{zero32, z_factor_default}
 use Rattle.basicthresholder.specs.declared.Graded.{Graded}
 use Rattle.ledger.specs.Statement.{most_readings, accepted, Sizes, InBounds, Demand3}
 use Rattle.predictorcorrector.specs.declared.PredictorCorrector.{PredictorCorrector}
-use Rattle.predictorcorrector.specs.declared.Updated.{Updated}
 use Rattle.detection.specs.declared.Verdict.{Verdict}
 use Rattle.detection.specs.declared.Verdict.TheVariants.{Quiet, Corrected, Raised, Skipped}
-use Rattle.detection.specs.declared.Outcome.{Outcome}
-use Rattle.detection.specs.declared.Outcome.TheVariants.{Accepted, Refused}
 use Rattle.demand3.specs.Calls.{Judging, Call, new, Contract, InTurn, z_of, ZUnset, answer_at, is_refusal, told_of, shown_of, threshold_of, grade_of, opened}
 use Rattle.demand3.specs.Calm.{nought, made, eleven}
+use Rattle.types.specs.declared.Refusal.{Refusal}
 
 -- ---- what a call returned, beside its opening threshold and grade
 abbrev pub is_quiet : Verdict → Bool
@@ -41,21 +39,21 @@ pub record Shows (o : Graded) (v : Verdict) : Type 0 where
   pub raised : T (is_raised v) → grade_of v ≡ o.grade
 
 -- The table's refusal is the one that was returned, and an accepted score that is not 0 shows its opening.
-abbrev pub Returned : PredictorCorrector → Judging → Outcome → Type 0
-Returned s c (Accepted v) = (is_refusal (answer_at s c) ≡ false) × (T (not (eq c.reading.score zero32)) → Shows (opened s c.reading) v)
-Returned s c (Refused why) = is_refusal (answer_at s c) ≡ true
+abbrev pub Returned : PredictorCorrector → Judging → Result Verdict Refusal → Type 0
+Returned s c (Ok v) = (is_refusal (answer_at s c) ≡ false) × (T (not (eq c.reading.score zero32)) → Shows (opened s c.reading) v)
+Returned s c (Err why) = is_refusal (answer_at s c) ≡ true
 
 -- ---- the statement
 pub record Demand3OfCalls : Type 0 where
   -- Of each judgment, whatever its strategy.
   pub returned : (s : PredictorCorrector) (c : Judging) → Contract s c → Returned s c c.judgment.outcome
   -- "A single statement about the list of readings": a list of calls that begins with `new`.
-  pub demand_3 : (d : Float) (auto : Bool) (base : ℕ) (r : Updated) (cs : List Call)
-      → InTurn (new d auto base r ∷ cs) → InBounds (z_of cs) (told_of r.state cs)
-      → Demand3 d (z_of cs) (told_of r.state cs) (shown_of r.state cs)
+  pub demand_3 : (d : Float) (auto : Bool) (base : ℕ) (s : PredictorCorrector) (cs : List Call)
+      → InTurn (new d auto base s ∷ cs) → InBounds (z_of cs) (told_of s cs)
+      → Demand3 d (z_of cs) (told_of s cs) (shown_of s cs)
   -- Where none sets z, by the new state's own: the bounds on the readings are left.
-  pub default_z : (d : Float) (auto : Bool) (base : ℕ) (r : Updated) (cs : List Call)
-      → InTurn (new d auto base r ∷ cs) → ZUnset cs → accepted (told_of r.state cs) ≤ most_readings → Sizes (told_of r.state cs)
-      → Demand3 d z_factor_default (told_of r.state cs) (shown_of r.state cs)
+  pub default_z : (d : Float) (auto : Bool) (base : ℕ) (s : PredictorCorrector) (cs : List Call)
+      → InTurn (new d auto base s ∷ cs) → ZUnset cs → accepted (told_of s cs) ≤ most_readings → Sizes (told_of s cs)
+      → Demand3 d z_factor_default (told_of s cs) (shown_of s cs)
   -- Such lists exist: the entry checks accept eleven calm readings, and the last has ten counted before it.
-  pub met : InTurn (new nought false 1 made ∷ eleven) × ZUnset eleven × InBounds (z_of eleven) (told_of made.state eleven) × (accepted (told_of made.state eleven) ≡ 11)
+  pub met : InTurn (new nought false 1 made ∷ eleven) × ZUnset eleven × InBounds (z_of eleven) (told_of made eleven) × (accepted (told_of made eleven) ≡ 11)

@@ -11,16 +11,14 @@ use lib.Ieee.Bits.{of_bits-fits}
 use borrow.Author.Tests.{eq-eqb}
 use Rattle.types.specs.Refusals.{answered}
 use Rattle.types.specs.declared.Refusal.TheVariants.{Discount, Range, Horizon}
-use Rattle.types.specs.declared.Answer.TheVariants.{Done, Refused}
 use Rattle.deviation.specs.Statistics.{is_discount}
 use Rattle.basicthresholder.specs.Const.{zero32, z_factor_default}
 use Rattle.basicthresholder.specs.Updates.{done, refused, is_horizon, with_score_differencing, set_score_differencing}
 use Rattle.ledger.specs.Statement as Ledgers
 use Rattle.ledger.specs.Statement.{most_readings, Told, Shown, Sizes, InBounds, Demand3}
 use Rattle.ledger.proofs.Laws.{by_default}
-use Rattle.predictorcorrector.specs.State.{new, fresh_state, refused_new, updated, z_factor_set, set_horizon}
+use Rattle.predictorcorrector.specs.State.{new, fresh_state, updated, z_factor_set, set_horizon}
 use Rattle.predictorcorrector.specs.declared.PredictorCorrector.{PredictorCorrector}
-use Rattle.predictorcorrector.specs.declared.Updated.{Updated}
 use Rattle.layout.specs.Places.{state_length, z_factor_at}
 use Rattle.layout.specs.Numbers.{le4, f32_at, f32_bytes, f64_bytes, i32_bytes, flag_bytes, bytes4, bytes8}
 use Rattle.layout.specs.States.{joined, decode_thresholder, encode_deviation, encode_thresholder}
@@ -49,6 +47,7 @@ use Rattle.pool_laws.proofs.Theorems.{pool_rules}
 use Rattle.demand3_in_pool.specs.Statement.{Judgments, SetFirst, z_after, z_asked, ZUnasked, told_in, shown_in, Demand3InPool}
 use Rattle.demand3_in_pool.proofs.OneWay.{one_way}
 use Rattle.demand3_in_pool.proofs.Witness.{calm_met}
+use Rattle.types.specs.declared.Updated.{Updated}
 
 -- ---- bytes that hold a state with the z factor z, and that no setter refuses
 record Ready (zs : List ℕ) (z : Float) : Type 0 where
@@ -104,7 +103,7 @@ module _ (x z : Float) (n : ℕ) (zs ys : List ℕ) (r : Ready zs z) (h : T (fit
   unfolding set_horizon set_score_differencing
   horizon_factor = go (is_horizon x) ∙ held_factor zs ∙ r.factor
     where
-      go : (b : Bool) → (cond b (done (with_score_differencing (decode_state zs).basic_thresholder x)) (refused Horizon (decode_state zs).basic_thresholder)).thresholder.z_factor
+      go : (b : Bool) → (cond b (done (with_score_differencing (decode_state zs).basic_thresholder x)) (refused Horizon (decode_state zs).basic_thresholder)).state.z_factor
           ≡ (decode_state zs).basic_thresholder.z_factor
       go true = refl
       go false = refl
@@ -113,7 +112,7 @@ module _ (x z : Float) (n : ℕ) (zs ys : List ℕ) (r : Ready zs z) (h : T (fit
   unfolding set_on stored_unless_same horizon_set_in f32_at
   horizon_set e = go (eqb (answered u.answer) 0) (same_state (decode_state zs) u.state) refl refl
     where
-      u : Updated
+      u : Updated PredictorCorrector
       u = set_horizon (decode_state zs) x
 
       stored : (a b : Bool) → eqb (answered u.answer) 0 ≡ a → same_state (decode_state zs) u.state ≡ b
@@ -231,15 +230,9 @@ unasked z (setting (initial_threshold x) ∷ qs) u = unasked z qs u
 unasked z (setting (horizon x) ∷ qs) u = unasked z qs u
 unasked z (judgment a ∷ qs) u = unasked z qs u
 
-new_factor : (d : Float) (auto : Bool) (base : ℕ) → (new d auto base).state.basic_thresholder.z_factor ≡ z_factor_default
-unfolding new refused_new fresh_state
-new_factor d auto base = go (is_discount d) (leb 1 base && leb base 16)
-  where
-    go : (a b : Bool)
-        → (cond a (cond b (updated Done (fresh_state d auto base)) (refused_new (Refused Range))) (refused_new (Refused Discount))).state.basic_thresholder.z_factor ≡ z_factor_default
-    go true true = refl
-    go true false = refl
-    go false b = refl
+new_factor : (d : Float) (auto : Bool) (base : ℕ) → (fresh_state d auto base).basic_thresholder.z_factor ≡ z_factor_default
+unfolding fresh_state
+new_factor d auto base = refl
 
 module _ (xs : List ℕ) (d : ℕ) (discount : Float) (adjust base : ℕ) (ys : List ℕ) (c : Contract xs (opens d discount adjust base 0 ys)) where
   bytes : ys ≡ (opening d discount adjust base xs).bytes
@@ -253,8 +246,8 @@ module _ (xs : List ℕ) (d : ℕ) (discount : Float) (adjust base : ℕ) (ys : 
     holds : Holds ys d
     contract : left 0 (state_of ys d) ≡ chain_made (new discount (eqb adjust 1) base) adjust (replicate state_length 0)
 
-  state_is : state_of ys d ≡ encode_state_over (replicate state_length 0) (new discount (eqb adjust 1) base).state
-  state_is = ap (λ (l : List ℕ). state_of l d) bytes ∙ (pool_rules.opened xs d discount adjust base accepted).3
+  state_is : state_of ys d ≡ encode_state_over (replicate state_length 0) (fresh_state discount (eqb adjust 1) base)
+  state_is = ap (λ (l : List ℕ). state_of l d) bytes ∙ (pool_rules.opened xs d discount adjust base accepted).4
 
   opened : Opened
   opened = go (which xs d discount adjust base)
@@ -275,7 +268,7 @@ module _ (xs : List ℕ) (d : ℕ) (discount : Float) (adjust base : ℕ) (ys : 
   asking : Asking (state_of ys d) z_factor_default z_factor_default
   asking = record {
     ready = subst (λ (l : List ℕ). Ready l z_factor_default) (sym state_is)
-        (put_ready (replicate state_length 0) (new discount (eqb adjust 1) base).state z_factor_default (length-replicate {A = ℕ} state_length 0) (new_factor discount (eqb adjust 1) base) default_fits);
+        (put_ready (replicate state_length 0) (fresh_state discount (eqb adjust 1) base) z_factor_default (length-replicate {A = ℕ} state_length 0) (new_factor discount (eqb adjust 1) base) default_fits);
     held = default_fits;
     asked = default_fits;
     alike = float_same z_factor_default;

@@ -1,4 +1,5 @@
 -- The premises can be met: an empty pool has room for drawer 1, and calm readings in it are told what the C functions tell over its state's bytes. Assumes nothing.
+use Rattle.std.specs.Prelude.{Result, Ok}
 use mathlib.Core.Path.{◌≡◌, refl, sym, ap, ◌∙◌, subst}
 use mathlib.Core.Bool.{not}
 use mathlib.Core.List.{List, [], ◌∷◌}
@@ -10,7 +11,7 @@ use lib.Ieee.{Float, binary64, fits}
 use borrow.Author.Tests.{eq-eqb, ne_eqb}
 use Rattle.basicthresholder.specs.Const.{z_factor_default}
 use Rattle.ledger.specs.Statement.{Told, accepted, InBounds}
-use Rattle.predictorcorrector.specs.State.{new}
+use Rattle.predictorcorrector.specs.State.{new, fresh_state}
 use Rattle.layout.specs.Places.{reading_length, state_length}
 use Rattle.layout.specs.Chain.{encode_state_over}
 use Rattle.layout.specs.Left.{Left, left}
@@ -21,8 +22,6 @@ use Rattle.demand3_over_c.specs.Calm as Calm
 use Rattle.demand3_over_c.proofs.OverC.{demand_3_over_c}
 use Rattle.record_pool.specs.Chains.{Chained, is_number, holder}
 use Rattle.record_pool.specs.Pool.{first_free, next_at, number_at, state_of, record_of, slot, vacancy}
-use Rattle.record_pool.specs.declared.Located.{Located}
-use Rattle.record_pool.specs.declared.Located.TheVariants.{At}
 use Rattle.pool_drawers.specs.Drawers.{laid_out, open_by, opening}
 use Rattle.pool_laws.specs.Calls.{opens, judges, Contract, InTurn}
 use Rattle.pool_laws.specs.Isolation.{Ask, setting, judgment, asks, tells, Stays, Holds}
@@ -31,6 +30,8 @@ use Rattle.pool_laws.proofs.Alone.{is_there, judged_there}
 use Rattle.pool_laws.proofs.Theorems.{pool_rules}
 use Rattle.demand3_in_pool.specs.Calm.{nought, asked, reply, calm, next, calms, pool, eleven}
 use Rattle.demand3_in_pool.specs.Statement.{Judgments, SetFirst, z_after, z_asked, ZUnasked, told_in}
+use Rattle.record_pool.specs.declared.Slot.{Slot}
+use Rattle.types.specs.declared.Refusal.{Refusal}
 
 -- ---- one calm reading in a pool that holds drawer 1
 module _ (xs : List ℕ) (h : Holds xs 1) where
@@ -94,7 +95,7 @@ absent = ap (holder (number_at laid_out) 1) pool_rules.empty.1
 first_free_lem : first_free laid_out ≡ 1
 first_free_lem = (subst (Chained (next_at laid_out) (first_free laid_out)) pool_rules.empty.2 (pool_rules.means laid_out pool_rules.empty.0).1.walk_free).0
 
-room : vacancy laid_out 1 ≡ At (slot laid_out (first_free laid_out) 0)
+room : vacancy laid_out 1 ≡ Ok (slot laid_out (first_free laid_out) 0)
 unfolding vacancy is_number
 room = rw (pool_rules.empty.0, eq-eqb (record_of laid_out 1) 0 absent, ne_eqb (first_free laid_out) 0 (λ e. omega (arith, first_free_lem))) refl
 
@@ -114,7 +115,7 @@ opens_it : (opening 1 nought 0 1 laid_out).answer ≡ 0
 unfolding opening
 opens_it =
     let z : (chain_made (new nought (eqb 0 1) 1) 0 zeros).answer ≡ 0 = sym (ap (λ (l : Left). l.answer) over_c.0.0.contract) in
-    ap (λ (l : Located). (open_by l (chain_made (new nought (eqb 0 1) 1) 0 zeros) 1 laid_out).answer) room ∙ rw z refl
+    ap (λ (l : Result Slot Refusal). (open_by l (chain_made (new nought (eqb 0 1) 1) 0 zeros) 1 laid_out).answer) room ∙ rw z refl
 
 open_contract : Contract laid_out (opens 1 nought 0 1 0 pool)
 open_contract = λ i. left (sym opens_it i) pool
@@ -127,8 +128,8 @@ holds = record {
 
 state_is : state_of pool 1 ≡ made zeros
 state_is =
-    (pool_rules.opened laid_out 1 nought 0 1 opens_it).3
-    ∙ sym (ap (λ (n : ℕ). encode_state_over (replicate n 0) (new nought (eqb 0 1) 1).state) zeros_long)
+    (pool_rules.opened laid_out 1 nought 0 1 opens_it).4
+    ∙ sym (ap (λ (n : ℕ). encode_state_over (replicate n 0) (fresh_state nought (eqb 0 1) 1)) zeros_long)
 
 -- ---- the statement
 pub calm_met : T (fits binary64 nought) × Contract laid_out (opens 1 nought 0 1 0 pool) × InTurn pool eleven × Stays 1 eleven × SetFirst (asks 1 eleven)

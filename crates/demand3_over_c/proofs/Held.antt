@@ -1,4 +1,5 @@
 -- What a reading leaves can be stored: each float is a value of its format, each number fits its bytes. Assumes nothing.
+use Rattle.std.specs.Prelude.{Ok, Err}
 use mathlib.Core.Path.{◌≡◌, refl, sym, ap, ◌∙◌, subst}
 use mathlib.Core.Bool.{Bool, true, false, cond, ◌&&◌}
 use mathlib.Core.List.{List, [], ◌∷◌}
@@ -17,13 +18,11 @@ use Rattle.ieee.specs.Round.{narrow}
 use Rattle.util.specs.Util.{minf32, maxf32}
 use Rattle.types.specs.Codes.{is_height}
 use Rattle.types.specs.declared.Refusal.TheVariants as Refusals
-use Rattle.types.specs.declared.Answer.TheVariants as Answers
 use Rattle.types.specs.declared.ScoringStrategy.{ScoringStrategy}
 use Rattle.deviation.specs.Const.{zero64, count_limit}
 use Rattle.deviation.specs.Statistics as Statistics
 use Rattle.deviation.specs.Statistics.{fresh, reset, mean, counted, next, countable, one_more}
 use Rattle.deviation.specs.declared.Deviation.{Deviation}
-use Rattle.deviation.specs.declared.Updated as Counted
 use Rattle.basicthresholder.specs.Const.{zero32, two32}
 use Rattle.basicthresholder.specs.Updates.{with_counted, counted_gap, counted_over, primary_counted, both_counted, counts_ok, done, refused, updated, update_primary, update_both, update, Settings, with_settings, with_z_factor, with_lower_threshold, with_absolute_threshold, with_initial_threshold, with_score_differencing}
 use Rattle.basicthresholder.specs.declared.BasicThresholder.{BasicThresholder}
@@ -41,6 +40,7 @@ use Rattle.detection.specs.declared.Verdict.TheVariants.{Quiet, Corrected, Raise
 use Rattle.layout.specs.Chain.{entries}
 use Rattle.layout.specs.Fits.{DeviationFits, ThresholderFits}
 use Rattle.stored_state.specs.Fits.{ListFits, StateFits}
+use Rattle.types.specs.declared.Updated.{Updated}
 
 -- ---- numbers
 pub narrow_fits : (x : Float) → T (fits binary32 (narrow x))
@@ -94,7 +94,7 @@ counted_fits : (d : Deviation) (x : Float) → DeviationFits d → DeviationFits
 unfolding Statistics.update next
 counted_fits d x f = go (countable d.count) refl
   where
-    go : (c : Bool) → countable d.count ≡ c → DeviationFits (cond {A = Counted.Updated} c (record { answer = Answers.Done; deviation = next d x }) (record { answer = Answers.Refused Refusals.Count; deviation = d })).deviation
+    go : (c : Bool) → countable d.count ≡ c → DeviationFits (cond {A = Updated Deviation} c (record { answer = Ok tt; state = next d x }) (record { answer = Err Refusals.Count; state = d })).state
     go true e = record {
       discount = f.discount;
       weight = add-fits binary64 _ _;
@@ -143,19 +143,19 @@ both_fits t x y h f =
     with_counted_lem t _ _ _ _ _ f h (counted_fits t.primary_deviation x f.primary)
     (counted_fits t.secondary_deviation y f.secondary) (over_fits t.threshold_deviation _ _ f.third) (one_more_small t.count f.count)
 
-pub updated_fits : (t after : BasicThresholder) → ThresholderFits t → ThresholderFits after → ThresholderFits (updated t after).thresholder
+pub updated_fits : (t after : BasicThresholder) → ThresholderFits t → ThresholderFits after → ThresholderFits (updated t after).state
 unfolding updated
 updated_fits t after f g = go (counts_ok t)
   where
-    go : (c : Bool) → ThresholderFits (cond c (done after) (refused Refusals.Count t)).thresholder
+    go : (c : Bool) → ThresholderFits (cond c (done after) (refused Refusals.Count t)).state
     go true = g
     go false = f
 
-pub capped_fits : (t : BasicThresholder) (x y z : Float) → T (fits binary32 x) → ThresholderFits t → ThresholderFits (update t x y z).thresholder
+pub capped_fits : (t : BasicThresholder) (x y z : Float) → T (fits binary32 x) → ThresholderFits t → ThresholderFits (update t x y z).state
 unfolding update update_both
 capped_fits t x y z h f = updated_fits t _ f (both_fits t (minf32 two32 x) (Ieee.sub binary32 y z) (min_fits two32 x (of_bits-fits binary32 0x4000_0000) h) f)
 
-pub distance_fits : (t : BasicThresholder) (x : Float) → ThresholderFits t → ThresholderFits (update_primary t x).thresholder
+pub distance_fits : (t : BasicThresholder) (x : Float) → ThresholderFits t → ThresholderFits (update_primary t x).state
 unfolding update_primary
 distance_fits t x f = updated_fits t _ f (primary_fits t x f)
 
@@ -163,7 +163,7 @@ score_fits : (t : BasicThresholder) (k : ScoringStrategy) (x y : Float) (o : Sco
 unfolding update_score
 score_fits t k x y o z h f = go (is_height k)
   where
-    go : (c : Bool) → ThresholderFits (cond c (update t x y (height_score o z)).thresholder (update_primary t x).thresholder)
+    go : (c : Bool) → ThresholderFits (cond c (update t x y (height_score o z)).state (update_primary t x).state)
     go true = capped_fits t x y (height_score o z) h f
     go false = distance_fits t x f
 

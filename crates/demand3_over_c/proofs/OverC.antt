@@ -1,4 +1,5 @@
 -- Demand 3 of the C functions: a construction, settings of z and horizon, then judgments in turn, over one lent state. Assumes nothing.
+use Rattle.std.specs.Prelude.{Result, Ok}
 use mathlib.Core.Path.{◌≡◌, refl, sym, ap, ◌∙◌, subst}
 use mathlib.Core.Bool.{Bool, true, false, not, cond, ◌&&◌}
 use mathlib.Core.List.{List, [], ◌∷◌}
@@ -24,8 +25,6 @@ use Rattle.predictorcorrector.specs.declared.PredictorCorrector.{PredictorCorrec
 use Rattle.divector.specs.DiVector.{normalized}
 use Rattle.detection.specs.Judging.{expected}
 use Rattle.detection.specs.Judged.{state_after, index_after, written}
-use Rattle.detection.specs.declared.Outcome.{Outcome}
-use Rattle.detection.specs.declared.Outcome.TheVariants.{Accepted}
 use Rattle.detection.specs.declared.Judgment.{Judgment}
 use Rattle.layout.specs.Chain.{decode_state}
 use Rattle.layout.specs.Left.{left}
@@ -39,6 +38,8 @@ use Rattle.demand3_over_c.specs.Statement.{Opens, Demand3OverC}
 use Rattle.demand3_over_c.proofs.Simulation.{state_of, reading_of, last_of, by_value, Taken, taken, said, through, score_is, refused_keeps, accepted_reads, accepted_left, simulated, opens_over_c}
 use Rattle.demand3_over_c.proofs.Start.{Holds, new_holds, z_holds, horizon_holds}
 use Rattle.demand3_over_c.proofs.Witness.{calm_met}
+use Rattle.detection.specs.declared.Verdict.{Verdict}
+use Rattle.types.specs.declared.Refusal.{Refusal}
 
 -- ---- small facts
 zero_is : zero32 ≡ plus_zero
@@ -130,9 +131,9 @@ module _ (xs : List ℕ) (c : Judging) (q : Kept xs c) (k : Taken xs c) where
           says = refl;
           state = refl;
           index = refl;
-          point = q.contract.point ∙ ap (λ (o : Outcome). written o c.expected (expected (reading_of xs c) (last_of xs c) c.lent)) same;
-          highs = q.contract.highs ∙ ap (λ (o : Outcome). written o c.high (normalized (reading_of xs c).score c.lent.high c.lent.low c.lent.high)) same;
-          lows = q.contract.lows ∙ ap (λ (o : Outcome). written o c.low (normalized (reading_of xs c).score c.lent.high c.lent.low c.lent.low)) same;
+          point = q.contract.point ∙ ap (λ (o : Result Verdict Refusal). written o c.expected (expected (reading_of xs c) (last_of xs c) c.lent)) same;
+          highs = q.contract.highs ∙ ap (λ (o : Result Verdict Refusal). written o c.high (normalized (reading_of xs c).score c.lent.high c.lent.low c.lent.high)) same;
+          lows = q.contract.lows ∙ ap (λ (o : Result Verdict Refusal). written o c.low (normalized (reading_of xs c).score c.lent.high c.lent.low c.lent.low)) same;
         };
         distance = by_distance;
       }
@@ -149,7 +150,7 @@ module _ (xs : List ℕ) (c : Judging) (q : Kept xs c) (k : Taken xs c) where
   abbrev shown_by_bytes : Shown
   shown_by_bytes = record { threshold = threshold_in c.verdict'; opening = opening_in c.verdict'; ends = grade_in c.verdict' }
 
-  shown_is : shown_by_value ≡ shown_by (decode_state xs) (reading_of xs c) (Accepted (said xs c k))
+  shown_is : shown_by_value ≡ shown_by (decode_state xs) (reading_of xs c) (Ok (said xs c k))
   shown_is = ap (shown_by (decode_state xs) (reading_of xs c)) k.says_by
 
   opens_above : Opens (opened (decode_state xs) (reading_of xs c)) c.verdict' → T (lt plus_zero (opened (decode_state xs) (reading_of xs c)).grade) → T (lt plus_zero (opening_in c.verdict'))
@@ -161,7 +162,7 @@ module _ (xs : List ℕ) (c : Judging) (q : Kept xs c) (k : Taken xs c) where
   judged_same : (z M : Fraction) (b : Ledger) → c.answer ≡ 0 → T (not (eq (score_of c) zero32)) → Judged z M b (score_of c) shown_by_value → Judged z M b (score_of c) shown_by_bytes
   judged_same z M b e n j =
       let reads = accepted_reads xs c q.contract k in
-      judged_by z M b (score_of c) (shown_by (decode_state xs) (reading_of xs c) (Accepted (said xs c k))) shown_by_bytes reads.threshold reads.grade
+      judged_by z M b (score_of c) (shown_by (decode_state xs) (reading_of xs c) (Ok (said xs c k))) shown_by_bytes reads.threshold reads.grade
       (opens_above (opens_over_c xs c q.contract e n)) (subst (Judged z M b (score_of c)) shown_is j)
 
 -- ---- a list of calls over C, and the calls by value of its accepted ones: in turn, each with the state that the one before it returned
@@ -278,8 +279,8 @@ demand_3 : (d : Float) (auto base : ℕ) (out : List ℕ) (n : ℕ) (xs : List �
 demand_3 d auto base out n xs cs t b =
     let m = t.0 in
     let h = new_holds d (eqb auto 1) base auto out xs m.discount (subst (λ (k : ℕ). left k xs ≡ chain_made (new d (eqb auto 1) base) auto out) m.accepted m.contract) in
-    let w = fresh d (eqb auto 1) base h.0 in
-    set d m.discount w.discount cs z_factor_default (new d (eqb auto 1) base).state xs w.new h.1 t.1 b
+    let w = fresh d (eqb auto 1) base h.0 h.1 in
+    set d m.discount w.discount cs z_factor_default h.0 xs w.new h.2 t.1 b
 
 z_unset : (z : Float) (cs : List Call) → ZUnset cs → z_after z cs ≡ z
 z_unset z [] u = refl

@@ -1,4 +1,5 @@
 -- A judgment over C is the judgment by value of the decoded state: its answer, the state's bytes and the verdict's. Assumes nothing.
+use Rattle.std.specs.Prelude.{Result, Ok, Err}
 use mathlib.Core.Path.{◌≡◌, refl, sym, ap, ◌∙◌, subst}
 use mathlib.Core.Bool.{Bool, true, false, not, cond, true≢false}
 use mathlib.Core.List.{List}
@@ -11,11 +12,9 @@ use lib.ListN.{length}
 use lib.Ieee.{Float, binary32, fits, eq}
 use lib.Ieee.Bits.{of_bits-fits, is_false}
 use borrow.Author.Tests.{eqb-true}
-use Rattle.types.specs.Refusals.{number}
+use Rattle.types.specs.Refusals.{number, Answer}
 use Rattle.types.specs.declared.Refusal.{Refusal}
 use Rattle.types.specs.declared.Refusal.TheVariants.{Discount, Range, Length, NotFinite, ValuesSeen, Count, Horizon, Blocks, Row, Field, Drawer, Full, Pool}
-use Rattle.types.specs.declared.Answer.{Answer}
-use Rattle.types.specs.declared.Answer.TheVariants as Answers
 use Rattle.basicthresholder.specs.Const.{zero32}
 use Rattle.divector.specs.DiVector.{normalized}
 use Rattle.descriptor.specs.Checks.{answer_of, lengths_of, sizes_ok, range_ok, lengths_ok, finite_ok, seen_ok}
@@ -28,8 +27,6 @@ use Rattle.detection.specs.Judging.{verdict, after, expected, relative_index}
 use Rattle.detection.specs.Judged.{Judged, outcome, outcome_of, outcome_number, state_after, index_after, written}
 use Rattle.detection.specs.declared.Verdict.{Verdict}
 use Rattle.detection.specs.declared.Verdict.TheVariants.{Quiet, Corrected, Raised, Skipped}
-use Rattle.detection.specs.declared.Outcome.{Outcome}
-use Rattle.detection.specs.declared.Outcome.TheVariants.{Accepted, Refused}
 use Rattle.detection.specs.declared.Judgment.{Judgment}
 use Rattle.layout.specs.Places.{state_length, reading_length, verdict_length}
 use Rattle.layout.specs.Numbers.{le4, f32_at}
@@ -43,6 +40,7 @@ use Rattle.stored_state.proofs.Decoded.{decoded_fits, counted_numbers}
 use Rattle.demand3.specs.Calls.{opened}
 use Rattle.demand3_over_c.specs.Calls.{Judging, Contract, score_of}
 use Rattle.demand3_over_c.specs.Statement.{Reads, Opens, Says, Simulated}
+use Rattle.demand3_over_c.proofs.Start.{number_above}
 use Rattle.demand3_over_c.proofs.Held.{after_fits}
 use Rattle.demand3_over_c.proofs.Index.{index_small}
 use Rattle.demand3_over_c.proofs.Verdicts.{told_reads, verdict_fits, verdict_opens}
@@ -61,32 +59,17 @@ unfolding decode_reading
 score_fits xs = float_fits xs 15
 
 -- ---- an answer of 0
-number_above : (why : Refusal) → number why ≡ 0 → ⊥
-number_above Discount e = absurd (omega arith)
-number_above Range e = absurd (omega arith)
-number_above Length e = absurd (omega arith)
-number_above NotFinite e = absurd (omega arith)
-number_above ValuesSeen e = absurd (omega arith)
-number_above Count e = absurd (omega arith)
-number_above Horizon e = absurd (omega arith)
-number_above Blocks e = absurd (omega arith)
-number_above Row e = absurd (omega arith)
-number_above Field e = absurd (omega arith)
-number_above Drawer e = absurd (omega arith)
-number_above Full e = absurd (omega arith)
-number_above Pool e = absurd (omega arith)
-
 abbrev refusing : Answer → Bool
-refusing Answers.Done = false
-refusing (Answers.Refused why) = true
+refusing (Ok _) = false
+refusing (Err why) = true
 
-done_of : (v : Verdict) (a : Answer) → outcome_number (outcome_of v a) ≡ 0 → a ≡ Answers.Done
+done_of : (v : Verdict) (a : Answer) → outcome_number (outcome_of v a) ≡ 0 → a ≡ Ok tt
 unfolding outcome_of
-done_of v Answers.Done e = refl
-done_of v (Answers.Refused why) e = absurd (number_above why e)
+done_of v (Ok _) e = refl
+done_of v (Err why) e = absurd (number_above why e)
 
 passed : (a c d e f : Bool)
-    → cond a (cond c (cond d (cond e (cond f Answers.Done (Answers.Refused Count)) (Answers.Refused ValuesSeen)) (Answers.Refused NotFinite)) (Answers.Refused Length)) (Answers.Refused Range) ≡ Answers.Done
+    → cond {A = Answer} a (cond c (cond d (cond e (cond f (Ok tt) (Err Count)) (Err ValuesSeen)) (Err NotFinite)) (Err Length)) (Err Range) ≡ Ok tt
     → (a ≡ true) × ((c ≡ true) × (f ≡ true))
 passed true true true true true q = (refl, (refl, refl))
 passed true true true true false q = absurd (true≢false (ap refusing q))
@@ -106,10 +89,10 @@ module _ (xs : List ℕ) (c : Judging) where
   abbrev pub last_of : LastDescriptor
   last_of = decode_last c.last
 
-  abbrev pub over : Outcome
+  abbrev pub over : Result Verdict Refusal
   over = outcome_over xs c.reading c.last c.lent (length c.expected) (length c.high) (length c.low) (length c.verdict)
 
-  abbrev pub by_value : Outcome
+  abbrev pub by_value : Result Verdict Refusal
   by_value = outcome state_of reading_of last_of c.lent (length c.expected) (length c.high) (length c.low)
 
   abbrev pub answer_by : Answer
@@ -130,7 +113,7 @@ module _ (xs : List ℕ) (c : Judging) where
   unfolding outcome_over
   asked e = go codes slices (sizes_fit xs c.reading) e
     where
-      go : (p q f : Bool) → outcome_number (cond p (cond q by_value (cond f (Refused Length) (Refused Range))) (Refused Range)) ≡ 0 → (p ≡ true) × (q ≡ true)
+      go : (p q f : Bool) → outcome_number (cond p (cond q by_value (cond f (Err Length) (Err Range))) (Err Range)) ≡ 0 → (p ≡ true) × (q ≡ true)
       go true true f n = (refl, refl)
       go true false true n = absurd (number_above Length n)
       go true false false n = absurd (number_above Range n)
@@ -143,15 +126,15 @@ module _ (xs : List ℕ) (c : Judging) where
       let b = both (eqb (length c.reading) reading_length) _ a.1 in
       (eqb-true (length xs) state_length a.0, eqb-true (length c.reading) reading_length b.0)
 
-  done_at : outcome_number by_value ≡ 0 → answer_by ≡ Answers.Done
+  done_at : outcome_number by_value ≡ 0 → answer_by ≡ Ok tt
   unfolding outcome
   done_at e = done_of (verdict reading_of last_of c.lent state_of) answer_by e
 
-  accepted_at : answer_by ≡ Answers.Done → by_value ≡ Accepted (verdict reading_of last_of c.lent state_of)
+  accepted_at : answer_by ≡ Ok tt → by_value ≡ Ok (verdict reading_of last_of c.lent state_of)
   unfolding outcome outcome_of
   accepted_at e = rw e
 
-  entry : answer_by ≡ Answers.Done → (range_ok reading_of.shingle_size reading_of.base_dimension state_of.base_dimension ≡ true) × ((lengths_ok reading_of last_of (lengths_of c.lent (length c.expected) (length c.high) (length c.low)) ≡ true) × (state_counts_ok state_of ≡ true))
+  entry : answer_by ≡ Ok tt → (range_ok reading_of.shingle_size reading_of.base_dimension state_of.base_dimension ≡ true) × ((lengths_ok reading_of last_of (lengths_of c.lent (length c.expected) (length c.high) (length c.low)) ≡ true) × (state_counts_ok state_of ≡ true))
   unfolding answer_of
   entry e =
       passed (range_ok reading_of.shingle_size reading_of.base_dimension state_of.base_dimension)
@@ -174,13 +157,13 @@ module _ (xs : List ℕ) (c : Judging) where
     pub slices_ok_lem : slices ≡ true
     pub size : length xs ≡ state_length
     pub reading_size : length c.reading ≡ reading_length
-    pub done : answer_by ≡ Answers.Done
-    pub says : over ≡ Accepted (verdict reading_of last_of c.lent state_of)
-    pub says_by : by_value ≡ Accepted (verdict reading_of last_of c.lent state_of)
+    pub done : answer_by ≡ Ok tt
+    pub says : over ≡ Ok (verdict reading_of last_of c.lent state_of)
+    pub says_by : by_value ≡ Ok (verdict reading_of last_of c.lent state_of)
     pub fits : StateFits state_of
     pub index : mag (relative_index reading_of last_of c.lent (verdict reading_of last_of c.lent state_of)) < 0x8000_0000
 
-  pub taken_by : codes ≡ true → slices ≡ true → answer_by ≡ Answers.Done → Taken
+  pub taken_by : codes ≡ true → slices ≡ true → answer_by ≡ Ok tt → Taken
   taken_by p q d =
       let l = long q in
       let f = entry d in
@@ -228,7 +211,7 @@ module _ (xs : List ℕ) (c : Judging) where
     accepted_state : decode_state (state_left over xs (state_over xs c.reading c.last c.lent over)) ≡ state_after state_of reading_of last_of c.lent by_value
     unfolding state_left state_over state_after
     accepted_state =
-        ap (λ (o : Outcome). decode_state (state_left o xs (state_over xs c.reading c.last c.lent o))) k.says
+        ap (λ (o : Result Verdict Refusal). decode_state (state_left o xs (state_over xs c.reading c.last c.lent o))) k.says
         ∙ read_back said ∙ ap (state_after state_of reading_of last_of c.lent) (sym k.says_by)
 
     accepted_verdict : (n : ℤ) → n ≡ index_over xs c.reading c.last c.lent over
@@ -237,24 +220,24 @@ module _ (xs : List ℕ) (c : Judging) where
     accepted_verdict n e =
         let i : n ≡ relative_index reading_of last_of c.lent said = e ∙ ap (index_over xs c.reading c.last c.lent) k.says in
         subst (Reads said n)
-        (ap (told said) e ∙ ap (λ (o : Outcome). verdict_left o c.verdict (index_over xs c.reading c.last c.lent over)) (sym k.says))
+        (ap (told said) e ∙ ap (λ (o : Result Verdict Refusal). verdict_left o c.verdict (index_over xs c.reading c.last c.lent over)) (sym k.says))
         (told_reads said n (verdict_fits state_of reading_of last_of c.lent k.fits.thresholder (score_fits c.reading)) (subst (λ (m : ℤ). mag m < 0x8000_0000) (sym i) k.index))
 
   -- ---- a refused call
-  refused_by : (why : Refusal) → over ≡ Refused why → Contract xs c → (c.state' ≡ xs) × (c.verdict' ≡ c.verdict)
+  refused_by : (why : Refusal) → over ≡ Err why → Contract xs c → (c.state' ≡ xs) × (c.verdict' ≡ c.verdict)
   unfolding state_left verdict_left
   refused_by why e q = (
-    q.bytes ∙ ap (λ (o : Outcome). state_left o xs (state_over xs c.reading c.last c.lent over)) e,
-    q.verdict ∙ ap (λ (o : Outcome). verdict_left o c.verdict (index_over xs c.reading c.last c.lent over)) e,
+    q.bytes ∙ ap (λ (o : Result Verdict Refusal). state_left o xs (state_over xs c.reading c.last c.lent over)) e,
+    q.verdict ∙ ap (λ (o : Result Verdict Refusal). verdict_left o c.verdict (index_over xs c.reading c.last c.lent over)) e,
   )
 
   -- An answer other than 0 leaves the bytes as they came.
   pub refused_keeps : Contract xs c → (c.answer ≡ 0 → ⊥) → (c.state' ≡ xs) × (c.verdict' ≡ c.verdict)
   refused_keeps q n = go over refl
     where
-      go : (o : Outcome) → over ≡ o → (c.state' ≡ xs) × (c.verdict' ≡ c.verdict)
-      go (Accepted v) e = absurd (n (q.answer ∙ ap outcome_number e))
-      go (Refused why) e = refused_by why e q
+      go : (o : Result Verdict Refusal) → over ≡ o → (c.state' ≡ xs) × (c.verdict' ≡ c.verdict)
+      go (Ok v) e = absurd (n (q.answer ∙ ap outcome_number e))
+      go (Err why) e = refused_by why e q
 
   -- ---- the simulation: where the codes and the slices are in order, the call answers and leaves what the judgment by value says of the decoded state
   module _ (q : Contract xs c) (p : codes ≡ true) (f : slices ≡ true) (j : Judgment) (e h w : List Float)
@@ -262,25 +245,25 @@ module _ (xs : List ℕ) (c : Judging) where
     same : over ≡ by_value
     same = through p f
 
-    says_refused : (why : Refusal) → answer_by ≡ Answers.Refused why → by_value ≡ Refused why
+    says_refused : (why : Refusal) → answer_by ≡ Err why → by_value ≡ Err why
     unfolding outcome outcome_of
     says_refused why g = rw g
 
     state_by : (a : Answer) → answer_by ≡ a → decode_state c.state' ≡ j.state
     unfolding state_after
-    state_by Answers.Done g = ap decode_state q.bytes ∙ accepted_state (taken_by p f g) ∙ sym d.state
-    state_by (Answers.Refused why) g =
+    state_by (Ok tt) g = ap decode_state q.bytes ∙ accepted_state (taken_by p f g) ∙ sym d.state
+    state_by (Err why) g =
         ap decode_state (refused_by why (same ∙ says_refused why g) q).0 ∙ sym (d.state ∙ ap (state_after state_of reading_of last_of c.lent) (says_refused why g))
 
     verdict_by : (a : Answer) → answer_by ≡ a → Says j.outcome j.relative_index c.verdict c.verdict'
     unfolding index_over
-    verdict_by Answers.Done g =
+    verdict_by (Ok tt) g =
         let k = taken_by p f g in
         let index : j.relative_index ≡ index_over xs c.reading c.last c.lent over = d.index ∙ ap (index_after reading_of last_of c.lent) (sym same) in
-        subst (λ (o : Outcome). Says o j.relative_index c.verdict c.verdict') (sym (d.says ∙ k.says_by))
+        subst (λ (o : Result Verdict Refusal). Says o j.relative_index c.verdict c.verdict') (sym (d.says ∙ k.says_by))
         (subst (Reads (said k) j.relative_index) (sym q.verdict) (accepted_verdict k j.relative_index index))
-    verdict_by (Answers.Refused why) g =
-        subst (λ (o : Outcome). Says o j.relative_index c.verdict c.verdict') (sym (d.says ∙ says_refused why g))
+    verdict_by (Err why) g =
+        subst (λ (o : Result Verdict Refusal). Says o j.relative_index c.verdict c.verdict') (sym (d.says ∙ says_refused why g))
         (refused_by why (same ∙ says_refused why g) q).1
 
     pub simulated : Simulated c j e h w
@@ -288,9 +271,9 @@ module _ (xs : List ℕ) (c : Judging) where
       answer = q.answer ∙ ap outcome_number (same ∙ sym d.says);
       state = state_by answer_by refl;
       verdict = verdict_by answer_by refl;
-      point = q.point ∙ ap (λ (o : Outcome). written o c.expected (expected reading_of last_of c.lent)) same ∙ sym d.point;
-      highs = q.highs ∙ ap (λ (o : Outcome). written o c.high (normalized reading_of.score c.lent.high c.lent.low c.lent.high)) same ∙ sym d.highs;
-      lows = q.lows ∙ ap (λ (o : Outcome). written o c.low (normalized reading_of.score c.lent.high c.lent.low c.lent.low)) same ∙ sym d.lows;
+      point = q.point ∙ ap (λ (o : Result Verdict Refusal). written o c.expected (expected reading_of last_of c.lent)) same ∙ sym d.point;
+      highs = q.highs ∙ ap (λ (o : Result Verdict Refusal). written o c.high (normalized reading_of.score c.lent.high c.lent.low c.lent.high)) same ∙ sym d.highs;
+      lows = q.lows ∙ ap (λ (o : Result Verdict Refusal). written o c.low (normalized reading_of.score c.lent.high c.lent.low c.lent.low)) same ∙ sym d.lows;
     }
 
   -- ---- what an accepted call's verdict says of the opening

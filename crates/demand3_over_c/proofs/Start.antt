@@ -1,4 +1,6 @@
 -- A state that `krcf_new` made and the two setters set, in its bytes. Assumes nothing.
+use Rattle.std.specs.Prelude.{Result, Ok, Err, is_ok}
+use Rattle.std.specs.Result.{result_unwrap_or}
 use mathlib.Core.Path.{◌≡◌, refl, sym, ap, ◌∙◌, subst}
 use mathlib.Core.Bool.{Bool, true, false, cond, ◌&&◌, true≢false}
 use mathlib.Core.List.{List}
@@ -13,17 +15,15 @@ use lib.Ieee.Bits.{of_bits-fits}
 use lib.Ieee.Fits.{div-fits}
 use borrow.Author.Tests.{eq-eqb, eqb-true, eqb-false, le-leb}
 use Rattle.types.specs.Refusals.{number, answered}
+use Rattle.types.specs.declared.Refusal.{Refusal}
 use Rattle.types.specs.declared.Refusal.TheVariants as Refusals
-use Rattle.types.specs.declared.Answer.{Answer}
-use Rattle.types.specs.declared.Answer.TheVariants as Answers
 use Rattle.deviation.specs.Const.{zero64}
 use Rattle.deviation.specs.Statistics.{fresh, is_discount}
 use Rattle.deviation.specs.declared.Deviation.{Deviation}
 use Rattle.basicthresholder.specs.Const.{two64}
 use Rattle.basicthresholder.specs.Updates.{fresh_thresholder, done, refused, is_horizon, with_score_differencing, set_score_differencing}
-use Rattle.predictorcorrector.specs.State.{new, fresh_state, fresh_list, refused_new, existing, z_factor_set, set_horizon, updated, with_thresholder}
+use Rattle.predictorcorrector.specs.State.{new, fresh_state, fresh_list, existing, z_factor_set, set_horizon, updated, with_thresholder}
 use Rattle.predictorcorrector.specs.declared.PredictorCorrector.{PredictorCorrector}
-use Rattle.predictorcorrector.specs.declared.Updated.{Updated}
 use Rattle.layout.specs.Places.{auto_threshold_at, state_length, auto_adjust_at}
 use Rattle.layout.specs.Numbers.{flag_byte, f32_bytes, f64_bytes, i32_bytes, flag_bytes, bytes4, bytes8}
 use Rattle.layout.specs.States.{joined, encode_deviation, encode_thresholder}
@@ -35,6 +35,7 @@ use Rattle.stored_state.specs.Fits.{ListFits, StateFits}
 use Rattle.stored_state.proofs.Windows.{part, first}
 use Rattle.stored_state.proofs.Back.{state_back, state_length_lem, head_put}
 use Rattle.demand3_over_c.proofs.Held.{fresh_fits, z_fits, differencing_fits, with_thresholder_lem, changed_length, changed_other, changed_held}
+use Rattle.types.specs.declared.Updated.{Updated}
 
 -- ---- bytes that hold a state, and whose two yes/no bytes no call refuses
 pub record Holds (s : PredictorCorrector) (xs : List ℕ) : Type 0 where
@@ -108,67 +109,58 @@ fresh_state_lem d auto base h m =
     let l : ListFits (entries auto base) (fresh_list d (existing auto base)) = subst (λ (n : ℕ). ListFits n (fresh_list d (existing auto base))) (entries_are auto base m) (fresh_list_lem d (existing auto base) h) in
     record { thresholder = fresh_thresholder_lem d false h; run = omega arith; base = omega arith; actual = l; expected = l }
 
-abbrev refusing : Answer → Bool
-refusing Answers.Done = false
-refusing (Answers.Refused why) = true
-
-new_fits : (d : Float) (auto : Bool) (base : ℕ) → T (fits binary64 d) → (new d auto base).answer ≡ Answers.Done → StateFits (new d auto base).state
-unfolding new refused_new
-new_fits d auto base h = go (is_discount d) (leb 1 base) (leb base 16) (leb→le base 16)
+new_fits : (d : Float) (auto : Bool) (base : ℕ) (s : PredictorCorrector) → T (fits binary64 d) → new d auto base ≡ Ok s → StateFits s
+unfolding new
+new_fits d auto base s h = go (is_discount d) (leb 1 base) (leb base 16) (leb→le base 16)
   where
-    go : (c i k : Bool) → (T k → base ≤ 16)
-        → (cond c (cond (i && k) (record { answer = Answers.Done; state = fresh_state d auto base }) (refused_new (Answers.Refused Refusals.Range))) (refused_new (Answers.Refused Refusals.Discount))).answer ≡ Answers.Done
-        → StateFits (cond c (cond (i && k) (record { answer = Answers.Done; state = fresh_state d auto base }) (refused_new (Answers.Refused Refusals.Range))) (refused_new (Answers.Refused Refusals.Discount))).state
-    go true true true m e = fresh_state_lem d auto base h (m tt)
-    go true true false m e = absurd (true≢false (ap refusing e))
-    go true false k m e = absurd (true≢false (ap refusing e))
-    go false i k m e = absurd (true≢false (ap refusing e))
+    go : (c i k : Bool) → (T k → base ≤ 16) → cond c (cond (i && k) (Ok (fresh_state d auto base)) (Err Refusals.Range)) (Err Refusals.Discount) ≡ Ok s → StateFits s
+    go true true true m e = subst StateFits (ap (λ (r : Result PredictorCorrector Refusal). result_unwrap_or r s) e) (fresh_state_lem d auto base h (m tt))
+    go true true false m e = absurd (true≢false (ap is_ok (sym e)))
+    go true false k m e = absurd (true≢false (ap is_ok (sym e)))
+    go false i k m e = absurd (true≢false (ap is_ok (sym e)))
 
-number_above : (a : Answer) → answered a ≡ 0 → a ≡ Answers.Done
-number_above Answers.Done e = refl
-number_above (Answers.Refused Refusals.Discount) e = absurd (omega arith)
-number_above (Answers.Refused Refusals.Range) e = absurd (omega arith)
-number_above (Answers.Refused Refusals.Length) e = absurd (omega arith)
-number_above (Answers.Refused Refusals.NotFinite) e = absurd (omega arith)
-number_above (Answers.Refused Refusals.ValuesSeen) e = absurd (omega arith)
-number_above (Answers.Refused Refusals.Count) e = absurd (omega arith)
-number_above (Answers.Refused Refusals.Horizon) e = absurd (omega arith)
-number_above (Answers.Refused Refusals.Blocks) e = absurd (omega arith)
-number_above (Answers.Refused Refusals.Row) e = absurd (omega arith)
-number_above (Answers.Refused Refusals.Field) e = absurd (omega arith)
-number_above (Answers.Refused Refusals.Drawer) e = absurd (omega arith)
-number_above (Answers.Refused Refusals.Full) e = absurd (omega arith)
-number_above (Answers.Refused Refusals.Pool) e = absurd (omega arith)
+pub number_above : (why : Refusal) → number why ≡ 0 → ⊥
+number_above Refusals.Discount e = absurd (omega arith)
+number_above Refusals.Range e = absurd (omega arith)
+number_above Refusals.Length e = absurd (omega arith)
+number_above Refusals.NotFinite e = absurd (omega arith)
+number_above Refusals.ValuesSeen e = absurd (omega arith)
+number_above Refusals.Count e = absurd (omega arith)
+number_above Refusals.Horizon e = absurd (omega arith)
+number_above Refusals.Blocks e = absurd (omega arith)
+number_above Refusals.Row e = absurd (omega arith)
+number_above Refusals.Field e = absurd (omega arith)
+number_above Refusals.Drawer e = absurd (omega arith)
+number_above Refusals.Full e = absurd (omega arith)
+number_above Refusals.Pool e = absurd (omega arith)
 
 -- `krcf_new` answered 0.
-pub record MadeOver (made : Updated) (out xs : List ℕ) : Type 0 where
-  pub done : made.answer ≡ Answers.Done
+pub record MadeOver (made : Result PredictorCorrector Refusal) (out xs : List ℕ) : Type 0 where
+  pub state : PredictorCorrector
+  pub done : made ≡ Ok state
   pub size : length out ≡ state_length
-  pub bytes : xs ≡ encode_state_over (replicate (length out) 0) made.state
+  pub bytes : xs ≡ encode_state_over (replicate (length out) 0) state
 
-pub made_over : (made : Updated) (adjust : ℕ) (out xs : List ℕ) → left 0 xs ≡ chain_made made adjust out → MadeOver made out xs
+pub made_over : (made : Result PredictorCorrector Refusal) (adjust : ℕ) (out xs : List ℕ) → left 0 xs ≡ chain_made made adjust out → MadeOver made out xs
 unfolding chain_made
-made_over made adjust out xs = go (eqb (answered made.answer) 0) (leb adjust 1) (eqb (length out) state_length) refl refl
+made_over (Ok s) adjust out xs e = go (leb adjust 1) (eqb (length out) state_length) refl e
   where
-    go : (a b c : Bool) → eqb (answered made.answer) 0 ≡ a → eqb (length out) state_length ≡ c
-        → left 0 xs ≡ cond a (cond b (cond c (left 0 (encode_state_over (replicate (length out) 0) made.state)) (left (number Refusals.Length) out)) (left (number Refusals.Range) out)) (left (answered made.answer) out)
-        → MadeOver made out xs
-    go true true true p q e = record {
-      done = number_above made.answer (eqb-true (answered made.answer) 0 p);
-      size = eqb-true (length out) state_length q;
-      bytes = ap (λ (l : Left). l.bytes) e;
-    }
-    go true true false p q e = (let n : ◌≡◌ {A = ℕ} 0 3 = ap (λ (l : Left). l.answer) e in absurd (omega arith))
-    go true false c p q e = (let n : ◌≡◌ {A = ℕ} 0 2 = ap (λ (l : Left). l.answer) e in absurd (omega arith))
-    go false b c p q e = absurd (eqb-false (answered made.answer) 0 p (sym (ap (λ (l : Left). l.answer) e)))
+    go : (b c : Bool) → eqb (length out) state_length ≡ c
+        → left 0 xs ≡ cond b (cond c (left 0 (encode_state_over (replicate (length out) 0) s)) (left (number Refusals.Length) out)) (left (number Refusals.Range) out)
+        → MadeOver (Ok s) out xs
+    go true true q e = record { state = s; done = refl; size = eqb-true (length out) state_length q; bytes = ap (λ (l : Left). l.bytes) e }
+    go true false q e = (let n : ◌≡◌ {A = ℕ} 0 3 = ap (λ (l : Left). l.answer) e in absurd (omega arith))
+    go false c q e = (let n : ◌≡◌ {A = ℕ} 0 2 = ap (λ (l : Left). l.answer) e in absurd (omega arith))
+made_over (Err why) adjust out xs e = absurd (number_above why (sym (ap (λ (l : Left). l.answer) e)))
 
 pub new_holds : (d : Float) (auto : Bool) (base adjust : ℕ) (out xs : List ℕ) → T (fits binary64 d) → left 0 xs ≡ chain_made (new d auto base) adjust out
-    → ((new d auto base).answer ≡ Answers.Done) × Holds (new d auto base).state xs
+    → ((s : PredictorCorrector) × (new d auto base ≡ Ok s) × Holds s xs)
 new_holds d auto base adjust out xs h e =
     let m = made_over (new d auto base) adjust out xs e in (
+      m.state,
       m.done,
-      subst (Holds (new d auto base).state) (sym m.bytes)
-          (put_holds (replicate (length out) 0) (new d auto base).state (length-replicate {A = ℕ} (length out) 0 ∙ m.size) (new_fits d auto base h m.done)),
+      subst (Holds m.state) (sym m.bytes)
+          (put_holds (replicate (length out) 0) m.state (length-replicate {A = ℕ} (length out) 0 ∙ m.size) (new_fits d auto base m.state h m.done)),
     )
 
 -- ---- the setters
@@ -194,14 +186,14 @@ module _ (s : PredictorCorrector) (xs : List ℕ) (k : Holds s xs) where
   z_holds x n ys h e = set_holds (λ (u : PredictorCorrector). z_factor_set u x) n ys (with_thresholder_lem s _ k.fits (z_fits s.basic_thresholder x h k.fits.thresholder)) e
 
   -- What a horizon's setter leaves, and the state that it sets by its test.
-  abbrev left_by : Updated → Left
+  abbrev left_by : Updated PredictorCorrector → Left
   left_by u = cond (eqb (answered u.answer) 0) (left 0 (encode_state_over xs u.state)) (left (answered u.answer) xs)
 
-  abbrev set_by : Float → Bool → Updated
+  abbrev set_by : Float → Bool → Updated PredictorCorrector
   set_by x c =
       let t = s.basic_thresholder in
       let u = cond c (done (with_score_differencing t x)) (refused Refusals.Horizon t) in
-      updated u.answer (with_thresholder s u.thresholder)
+      updated u.answer (with_thresholder s u.state)
 
   pub horizon_holds : (x : Float) (n : ℕ) (ys : List ℕ) → T (fits binary32 x) → left n ys ≡ horizon_set_in x xs → Holds (set_horizon s x).state ys
   unfolding horizon_set_in set_horizon set_score_differencing

@@ -1,4 +1,6 @@
 -- The premises can be met: `krcf_new` makes a state in any 1,310 bytes, and `krcf_detect_and_modify` accepts a calm DISTANCE reading eleven times in turn over it. Assumes nothing.
+use Rattle.std.specs.Prelude.{Result, Ok}
+use Rattle.std.specs.Result.{result_unwrap_or}
 use mathlib.Core.Path.{◌≡◌, refl, sym, ap, ap₂, ◌∙◌, subst}
 use mathlib.Core.Logic.{inr}
 use mathlib.Core.Bool.{Bool, true, false, not, cond}
@@ -11,8 +13,6 @@ use lib.Ieee.{binary32, binary64, fits, round, add, sub, mul, div, lt, le, eq, n
 use borrow.Author.Tests.{eq-eqb, le-leb}
 use Rattle.ieee.specs.Round.{narrow}
 use Rattle.util.specs.Util.{minf32}
-use Rattle.types.specs.declared.Answer.{Answer}
-use Rattle.types.specs.declared.Answer.TheVariants as Answers
 use Rattle.deviation.specs.Statistics.{countable, next, one_more}
 use Rattle.deviation.specs.Statistics as Statistics
 use Rattle.basicthresholder.specs.Updates.{counts_ok, updated, update_primary, primary_counted, counted_over, counted_gap}
@@ -31,7 +31,6 @@ use Rattle.detection.specs.Judging.{verdict, decided, opening, after, entered, u
 use Rattle.detection.specs.Judged.{outcome_number, state_after}
 use Rattle.detection.specs.declared.Verdict.{Verdict}
 use Rattle.detection.specs.declared.Verdict.TheVariants.{Quiet, Corrected, Raised, Skipped}
-use Rattle.detection.specs.declared.Outcome.{Outcome}
 use Rattle.layout.specs.Places.{auto_threshold_at, state_length, auto_adjust_at}
 use Rattle.layout.specs.Numbers.{le4, f32_at, i32_at, signed, flag_at}
 use Rattle.layout.specs.Chain.{decode_state, state_codes_ok}
@@ -46,18 +45,20 @@ use Rattle.demand3.specs.Calm.{buffers}
 use Rattle.demand3_over_c.proofs.Held.{after_fits}
 use Rattle.demand3_over_c.proofs.Simulation.{score_fits, codes, slices, Taken, taken_by}
 use Rattle.demand3_over_c.proofs.Start.{Holds, new_holds, put_holds}
+use Rattle.types.specs.declared.Refusal.{Refusal}
+use Rattle.types.specs.Refusals.{Answer}
 
 none_fits : T (fits binary64 nought)
 unfolding fits
 none_fits = tt
 
-new_done : (new nought false 1).answer ≡ Answers.Done
+new_is : new nought false 1 ≡ Ok (fresh_state nought false 1)
 unfolding new lt le eq of_bits
-new_done = refl
+new_is = refl
 
 over_by : (out : List ℕ) → length out ≡ state_length → left 0 (made out) ≡ chain_made (new nought false 1) 0 out
 unfolding chain_made
-over_by out h = rw (new_done, eq-eqb (length out) state_length h) refl
+over_by out h = rw (new_is, eq-eqb (length out) state_length h) refl
 
 made_is : (out : List ℕ) → length out ≡ state_length → Made nought 0 1 out 0 (made out)
 made_is out h = record { discount = none_fits; contract = over_by out h; accepted = refl }
@@ -79,7 +80,7 @@ next_from s = after (decode_reading reading) (decode_last last) buffers s (verdi
 
 abbrev AllDone : ℕ → PredictorCorrector → Type 0
 AllDone zero s = Unit
-AllDone (suc n) s = (answer_from s ≡ Answers.Done) × AllDone n (next_from s)
+AllDone (suc n) s = (answer_from s ≡ Ok tt) × AllDone n (next_from s)
 
 left_holds : (r : Reading) (l : LastDescriptor) (b : Lent) (s : PredictorCorrector) (xs : List ℕ) (v : Verdict) → T (fits binary32 r.score) → Holds s xs → Holds (after r l b s v) (stored v xs (after r l b s v))
 unfolding stored changes_state after
@@ -88,7 +89,7 @@ left_holds r l b s xs (Corrected t m) h k = put_holds xs _ k.size (after_fits r 
 left_holds r l b s xs (Raised t g) h k = put_holds xs _ k.size (after_fits r l b h s (Raised t g) k.fits)
 left_holds r l b s xs Skipped h k = k
 
-module _ (xs : List ℕ) (s : PredictorCorrector) (k : Holds s xs) (d : answer_from s ≡ Answers.Done) where
+module _ (xs : List ℕ) (s : PredictorCorrector) (k : Holds s xs) (d : answer_from s ≡ Ok tt) where
   same : decode_state xs ≡ s
   same = k.state
 
@@ -109,7 +110,7 @@ module _ (xs : List ℕ) (s : PredictorCorrector) (k : Holds s xs) (d : answer_f
   unfolding state_left state_over state_after
   next_holds =
       let e : (judging xs).state' ≡ stored (verdict (decode_reading reading) (decode_last last) buffers (decode_state xs)) xs (next_from (decode_state xs)) =
-      ap (λ (o : Outcome). state_left o xs (state_over xs reading last buffers o)) taken_here.says in
+      ap (λ (o : Result Verdict Refusal). state_left o xs (state_over xs reading last buffers o)) taken_here.says in
       let here : Holds (decode_state xs) xs = subst (λ (u : PredictorCorrector). Holds u xs) (sym same) k in
       let there = left_holds (decode_reading reading) (decode_last last) buffers (decode_state xs) xs (verdict (decode_reading reading) (decode_last last) buffers (decode_state xs)) score_fits_here here in
       subst (λ (u : PredictorCorrector). Holds (next_from u) (judging xs).state') same (subst (Holds (next_from (decode_state xs))) (sym e) there)
@@ -124,7 +125,7 @@ accepted_in_turn (suc n) xs s k d =
     (accepted_in_turn n (judging xs).state' (next_from s) (next_holds xs s k d.0) d.1)
     ∙ omega arith
 
-eleven_done : AllDone 11 (new nought false 1).state
+eleven_done : AllDone 11 (fresh_state nought false 1)
 unfolding answer_of range_ok sizes_ok lengths_of lengths_ok dimension points_ok rows_ok neighbours_ok last_points_ok finite_ok numbers_finite last_finite every seen_ok is_later
     state_counts_ok counts_ok countable list_countable first_countable new fresh_state fresh_list
     lt le eq ne of_bits round add sub mul div of_int
@@ -151,7 +152,9 @@ pub calm_met : (out : List ℕ) → length out ≡ state_length
 calm_met out h =
     let m = made_is out h in
     let xs = made out in
-    let many : accepted (told_of (eleven xs)) ≡ 11 = accepted_in_turn 11 xs (new nought false 1).state (new_holds nought false 1 0 out xs none_fits m.contract).1 eleven_done in (
+    let h = new_holds nought false 1 0 out xs none_fits m.contract in
+    let held : Holds (fresh_state nought false 1) xs = subst (λ (s : PredictorCorrector). Holds s xs) (ap (λ (r : Result PredictorCorrector Refusal). result_unwrap_or r h.0) (sym h.1 ∙ new_is)) h.2 in
+    let many : accepted (told_of (eleven xs)) ≡ 11 = accepted_in_turn 11 xs (fresh_state nought false 1) held eleven_done in (
       (m, in_turn 11 xs),
       tt,
       default_z (told_of (eleven xs)) (subst (λ (n : ℕ). n ≤ most_readings) (sym many) (lit≤ tt)) (sizes 11 xs),

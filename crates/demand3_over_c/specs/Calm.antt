@@ -1,10 +1,9 @@
 -- Eleven calm readings by C calls that keep the contract: that the statement's premises can be met. Definitions only.
-use Rattle.std.specs.Prelude.{ℕ, zero, suc, false, List, [], ◌∷◌, length, replicate}
+use Rattle.std.specs.Prelude.{ℕ, zero, suc, false, List, [], ◌∷◌, length, replicate, Result}
 use Rattle.divector.specs.DiVector.{normalized}
-use Rattle.predictorcorrector.specs.State.{new}
+use Rattle.predictorcorrector.specs.State.{fresh_state}
 use Rattle.detection.specs.Judging as Exits
 use Rattle.detection.specs.Judged.{outcome_number, written}
-use Rattle.detection.specs.declared.Outcome.{Outcome}
 use Rattle.layout.specs.Places.{last_length, verdict_length}
 use Rattle.layout.specs.Chain.{encode_state_over}
 use Rattle.layout.specs.Readings.{decode_reading, decode_last}
@@ -12,6 +11,8 @@ use Rattle.c_judging.specs.Judging.{state_left, verdict_left, outcome_over, stat
 pub use Rattle.demand3.specs.Calm.{nought, one}
 use Rattle.demand3.specs.Calm.{ones, buffers}
 use Rattle.demand3_over_c.specs.Calls.{Judging, Call, krcf_detect_and_modify}
+use Rattle.detection.specs.declared.Verdict.{Verdict}
+use Rattle.types.specs.declared.Refusal.{Refusal}
 
 -- Shingle size 1, base 1, DISTANCE, no method, no time; the first value; score 1, corrected 1.
 abbrev pub reading : List ℕ
@@ -21,7 +22,7 @@ abbrev pub last : List ℕ
 last = replicate last_length 0
 
 -- What the contract says of it over the state's bytes xs, and the call.
-abbrev pub said : List ℕ → Outcome
+abbrev pub said : List ℕ → Result Verdict Refusal
 said xs = outcome_over xs reading last buffers 1 1 1 verdict_length
 
 abbrev pub judging : List ℕ → Judging
@@ -47,7 +48,7 @@ judgings (suc n) xs = krcf_detect_and_modify (judging xs) ∷ judgings n (judgin
 
 -- Discount 0, no auto adjust, base 1: the bytes that `krcf_new` leaves; then eleven of them in turn.
 abbrev pub made : List ℕ → List ℕ
-made out = encode_state_over (replicate (length out) 0) (new nought false 1).state
+made out = encode_state_over (replicate (length out) 0) (fresh_state nought false 1)
 
 abbrev pub eleven : List ℕ → List Call
 eleven xs = judgings 11 xs

@@ -1,5 +1,5 @@
 -- Demand 3 of the C functions: what this crate proves. Definitions only.
-use Rattle.std.specs.Prelude.{ℕ, ◌≤◌, ◌<◌, ◌≡◌, true, not, List, ◌∷◌, T, eqb, ℤ, length, get_or, Float}
+use Rattle.std.specs.Prelude.{ℕ, ◌≤◌, ◌<◌, ◌≡◌, true, not, List, ◌∷◌, T, eqb, ℤ, length, get_or, Float, Result, Ok, Err}
 use Rattle.std.specs.Float.Ieee.{eq}
 use Rattle.types.specs.Codes.{mode_code}
 use Rattle.basicthresholder.specs.Const.{zero32, z_factor_default}
@@ -7,8 +7,6 @@ use Rattle.basicthresholder.specs.declared.Graded.{Graded}
 use Rattle.ledger.specs.Statement.{most_readings, accepted, Sizes, InBounds, Demand3}
 use Rattle.detection.specs.declared.Verdict.{Verdict}
 use Rattle.detection.specs.declared.Verdict.TheVariants.{Quiet, Corrected, Raised, Skipped}
-use Rattle.detection.specs.declared.Outcome.{Outcome}
-use Rattle.detection.specs.declared.Outcome.TheVariants.{Accepted, Refused}
 use Rattle.detection.specs.declared.Judgment.{Judgment}
 use Rattle.detection.specs.Judged.{Judged, outcome_number}
 use Rattle.layout.specs.Places.{state_length, verdict_length, mode_at, relative_index_at}
@@ -19,6 +17,7 @@ use Rattle.c_judging.specs.Judging.{codes_ok, slices_ok}
 use Rattle.demand3.specs.Calls.{threshold_of, grade_of, opened}
 use Rattle.demand3_over_c.specs.Calls.{Judging, Call, krcf_new, Contract, InTurn, z_of, ZUnset, score_of, told_of, shown_of, kind_in, threshold_in, grade_in}
 use Rattle.demand3_over_c.specs.Calm.{nought, made, eleven}
+use Rattle.types.specs.declared.Refusal.{Refusal}
 
 -- ---- a verdict in its 14 bytes
 abbrev pub kind_of : Verdict → ℕ
@@ -44,9 +43,9 @@ pub record Reads (v : Verdict) (n : ℤ) (ys : List ℕ) : Type 0 where
 
 -- ---- a call over C and a judgment by value
 -- What a call leaves of the verdict's slice: an accepted reading's verdict with its relative index n, or what it was.
-abbrev pub Says : Outcome → ℤ → List ℕ → List ℕ → Type 0
-Says (Accepted v) n ys ys' = Reads v n ys'
-Says (Refused why) n ys ys' = ys' ≡ ys
+abbrev pub Says : Result Verdict Refusal → ℤ → List ℕ → List ℕ → Type 0
+Says (Ok v) n ys ys' = Reads v n ys'
+Says (Err why) n ys ys' = ys' ≡ ys
 
 -- The call's answer, and the bytes and buffers that it left, are those of the judgment j, which left the buffers e, h and w.
 pub record Simulated (c : Judging) (j : Judgment) (e h w : List Float) : Type 0 where

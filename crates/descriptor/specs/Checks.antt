@@ -1,13 +1,12 @@
 -- Document 01's entry checks of a reading: one test for each refusal, and the answer, which asks them in the order of their numbers.
-use Rattle.std.specs.Prelude.{ℕ, ◌*◌, ◌%◌, ◌/◌, Bool, true, false, cond, ◌&&◌, List, [], ◌∷◌, leb, ltb, eqb, length, Float}
+use Rattle.std.specs.Prelude.{ℕ, ◌*◌, ◌%◌, ◌/◌, Bool, true, false, cond, ◌&&◌, List, [], ◌∷◌, leb, ltb, eqb, length, Float, Ok, Err}
 use Rattle.std.specs.Float.Ieee.Scale.{finite}
 use Rattle.types.specs.declared.Refusal.TheVariants.{Range, Length, NotFinite, ValuesSeen, Count}
-use Rattle.types.specs.declared.Answer.{Answer}
-use Rattle.types.specs.declared.Answer.TheVariants.{Done, Refused}
 use Rattle.descriptor.specs.Lent.{Lent}
 use Rattle.descriptor.specs.declared.Reading.{Reading}
 use Rattle.descriptor.specs.declared.LastDescriptor.{LastDescriptor}
 use Rattle.descriptor.specs.declared.Lengths.{Lengths}
+use Rattle.types.specs.Refusals.{Answer}
 
 unfoldable pub every : {A : Type 0} → (A → Bool) → List A → Bool
 every f [] = true
@@ -118,8 +117,8 @@ answer_of r l b expected out_high out_low state_base counts_ok =
     (cond (lengths_ok r l (lengths_of b expected out_high out_low))
     (cond (finite_ok r l b)
     (cond (seen_ok r.values_seen l.has_anomaly l.anomaly.values_seen)
-    (cond counts_ok Done (Refused Count))
-    (Refused ValuesSeen))
-    (Refused NotFinite))
-    (Refused Length))
-    (Refused Range)
+    (cond counts_ok (Ok tt) (Err Count))
+    (Err ValuesSeen))
+    (Err NotFinite))
+    (Err Length))
+    (Err Range)

@@ -1,5 +1,6 @@
 -- The buffers that the host lends with a reading: what the Rust's `Descriptor` holds and what the forest answers, as lists.
 use Rattle.std.specs.Prelude.{List, Float}
+use Rattle.descriptor.specs.declared.Lent as Declared
 
 pub record Lent : Type 0 where
   -- the reading's point, oldest row first
@@ -36,3 +37,9 @@ lent p sc sh dd le la h l m ih il ns = record {
   ideal_low = il;
   neighbours = ns;
 }
+
+-- What the code is lent, as lists.
+abbrev pub lists_of : Declared.Lent → Lent
+lists_of b =
+    lent b.point.now b.scale.now b.shift.now b.difference_deviations.now b.last_expected.now b.last_anomalous.now b.high.now b.low.now
+    b.median.now b.ideal_high.now b.ideal_low.now b.neighbours.now

@@ -1,13 +1,14 @@
 // descriptor.rs as far as a reading lends it, and document 01's entry checks of a reading.
 #![tactic(auto)]
 
-ghost use Rattle.std.specs.Prelude.{◌≡◌, ◌&&◌, length};
+ghost use Rattle.std.specs.Prelude.{◌≡◌, ◌&&◌, Bool, length};
+ghost use Rattle.std.specs.Float.Ieee.Scale.{finite};
 ghost use Rattle.descriptor.specs.Checks as Checks;
-ghost use Rattle.descriptor.specs.Lent.{lent};
+ghost use Rattle.descriptor.specs.Lent.{lists_of};
 
-use types::{Answer, Refusal, ScoringStrategy, TransformMethod};
+use types::{Refusal, ScoringStrategy, TransformMethod};
 
-// The numbers of a reading. Its buffers are lent beside it.
+// The numbers of a reading. Its buffers are lent beside it, as `Lent`.
 #[derive(Clone, Copy)]
 pub struct Reading {
     pub shingle_size: usize,
@@ -20,7 +21,7 @@ pub struct Reading {
     pub corrected_score: f32,
 }
 
-// The last anomaly: read only behind `has_anomaly`. Of its attribution the yes/no alone counts.
+// The last anomaly: read only behind `has_anomaly`, a yes/no beside it, which is document 01's form of the Rust's `Option` fields. Of its attribution the yes/no alone counts.
 #[derive(Clone, Copy)]
 pub struct LastAnomaly {
     pub relative_index: i32,
@@ -37,6 +38,23 @@ pub struct LastDescriptor {
     pub threshold: f32,
     pub has_anomaly: bool,
     pub anomaly: LastAnomaly,
+}
+
+// The buffers that the host lends with a reading; the field order is that of the C functions.
+#[derive(Clone, Copy)]
+pub struct Lent<'a> {
+    pub point: &'a [f32],
+    pub scale: &'a [f32],
+    pub shift: &'a [f32],
+    pub difference_deviations: &'a [f32],
+    pub last_expected: &'a [f32],
+    pub last_anomalous: &'a [f32],
+    pub high: &'a [f64],
+    pub low: &'a [f64],
+    pub median: &'a [f32],
+    pub ideal_high: &'a [f64],
+    pub ideal_low: &'a [f64],
+    pub neighbours: &'a [f32],
 }
 
 // The lengths of a reading's buffers: of the twelve that are lent, then of the three that a raised reading writes.
@@ -59,82 +77,114 @@ pub struct Lengths {
     pub out_low: usize,
 }
 
+impl<'a> Lent<'a> {
+    // Beside the lengths of the three slices to be written, which are not lent here.
+    #[tactic(auto, unfolding(crate::specs::Checks::lengths_of))]
+    fn lengths(self, expected: usize, out_high: usize, out_low: usize) -> Lengths
+        ensures { result ≡ Checks.lengths_of (lists_of self.entry) expected out_high out_low }
+    {
+        Lengths {
+            point: self.point.len(),
+            scale: self.scale.len(),
+            shift: self.shift.len(),
+            difference_deviations: self.difference_deviations.len(),
+            last_expected: self.last_expected.len(),
+            last_anomalous: self.last_anomalous.len(),
+            high: self.high.len(),
+            low: self.low.len(),
+            median: self.median.len(),
+            ideal_high: self.ideal_high.len(),
+            ideal_low: self.ideal_low.len(),
+            neighbours: self.neighbours.len(),
+            expected,
+            out_high,
+            out_low,
+        }
+    }
+}
+
+// A float of either width.
+pub trait Number: Copy {
+    ghost finite: { Self → Bool };
+
+    fn is_finite(self) -> bool
+        ensures { result ≡ finite self };
+}
+
+impl Number for f32 {
+    ghost finite = { finite };
+
+    fn is_finite(self) -> bool {
+        ieee::is_finite(self)
+    }
+}
+
+#[tactic(auto, using(ieee::proofs::Finite::finite_is))]
+impl Number for f64 {
+    ghost finite = { finite };
+
+    fn is_finite(self) -> bool {
+        let gap = self - self;
+        gap == gap
+    }
+}
+
 // No early exit: a turn without a branch lets the compiler take several elements at once.
-pub fn all_finite_f32(xs: &[f32]) -> bool
-    ensures { result ≡ Checks.all_finite xs.now }
+pub fn all_finite<N: Number>(xs: &[N]) -> bool
+    ensures { result ≡ Checks.every N.finite xs.now }
 {
     let mut ok = true;
-    let mut i = 0usize;
-    while i < xs.len() {
-        let x = xs[i];
-        let gap = x - x;
-        ok = ok & (gap == gap);
-        i += 1;
+    for x in xs {
+        ok = ok & x.is_finite();
     }
     ok
 }
 
-pub fn all_finite_f64(xs: &[f64]) -> bool
-    ensures { result ≡ Checks.all_finite xs.now }
-{
-    let mut ok = true;
-    let mut i = 0usize;
-    while i < xs.len() {
-        let x = xs[i];
-        let gap = x - x;
-        ok = ok & (gap == gap);
-        i += 1;
-    }
-    ok
-}
-
-// Two slices of one length in one loop.
-fn pair_finite_f32(xs: &[f32], ys: &[f32]) -> bool
+// Slices of one length in one loop: two, and below three and four. One loop over an array of slices would have another in each turn.
+fn pair_finite<N: Number>(xs: &[N], ys: &[N]) -> bool
     requires { length ys.now ≡ length xs.now }
-    ensures { result ≡ (Checks.all_finite xs.now && Checks.all_finite ys.now) }
+    ensures { result ≡ (Checks.every N.finite xs.now && Checks.every N.finite ys.now) }
 {
     let mut ok = true;
-    let mut i = 0usize;
-    while i < xs.len() {
-        let x = xs[i];
-        let y = ys[i];
-        let gap = x - x;
-        let other = y - y;
-        ok = ok & (gap == gap) & (other == other);
-        i += 1;
+    for i in 0..xs.len() {
+        ok = ok & xs[i].is_finite() & ys[i].is_finite();
+    }
+    ok
+}
+
+fn triple_finite<N: Number>(xs: &[N], ys: &[N], zs: &[N]) -> bool
+    requires ys_len { length ys.now ≡ length xs.now }
+    requires zs_len { length zs.now ≡ length xs.now }
+    ensures { result ≡ (Checks.every N.finite xs.now && Checks.every N.finite ys.now && Checks.every N.finite zs.now) }
+{
+    let mut ok = true;
+    for i in 0..xs.len() {
+        ok = ok & xs[i].is_finite() & ys[i].is_finite() & zs[i].is_finite();
+    }
+    ok
+}
+
+fn quad_finite<N: Number>(xs: &[N], ys: &[N], zs: &[N], ws: &[N]) -> bool
+    requires ys_len { length ys.now ≡ length xs.now }
+    requires zs_len { length zs.now ≡ length xs.now }
+    requires ws_len { length ws.now ≡ length xs.now }
+    ensures { result ≡ (Checks.every N.finite xs.now && Checks.every N.finite ys.now && Checks.every N.finite zs.now && Checks.every N.finite ws.now) }
+{
+    let mut ok = true;
+    for i in 0..xs.len() {
+        ok = ok & xs[i].is_finite() & ys[i].is_finite() & zs[i].is_finite() & ws[i].is_finite();
     }
     ok
 }
 
 // Both slices; in one loop where they are as long as each other.
-fn both_finite_f32(xs: &[f32], ys: &[f32]) -> bool
+fn both_finite(xs: &[f32], ys: &[f32]) -> bool
     ensures { result ≡ (Checks.all_finite xs.now && Checks.all_finite ys.now) }
 {
     if ys.len() == xs.len() {
-        return pair_finite_f32(xs, ys);
+        return pair_finite(xs, ys);
     }
-    all_finite_f32(xs) & all_finite_f32(ys)
-}
-
-// Three slices of one length in one loop.
-fn triple_finite_f32(xs: &[f32], ys: &[f32], zs: &[f32]) -> bool
-    requires ys_len { length ys.now ≡ length xs.now }
-    requires zs_len { length zs.now ≡ length xs.now }
-    ensures { result ≡ (Checks.all_finite xs.now && Checks.all_finite ys.now && Checks.all_finite zs.now) }
-{
-    let mut ok = true;
-    let mut i = 0usize;
-    while i < xs.len() {
-        let x = xs[i];
-        let y = ys[i];
-        let z = zs[i];
-        let gap = x - x;
-        let other = y - y;
-        let third = z - z;
-        ok = ok & (gap == gap) & (other == other) & (third == third);
-        i += 1;
-    }
-    ok
+    all_finite(xs) & all_finite(ys)
 }
 
 // The three rows; in one loop where they are as long as each other.
@@ -143,34 +193,10 @@ fn rows_finite(scale: &[f32], shift: &[f32], deviations: &[f32]) -> bool
 {
     if shift.len() == scale.len() {
         if deviations.len() == scale.len() {
-            return triple_finite_f32(scale, shift, deviations);
+            return triple_finite(scale, shift, deviations);
         }
     }
-    all_finite_f32(scale) & all_finite_f32(shift) & all_finite_f32(deviations)
-}
-
-// Four slices of one length in one loop.
-fn quad_finite_f64(xs: &[f64], ys: &[f64], zs: &[f64], ws: &[f64]) -> bool
-    requires ys_len { length ys.now ≡ length xs.now }
-    requires zs_len { length zs.now ≡ length xs.now }
-    requires ws_len { length ws.now ≡ length xs.now }
-    ensures { result ≡ (Checks.all_finite xs.now && Checks.all_finite ys.now && Checks.all_finite zs.now && Checks.all_finite ws.now) }
-{
-    let mut ok = true;
-    let mut i = 0usize;
-    while i < xs.len() {
-        let x = xs[i];
-        let y = ys[i];
-        let z = zs[i];
-        let w = ws[i];
-        let gap = x - x;
-        let other = y - y;
-        let third = z - z;
-        let fourth = w - w;
-        ok = ok & (gap == gap) & (other == other) & (third == third) & (fourth == fourth);
-        i += 1;
-    }
-    ok
+    all_finite(scale) & all_finite(shift) & all_finite(deviations)
 }
 
 // The two attributions, each a high and a low; in one loop where all four are as long as each other.
@@ -180,16 +206,14 @@ fn attributions_finite(high: &[f64], low: &[f64], ideal_high: &[f64], ideal_low:
     if low.len() == high.len() {
         if ideal_high.len() == high.len() {
             if ideal_low.len() == high.len() {
-                return quad_finite_f64(high, low, ideal_high, ideal_low);
+                return quad_finite(high, low, ideal_high, ideal_low);
             }
         }
     }
-    all_finite_f64(high)
-        & all_finite_f64(low)
-        & all_finite_f64(ideal_high)
-        & all_finite_f64(ideal_low)
+    all_finite(high) & all_finite(low) & all_finite(ideal_high) & all_finite(ideal_low)
 }
 
+#[tactic(auto, unfolding(crate::specs::Checks::sizes_ok))]
 pub fn sizes_ok(shingle_size: usize, base_dimension: usize) -> bool
     ensures { result ≡ Checks.sizes_ok shingle_size base_dimension }
 {
@@ -197,6 +221,7 @@ pub fn sizes_ok(shingle_size: usize, base_dimension: usize) -> bool
 }
 
 // D, or 0 where the sizes are out of range.
+#[tactic(auto, using(crate::proofs::Bounds::product_fits), unfolding(crate::specs::Checks::dimension))]
 pub fn dimension(shingle_size: usize, base_dimension: usize) -> usize
     ensures { result ≡ Checks.dimension shingle_size base_dimension }
 {
@@ -206,6 +231,7 @@ pub fn dimension(shingle_size: usize, base_dimension: usize) -> usize
     0
 }
 
+#[tactic(auto, unfolding(crate::specs::Checks::range_ok))]
 pub fn range_ok(shingle_size: usize, base_dimension: usize, state_base: usize) -> bool
     ensures { result ≡ Checks.range_ok shingle_size base_dimension state_base }
 {
@@ -213,6 +239,7 @@ pub fn range_ok(shingle_size: usize, base_dimension: usize, state_base: usize) -
 }
 
 // D each: the point, the two attributions, the median, and what is written.
+#[tactic(auto, unfolding(crate::specs::Checks::points_ok))]
 fn points_ok(d: usize, n: Lengths) -> bool
     ensures { result ≡ Checks.points_ok d n }
 {
@@ -226,12 +253,14 @@ fn points_ok(d: usize, n: Lengths) -> bool
 }
 
 // As long as the base each.
+#[tactic(auto, unfolding(crate::specs::Checks::rows_ok))]
 fn rows_ok(base: usize, n: Lengths) -> bool
     ensures { result ≡ Checks.rows_ok base n }
 {
     (n.scale == base) & ((n.shift == base) & (n.difference_deviations == base))
 }
 
+#[tactic(auto, unfolding(crate::specs::Checks::neighbours_ok))]
 pub fn neighbours_ok(d: usize, n: usize) -> bool
     ensures { result ≡ Checks.neighbours_ok d n }
 {
@@ -242,6 +271,7 @@ pub fn neighbours_ok(d: usize, n: usize) -> bool
 }
 
 // The last anomaly's points, behind its yes/no.
+#[tactic(auto, unfolding(crate::specs::Checks::last_points_ok))]
 pub fn last_points_ok(has_anomaly: bool, d: usize, expected: usize, anomalous: usize) -> bool
     ensures { result ≡ Checks.last_points_ok has_anomaly d expected anomalous }
 {
@@ -251,7 +281,8 @@ pub fn last_points_ok(has_anomaly: bool, d: usize, expected: usize, anomalous: u
     true
 }
 
-fn numbers_finite(r: Reading, l: LastDescriptor) -> bool
+#[tactic(auto, unfolding(crate::specs::Checks::numbers_finite))]
+pub fn numbers_finite(r: Reading, l: LastDescriptor) -> bool
     ensures { result ≡ Checks.numbers_finite r l }
 {
     ieee::is_finite(r.score)
@@ -259,16 +290,18 @@ fn numbers_finite(r: Reading, l: LastDescriptor) -> bool
             & (ieee::is_finite(l.score) & ieee::is_finite(l.threshold)))
 }
 
+#[tactic(auto, unfolding(crate::specs::Checks::last_finite))]
 fn last_finite(l: LastDescriptor, expected: &[f32], anomalous: &[f32]) -> bool
     ensures { result ≡ Checks.last_finite l expected.now anomalous.now }
 {
     let anomaly = l.anomaly;
     if l.has_anomaly {
-        return ieee::is_finite(anomaly.score) & both_finite_f32(expected, anomalous);
+        return ieee::is_finite(anomaly.score) & both_finite(expected, anomalous);
     }
     true
 }
 
+#[tactic(auto, unfolding(crate::specs::Checks::is_later))]
 fn is_later(values_seen: usize, has_anomaly: bool, last_seen: usize) -> bool
     ensures { result ≡ Checks.is_later values_seen has_anomaly last_seen }
 {
@@ -278,6 +311,7 @@ fn is_later(values_seen: usize, has_anomaly: bool, last_seen: usize) -> bool
     true
 }
 
+#[tactic(auto, unfolding(crate::specs::Checks::seen_ok))]
 pub fn seen_ok(values_seen: usize, has_anomaly: bool, last_seen: usize) -> bool
     ensures { result ≡ Checks.seen_ok values_seen has_anomaly last_seen }
 {
@@ -285,6 +319,7 @@ pub fn seen_ok(values_seen: usize, has_anomaly: bool, last_seen: usize) -> bool
 }
 
 // Refusal 3's test.
+#[tactic(auto, unfolding(crate::specs::Checks::lengths_ok))]
 fn lengths_ok(r: Reading, l: LastDescriptor, n: Lengths) -> bool
     ensures { result ≡ Checks.lengths_ok r l n }
 {
@@ -296,105 +331,43 @@ fn lengths_ok(r: Reading, l: LastDescriptor, n: Lengths) -> bool
 }
 
 // Refusal 4's test. The attributions share a loop, so do the rows, the point and the median, and the last anomaly's two points.
-fn finite_ok(
-    r: Reading,
-    l: LastDescriptor,
-    point: &[f32],
-    scale: &[f32],
-    shift: &[f32],
-    difference_deviations: &[f32],
-    last_expected: &[f32],
-    last_anomalous: &[f32],
-    high: &[f64],
-    low: &[f64],
-    median: &[f32],
-    ideal_high: &[f64],
-    ideal_low: &[f64],
-    neighbours: &[f32],
-) -> bool
-    ensures { result ≡ Checks.finite_ok r l (lent
-        point.now scale.now shift.now difference_deviations.now
-        last_expected.now last_anomalous.now high.now low.now
-        median.now ideal_high.now ideal_low.now neighbours.now) }
+#[tactic(auto, using(crate::proofs::Finite::in_order), unfolding(crate::specs::Checks::finite_ok))]
+fn finite_ok(r: Reading, l: LastDescriptor, b: Lent) -> bool
+    ensures { result ≡ Checks.finite_ok r l (lists_of b.entry) }
 {
     numbers_finite(r, l)
-        & (last_finite(l, last_expected, last_anomalous)
-            & (both_finite_f32(point, median)
-                & (rows_finite(scale, shift, difference_deviations)
-                    & (attributions_finite(high, low, ideal_high, ideal_low)
-                        & all_finite_f32(neighbours)))))
+        & (last_finite(l, b.last_expected, b.last_anomalous)
+            & (both_finite(b.point, b.median)
+                & (rows_finite(b.scale, b.shift, b.difference_deviations)
+                    & (attributions_finite(b.high, b.low, b.ideal_high, b.ideal_low)
+                        & all_finite(b.neighbours)))))
 }
 
 // The answer to a reading: the smallest refusal of document 01's table that applies. Of the three slices to be written, which are not lent here, the lengths are
 // handed over; `counts_ok` is refusal 6's test, which the state's owner makes.
+#[tactic(auto, unfolding(crate::specs::Checks::answer_of))]
 pub fn answer(
     r: Reading,
     l: LastDescriptor,
-    point: &[f32],
-    scale: &[f32],
-    shift: &[f32],
-    difference_deviations: &[f32],
-    last_expected: &[f32],
-    last_anomalous: &[f32],
-    high: &[f64],
-    low: &[f64],
-    median: &[f32],
-    ideal_high: &[f64],
-    ideal_low: &[f64],
-    neighbours: &[f32],
+    b: Lent,
     expected: usize,
     out_high: usize,
     out_low: usize,
     state_base: usize,
     counts_ok: bool,
-) -> Answer
-    ensures { result ≡ Checks.answer_of r l (lent
-        point.now scale.now shift.now difference_deviations.now
-        last_expected.now last_anomalous.now high.now low.now
-        median.now ideal_high.now ideal_low.now neighbours.now) expected out_high out_low state_base counts_ok }
+) -> Result<(), Refusal>
+    ensures { result ≡ Checks.answer_of r l (lists_of b.entry) expected out_high out_low state_base counts_ok }
 {
     let anomaly = l.anomaly;
-    let n = Lengths {
-        point: point.len(),
-        scale: scale.len(),
-        shift: shift.len(),
-        difference_deviations: difference_deviations.len(),
-        last_expected: last_expected.len(),
-        last_anomalous: last_anomalous.len(),
-        high: high.len(),
-        low: low.len(),
-        median: median.len(),
-        ideal_high: ideal_high.len(),
-        ideal_low: ideal_low.len(),
-        neighbours: neighbours.len(),
-        expected,
-        out_high,
-        out_low,
-    };
     if range_ok(r.shingle_size, r.base_dimension, state_base) {
-        if lengths_ok(r, l, n) {
-            return Answer::of_fitting(
-                finite_ok(
-                    r,
-                    l,
-                    point,
-                    scale,
-                    shift,
-                    difference_deviations,
-                    last_expected,
-                    last_anomalous,
-                    high,
-                    low,
-                    median,
-                    ideal_high,
-                    ideal_low,
-                    neighbours,
-                ),
+        if lengths_ok(r, l, b.lengths(expected, out_high, out_low)) {
+            return Refusal::of_fitting(
+                finite_ok(r, l, b),
                 seen_ok(r.values_seen, l.has_anomaly, anomaly.values_seen),
                 counts_ok,
             );
         }
-        return Answer::Refused(Refusal::Length);
+        return Err(Refusal::Length);
     }
-    Answer::Refused(Refusal::Range)
+    Err(Refusal::Range)
 }

@@ -1,4 +1,5 @@
 -- Judging by how a state stands, and what its verdict does to the state, is judging the state. Assumes nothing.
+use Rattle.std.specs.Prelude.{Result, Ok, Err}
 use mathlib.Core.Path.{◌≡◌, refl, sym, ap, ◌∙◌, subst}
 use mathlib.Core.Bool.{Bool, true, false, cond}
 use mathlib.Core.List.{List}
@@ -8,8 +9,6 @@ use native.Mathlib.Omega.{arith}
 use lib.IntN.{ℤ}
 use lib.ListN.{length, take, drop, get_or, length-drop}
 use lib.Ieee.{Float}
-use Rattle.types.specs.declared.Answer.{Answer}
-use Rattle.types.specs.declared.Answer.TheVariants as Answers
 use Rattle.attributors.specs.Attributors.{padded}
 use Rattle.attributors.proofs.Laws.{take_padded}
 use Rattle.deviation.specs.Const.{zero64}
@@ -32,11 +31,11 @@ use Rattle.detection.specs.Decided.{no_row, newest_expected, row_after, drift_of
 use Rattle.detection.specs.Steps.{Branching, Fitting, rows_counted, after_rows, state_rows}
 use Rattle.detection.specs.declared.Verdict.{Verdict}
 use Rattle.detection.specs.declared.Verdict.TheVariants.{Quiet, Corrected, Raised, Skipped}
-use Rattle.detection.specs.declared.Outcome.{Outcome}
-use Rattle.detection.specs.declared.Outcome.TheVariants.{Accepted}
 use Rattle.predictorcorrector.specs.declared.Standing.{Standing}
 use Rattle.detection.specs.declared.Decision.{Decision}
 use Rattle.detection.proofs.Entry.{branching, in_range, same_base, counts_ok}
+use Rattle.types.specs.declared.Refusal.{Refusal}
+use Rattle.types.specs.Refusals.{Answer}
 
 module _ (r : Reading) (l : LastDescriptor) (b : Lent) where
   -- The newest rows are `base` long.
@@ -84,11 +83,11 @@ module _ (r : Reading) (l : LastDescriptor) (b : Lent) where
       outcome_by : (a : Answer) → answer ≡ a
           → outcome_of (decided r l b s.basic_thresholder s.auto_adjust (drift_of r l b (standing s) (opening s.basic_thresholder r r.score).threshold)) a ≡ outcome_of (verdict r l b s) a
       unfolding outcome_of verdict answer
-      outcome_by Answers.Done q =
+      outcome_by (Ok tt) q =
           let f = branching r l b s.base_dimension e h w (state_counts_ok s) q in
           let d = drift_by f (counts_ok r l b s.base_dimension e h w (state_counts_ok s) q) s.base_dimension refl (same_base r l b s.base_dimension e h w (state_counts_ok s) q) (subst (λ (n : ℕ). 0 < n) (same_base r l b s.base_dimension e h w (state_counts_ok s) q) f.expecting.some) (opening s.basic_thresholder r r.score).threshold in
-          ap (λ (x : Bool). Accepted (decided r l b s.basic_thresholder s.auto_adjust x)) d
-      outcome_by (Answers.Refused why) q = refl
+          ap (λ (x : Bool). Ok (decided r l b s.basic_thresholder s.auto_adjust x)) d
+      outcome_by (Err why) q = refl
 
       -- For the way a state stands, the decision is the outcome.
       pub decision_is : decision r l b (standing s) e h w ≡ outcome s r l b e h w
@@ -99,24 +98,24 @@ module _ (r : Reading) (l : LastDescriptor) (b : Lent) where
   module _ (k : Standing) (e h w : ℕ) where
     fitting_by : (v : Verdict) (a : Answer) → answer_of r l b e h w k.base_dimension k.counts_ok ≡ a → Fitting r (length b.point) (outcome_of v a)
     unfolding outcome_of
-    fitting_by v Answers.Done q =
+    fitting_by v (Ok tt) q =
         let f = branching r l b k.base_dimension e h w k.counts_ok q in
         record { shingle_most = f.shingle_most; base_most = f.base_most; inside = row_inside f }
-    fitting_by v (Answers.Refused why) q = tt
+    fitting_by v (Err why) q = tt
 
     -- What an outcome gives the change of the state.
-    pub fitting : (o : Outcome) → o ≡ decision r l b k e h w → Fitting r (length b.point) o
+    pub fitting : (o : Result Verdict Refusal) → o ≡ decision r l b k e h w → Fitting r (length b.point) o
     unfolding decision
     fitting o q = subst (Fitting r (length b.point)) (sym q) (fitting_by _ (answer_of r l b e h w k.base_dimension k.counts_ok) refl)
 
-    accepted_by : (v x : Verdict) (a : Answer) → answer_of r l b e h w k.base_dimension k.counts_ok ≡ a → outcome_of v a ≡ Accepted x
+    accepted_by : (v x : Verdict) (a : Answer) → answer_of r l b e h w k.base_dimension k.counts_ok ≡ a → outcome_of v a ≡ Ok x
         → (range_ok r.shingle_size r.base_dimension k.base_dimension ≡ true) × (k.counts_ok ≡ true)
     unfolding outcome_of
-    accepted_by v x Answers.Done q o = (in_range r l b k.base_dimension e h w k.counts_ok q, counts_ok r l b k.base_dimension e h w k.counts_ok q)
-    accepted_by v x (Answers.Refused why) q o = absurd (let z : ◌≡◌ {A = ℕ} 0 1 = cc in omega arith)
+    accepted_by v x (Ok tt) q o = (in_range r l b k.base_dimension e h w k.counts_ok q, counts_ok r l b k.base_dimension e h w k.counts_ok q)
+    accepted_by v x (Err why) q o = absurd (let z : ◌≡◌ {A = ℕ} 0 1 = cc in omega arith)
 
     -- What an accepted reading gives the change of a stored state.
-    pub accepted : (o : Outcome) (x : Verdict) → o ≡ decision r l b k e h w → o ≡ Accepted x → (range_ok r.shingle_size r.base_dimension k.base_dimension ≡ true) × (k.counts_ok ≡ true)
+    pub accepted : (o : Result Verdict Refusal) (x : Verdict) → o ≡ decision r l b k e h w → o ≡ Ok x → (range_ok r.shingle_size r.base_dimension k.base_dimension ≡ true) × (k.counts_ok ≡ true)
     unfolding decision
     accepted o x q p = accepted_by _ x (answer_of r l b e h w k.base_dimension k.counts_ok) refl (sym q ∙ p)
 
@@ -129,7 +128,7 @@ module _ (r : Reading) (l : LastDescriptor) (b : Lent) where
       mode_is f t true q = counted_is f q t
       mode_is f t false q = refl
 
-      after_is : Branching r l b → (v : Verdict) → row ≡ row_after r l b (Accepted v) → after_rows s r l b.point row v ≡ after r l b s v
+      after_is : Branching r l b → (v : Verdict) → row ≡ row_after r l b (Ok v) → after_rows s r l b.point row v ≡ after r l b s v
       unfolding after_rows after row_after
       after_is f (Quiet t) q = refl
       after_is f (Corrected t m) q = ap (λ (x : PredictorCorrector). entered x r l (corrected_score r l)) (mode_is f t (is_drift_mode m) q)
@@ -139,8 +138,8 @@ module _ (r : Reading) (l : LastDescriptor) (b : Lent) where
       state_by : (v : Verdict) (a : Answer) → answer_of r l b e h w k.base_dimension k.counts_ok ≡ a → row ≡ row_after r l b (outcome_of v a)
           → state_rows s r l b.point row (outcome_of v a) ≡ state_after s r l b (outcome_of v a)
       unfolding outcome_of state_rows state_after
-      state_by v Answers.Done q p = after_is (branching r l b k.base_dimension e h w k.counts_ok q) v p
-      state_by v (Answers.Refused why) q p = refl
+      state_by v (Ok tt) q p = after_is (branching r l b k.base_dimension e h w k.counts_ok q) v p
+      state_by v (Err why) q p = refl
 
       state_is : row ≡ row_after r l b (decision r l b k e h w) → state_rows s r l b.point row (decision r l b k e h w) ≡ state_after s r l b (decision r l b k e h w)
       unfolding decision
@@ -155,7 +154,7 @@ module _ (s : PredictorCorrector) (long : length s.deviations_actual ≡ 16) (lo
   judged k stands j i t e h w e' h' w' n p q =
       let o = decision r l b k (length e) (length h) (length w) in
       let is : o ≡ outcome s r l b (length e) (length h) (length w) = ap (λ (x : Standing). decision r l b x (length e) (length h) (length w)) stands ∙ decision_is r l b s long long' (length e) (length h) (length w) in
-      let c = subst (λ (x : Outcome). Decided r l b x j e h w e' h' w') is p in
+      let c = subst (λ (x : Result Verdict Refusal). Decided r l b x j e h w e' h' w') is p in
       record {
         says = c.says;
         state = q ∙ ap (state_rows s r l b.point j.newest_expected) p.says ∙ state_is r l b k (length e) (length h) (length w) s j.newest_expected p.row ∙ ap (state_after s r l b) is;

@@ -1,5 +1,6 @@
 -- What an accepted reading gives the stages: the lengths fit the sizes, the block lies within the point, and the state's counts are none that refusal 6 is of.
 -- Assumes nothing.
+use Rattle.std.specs.Prelude.{Ok, Err}
 use mathlib.Core.Path.{◌≡◌, refl, sym, ap, ◌∙◌, subst}
 use mathlib.Core.Bool.{Bool, true, false, cond, ◌&&◌}
 use mathlib.Core.List.{List}
@@ -12,8 +13,6 @@ use lib.ListN.{length}
 use lib.Ieee.{Float}
 use borrow.Author.Tests.{leb-true, ltb-true, eqb-true}
 use Rattle.types.specs.declared.Refusal.TheVariants.{Range, Length, NotFinite, ValuesSeen, Count}
-use Rattle.types.specs.declared.Answer.{Answer}
-use Rattle.types.specs.declared.Answer.TheVariants.{Done, Refused}
 use Rattle.divector.specs.DiVector.{max_gap_contribution}
 use Rattle.divector.proofs.Laws as DiVectorLaws
 use Rattle.descriptor.specs.Checks.{sizes_ok, dimension, range_ok, lengths_of, points_ok, rows_ok, neighbours_ok, lengths_ok, finite_ok, is_later, seen_ok, answer_of}
@@ -23,7 +22,8 @@ use Rattle.descriptor.specs.declared.LastDescriptor.{LastDescriptor}
 use Rattle.descriptor.specs.declared.Lengths.{Lengths}
 use Rattle.descriptor.proofs.Bounds.{both, sizes, product_fits, dimension_is, last_points}
 use Rattle.detection.specs.Judging.{gap_of, block_of, gap, block, start}
-use Rattle.detection.specs.Steps.{Correctable, Accepting, Branching, Writing, passing, late}
+use Rattle.detection.specs.Steps.{Correctable, Accepting, Branching, Writing}
+use Rattle.types.specs.Refusals.{Answer}
 
 -- The tests that passed, of an answer that is no refusal.
 record Passed (a c d e f : Bool) : Type 0 where
@@ -34,7 +34,7 @@ record Passed (a c d e f : Bool) : Type 0 where
   counts : f ≡ true
 
 passed : (a c d e f : Bool)
-    → cond a (cond c (cond d (cond e (cond f Done (Refused Count)) (Refused ValuesSeen)) (Refused NotFinite)) (Refused Length)) (Refused Range) ≡ Done → Passed a c d e f
+    → cond {A = Answer} a (cond c (cond d (cond e (cond f (Ok tt) (Err Count)) (Err ValuesSeen)) (Err NotFinite)) (Err Length)) (Err Range) ≡ Ok tt → Passed a c d e f
 passed true true true true true h = record { range = refl; lengths = refl; finite = refl; seen = refl; counts = refl }
 passed true true true true false h = absurd (let z : ◌≡◌ {A = ℕ} 0 1 = cc in omega arith)
 passed true true true false f h = absurd (let z : ◌≡◌ {A = ℕ} 0 1 = cc in omega arith)
@@ -108,7 +108,7 @@ row_apart k shingle base h = go (eq-or-lt_of_le h)
     go (inl e) = let p : (k + 1) * base ≡ shingle * base = ap (λ (n : ℕ). n * base) (let q : k + 1 ≡ shingle = omega arith in q) in inl (omega arith)
     go (inr i) = let p : (k + 2) * base ≤ shingle * base = mul-le-mul_right base (let q : k + 2 ≤ shingle = omega arith in q) in inr (omega arith)
 
-module _ (r : Reading) (l : LastDescriptor) (b : Lent) (state_base e h w : ℕ) (ok : Bool) (accepted : answer_of r l b e h w state_base ok ≡ Done) where
+module _ (r : Reading) (l : LastDescriptor) (b : Lent) (state_base e h w : ℕ) (ok : Bool) (accepted : answer_of r l b e h w state_base ok ≡ Ok tt) where
   tests : Passed (range_ok r.shingle_size r.base_dimension state_base) (lengths_ok r l (lengths_of b e h w)) (finite_ok r l b) (seen_ok r.values_seen l.has_anomaly l.anomaly.values_seen) ok
   unfolding answer_of
   tests = passed _ _ _ _ _ accepted
@@ -225,16 +225,6 @@ module _ (r : Reading) (l : LastDescriptor) (b : Lent) (state_base e h w : ℕ) 
         };
       }
 
-  -- The same for the stages that are lent some of the buffers.
-  for_noise : Correctable r l (passing b.point b.scale b.shift b.difference_deviations b.last_expected b.last_anomalous)
-  for_noise = let f = correctable in record { point_most = f.point_most; correcting = f.correcting }
-
-  pub for_late : Branching r l (late b.point b.scale b.shift b.difference_deviations b.high b.low b.median b.ideal_high b.ideal_low b.neighbours)
-  unfolding start block gap
-  for_late =
-      let f = branching in
-      record { shingle_most = f.shingle_most; base_most = f.base_most; point_most = f.point_most; expecting = f.expecting; block_small = f.block_small; apart = f.apart }
-
   pub writing : Writing b e h w
   writing =
       let n = fits in
@@ -247,6 +237,6 @@ module _ (r : Reading) (l : LastDescriptor) (b : Lent) (state_base e h w : ℕ) 
 
 -- What the way up to the noise pass asks, by the answer.
 pub accepting : (r : Reading) (l : LastDescriptor) (b : Lent) (state_base e h w : ℕ) (ok : Bool) (a : Answer) → a ≡ answer_of r l b e h w state_base ok
-    → Accepting r l (passing b.point b.scale b.shift b.difference_deviations b.last_expected b.last_anomalous) a
-accepting r l b state_base e h w ok Done said = for_noise r l b state_base e h w ok (sym said)
-accepting r l b state_base e h w ok (Refused why) said = tt
+    → Accepting r l b a
+accepting r l b state_base e h w ok (Ok _) said = correctable r l b state_base e h w ok (sym said)
+accepting r l b state_base e h w ok (Err why) said = tt

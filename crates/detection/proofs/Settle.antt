@@ -1,4 +1,5 @@
 -- From an exit's tests and calls to what judging leaves. Assumes nothing.
+use Rattle.std.specs.Prelude.{Result, Ok, Err}
 use mathlib.Core.Path.{◌≡◌, refl, sym, ap, ◌∙◌, subst}
 use mathlib.Core.Bool.{Bool, true, false, cond, not, ◌&&◌}
 use lib.Dec.{ltb}
@@ -9,8 +10,6 @@ use Prim.Native.Nat.{ℕ, ◌-◌}
 use lib.ListN.{length, drop}
 use lib.Ieee as Ieee
 use lib.Ieee.{Float, binary32}
-use Rattle.types.specs.declared.Answer.{Answer}
-use Rattle.types.specs.declared.Answer.TheVariants as Answers
 use Rattle.types.specs.declared.CorrectionMode.TheVariants as Modes
 use Rattle.divector.specs.DiVector.{normalized}
 use Rattle.divector.proofs.Laws.{one_length_true}
@@ -27,30 +26,30 @@ use Rattle.detection.specs.Const.{zero32}
 use Rattle.detection.specs.Judging.{gap, recent, opening, noise_pass, block, start, box, explained, triggered, within_box, expected, newest_of, is_drift_mode, late_verdict, graded_verdict, decided, relative_index, kept}
 use Rattle.detection.specs.Judged.{outcome_of, index_after, written}
 use Rattle.detection.specs.Decided.{no_row, newest_expected, row_after, drift_of, decision, Decided}
-use Rattle.detection.specs.Steps.{branch, late, Branching, Writing, accepted_way, way, drift_by, late_outcome, expected_outcome, without_row}
+use Rattle.detection.specs.Steps.{Branching, Writing, accepted_way, way, drift_by, late_outcome, expected_outcome, without_row}
 use Rattle.detection.specs.declared.Way.{Way}
 use Rattle.detection.specs.declared.Way.TheVariants as Ways
 use Rattle.detection.specs.declared.Verdict.{Verdict}
 use Rattle.detection.specs.declared.Verdict.TheVariants.{Quiet, Corrected, Raised, Skipped}
-use Rattle.detection.specs.declared.Outcome.{Outcome}
-use Rattle.detection.specs.declared.Outcome.TheVariants.{Accepted, Refused}
 use Rattle.predictorcorrector.specs.declared.Standing.{Standing}
 use Rattle.detection.specs.declared.Decision.{Decision}
-use Rattle.detection.proofs.Entry.{for_late, writing}
+use Rattle.detection.proofs.Entry.{branching, writing}
+use Rattle.types.specs.Refusals.{Answer}
+use Rattle.types.specs.declared.Refusal.{Refusal}
 
 -- ---- an outcome short of the candidate branch
-abbrev Calm : Outcome → Type 0
-Calm (Accepted (Quiet t)) = Unit
-Calm (Accepted (Corrected t m)) = is_drift_mode m ≡ false
-Calm (Accepted (Raised t g)) = ⊥
-Calm (Accepted Skipped) = Unit
-Calm (Refused why) = Unit
+abbrev Calm : Result Verdict Refusal → Type 0
+Calm (Ok (Quiet t)) = Unit
+Calm (Ok (Corrected t m)) = is_drift_mode m ≡ false
+Calm (Ok (Raised t g)) = ⊥
+Calm (Ok Skipped) = Unit
+Calm (Err why) = Unit
 
 module _ (r : Reading) (l : LastDescriptor) (b : Lent) (e h w : List Float) where
-  pub calm_left : (o : Outcome) (j : Decision) → Calm o → j ≡ without_row o → Decided r l b o j e h w e h w
+  pub calm_left : (o : Result Verdict Refusal) (j : Decision) → Calm o → j ≡ without_row o → Decided r l b o j e h w e h w
   unfolding without_row index_after relative_index row_after written kept
-  calm_left (Accepted (Quiet t)) j c q = record { says = ap (λ (x : Decision). x.outcome) q; index = ap (λ (x : Decision). x.relative_index) q; row = ap (λ (x : Decision). x.newest_expected) q; point = refl; highs = refl; lows = refl }
-  calm_left (Accepted (Corrected t m)) j c q = record {
+  calm_left (Ok (Quiet t)) j c q = record { says = ap (λ (x : Decision). x.outcome) q; index = ap (λ (x : Decision). x.relative_index) q; row = ap (λ (x : Decision). x.newest_expected) q; point = refl; highs = refl; lows = refl }
+  calm_left (Ok (Corrected t m)) j c q = record {
     says = ap (λ (x : Decision). x.outcome) q;
     index = ap (λ (x : Decision). x.relative_index) q;
     row = ap (λ (x : Decision). x.newest_expected) q ∙ ap (λ (d : Bool). cond d (newest_expected r l b) no_row) (sym c);
@@ -58,33 +57,33 @@ module _ (r : Reading) (l : LastDescriptor) (b : Lent) (e h w : List Float) wher
     highs = refl;
     lows = refl;
   }
-  calm_left (Accepted (Raised t g)) j c q = absurd c
-  calm_left (Accepted Skipped) j c q = record { says = ap (λ (x : Decision). x.outcome) q; index = ap (λ (x : Decision). x.relative_index) q; row = ap (λ (x : Decision). x.newest_expected) q; point = refl; highs = refl; lows = refl }
-  calm_left (Refused why) j c q = record { says = ap (λ (x : Decision). x.outcome) q; index = ap (λ (x : Decision). x.relative_index) q; row = ap (λ (x : Decision). x.newest_expected) q; point = refl; highs = refl; lows = refl }
+  calm_left (Ok (Raised t g)) j c q = absurd c
+  calm_left (Ok Skipped) j c q = record { says = ap (λ (x : Decision). x.outcome) q; index = ap (λ (x : Decision). x.relative_index) q; row = ap (λ (x : Decision). x.newest_expected) q; point = refl; highs = refl; lows = refl }
+  calm_left (Err why) j c q = record { says = ap (λ (x : Decision). x.outcome) q; index = ap (λ (x : Decision). x.relative_index) q; row = ap (λ (x : Decision). x.newest_expected) q; point = refl; highs = refl; lows = refl }
 
   -- ---- the candidate branch
   pub drift_left : (t : Float) (row : List Float) → row ≡ newest_expected r l b
-      → Decided r l b (Accepted (Corrected t Modes.DATA_DRIFT)) (record { outcome = Accepted (Corrected t Modes.DATA_DRIFT); relative_index = pos 0; newest_expected = row }) e h w e h w
+      → Decided r l b (Ok (Corrected t Modes.DATA_DRIFT)) (record { outcome = Ok (Corrected t Modes.DATA_DRIFT); relative_index = pos 0; newest_expected = row }) e h w e h w
   unfolding index_after relative_index row_after written kept
   drift_left t row q = record { says = refl; index = refl; row = q; point = refl; highs = refl; lows = refl }
 
   pub raised_left : (t g : Float) (i : ℤ) (row : List Float) (n : ℕ) → row ≡ newest_expected r l b → n ≡ block r l b → i ≡ (pos n -ℤ pos r.shingle_size +ℤ pos 1)
       → (e' h' w' : List Float) → (e' ≡ expected r l b) × (h' ≡ normalized r.score b.high b.low b.high) × (w' ≡ normalized r.score b.high b.low b.low)
-      → Decided r l b (Accepted (Raised t g)) (record { outcome = Accepted (Raised t g); relative_index = i; newest_expected = row }) e h w e' h' w'
+      → Decided r l b (Ok (Raised t g)) (record { outcome = Ok (Raised t g); relative_index = i; newest_expected = row }) e h w e' h' w'
   unfolding index_after relative_index row_after written kept
   raised_left t g i row n q at is e' h' w' p =
       record { says = refl; index = is ∙ ap (λ (m : ℕ). pos m -ℤ pos r.shingle_size +ℤ pos 1) at; row = q; point = p.0; highs = p.1; lows = p.2 }
 
 -- ---- the outcome that a way leads to
 module _ (k : Standing) (r : Reading) (l : LastDescriptor) (b : Lent) where
-  unfoldable pub ended : Way → Outcome
-  ended (Ways.Refused why) = Refused why
-  ended Ways.Skipped = Accepted Skipped
-  ended (Ways.Quiet t) = Accepted (Quiet t)
-  ended (Ways.Corrected t m) = Accepted (Corrected t m)
+  unfoldable pub ended : Way → Result Verdict Refusal
+  ended (Ways.Refused why) = Err why
+  ended Ways.Skipped = Ok Skipped
+  ended (Ways.Quiet t) = Ok (Quiet t)
+  ended (Ways.Corrected t m) = Ok (Corrected t m)
   ended (Ways.Past t g) = late_outcome k r l b t g
 
-  picks : (p q : Bool) (x y z : Way) (u v w : Verdict) → ended x ≡ Accepted u → ended y ≡ Accepted v → ended z ≡ Accepted w → ended (cond p x (cond q y z)) ≡ Accepted (cond p u (cond q v w))
+  picks : (p q : Bool) (x y z : Way) (u v w : Verdict) → ended x ≡ Ok u → ended y ≡ Ok v → ended z ≡ Ok w → ended (cond p x (cond q y z)) ≡ Ok (cond p u (cond q v w))
   picks true q x y z u v w h i m = h
   picks false true x y z u v w h i m = i
   picks false false x y z u v w h i m = m
@@ -94,18 +93,18 @@ module _ (k : Standing) (r : Reading) (l : LastDescriptor) (b : Lent) where
 
   way_ended : (a : Answer) → ended (way r l b k.basic_thresholder a) ≡ outcome_of verdict_by a
   unfolding way accepted_way decided graded_verdict ended late_outcome outcome_of recent
-  way_ended Answers.Done =
+  way_ended (Ok tt) =
       let g = opening k.basic_thresholder r r.score in
       picks (Ieee.eq r.score zero32) (Ieee.eq g.grade zero32) _ _ _ _ _ _ refl refl
       (picks (recent r l b && Ieee.eq (opening k.basic_thresholder r r.corrected_score).grade zero32) (Ieee.eq (Ieee.mul binary32 g.grade (noise_pass r l b)) zero32) _ _ _ _ _ _ refl refl refl)
-  way_ended (Answers.Refused why) = refl
+  way_ended (Err why) = refl
 
   -- ---- from what a way left to the contract
   pub way_decided : (j : Decision) (e h w e' h' w' : List Float) (a : Answer) → a ≡ answer_of r l b (length e) (length h) (length w) k.base_dimension k.counts_ok
       → (y z : Way) → y ≡ way r l b k.basic_thresholder a → y ≡ z
       → Decided r l b (ended z) j e h w e' h' w' → Decided r l b (decision r l b k (length e) (length h) (length w)) j e h w e' h' w'
   unfolding decision
-  way_decided j e h w e' h' w' a said y z is at p = subst (λ (o : Outcome). Decided r l b o j e h w e' h' w') (ap ended (sym at ∙ is) ∙ way_ended a ∙ ap (outcome_of verdict_by) said) p
+  way_decided j e h w e' h' w' a said y z is at p = subst (λ (o : Result Verdict Refusal). Decided r l b o j e h w e' h' w') (ap ended (sym at ∙ is) ∙ way_ended a ∙ ap (outcome_of verdict_by) said) p
 
   -- Data drift by the newest rows.
   pub drift_is : (t : Float) (d : Bool) (x : List Float) → x ≡ newest_of r l b (expected r l b)
@@ -115,29 +114,29 @@ module _ (k : Standing) (r : Reading) (l : LastDescriptor) (b : Lent) where
 
   -- ---- from the expected point on
   module _ (u : List Float) (t g : Float) (j : Decision) (e h w e' h' w' : List Float) where
-    pub at_forecast : within_unertainty_box u (start r l b) b.scale b.point (expected r l b) ≡ true → Decided r l b (Accepted (Corrected t Modes.FORECAST)) j e h w e' h' w'
+    pub at_forecast : within_unertainty_box u (start r l b) b.scale b.point (expected r l b) ≡ true → Decided r l b (Ok (Corrected t Modes.FORECAST)) j e h w e' h' w'
         → Decided r l b (expected_outcome k r l b u t g) j e h w e' h' w'
     unfolding expected_outcome
     at_forecast y p = rw y p
 
-    pub at_drift : within_unertainty_box u (start r l b) b.scale b.point (expected r l b) ≡ false → drift_of r l b k t ≡ true → Decided r l b (Accepted (Corrected t Modes.DATA_DRIFT)) j e h w e' h' w'
+    pub at_drift : within_unertainty_box u (start r l b) b.scale b.point (expected r l b) ≡ false → drift_of r l b k t ≡ true → Decided r l b (Ok (Corrected t Modes.DATA_DRIFT)) j e h w e' h' w'
         → Decided r l b (expected_outcome k r l b u t g) j e h w e' h' w'
     unfolding expected_outcome
     at_drift y z p = rw (y, z) p
 
-    pub at_raised : within_unertainty_box u (start r l b) b.scale b.point (expected r l b) ≡ false → drift_of r l b k t ≡ false → Decided r l b (Accepted (Raised t g)) j e h w e' h' w'
+    pub at_raised : within_unertainty_box u (start r l b) b.scale b.point (expected r l b) ≡ false → drift_of r l b k t ≡ false → Decided r l b (Ok (Raised t g)) j e h w e' h' w'
         → Decided r l b (expected_outcome k r l b u t g) j e h w e' h' w'
     unfolding expected_outcome
     at_raised y z p = rw (y, z) p
 
   -- ---- past the noise pass
   module _ (t g : Float) (j : Decision) (e h w e' h' w' : List Float) where
-    pub at_explained : (k.auto_adjust && explained r l b) ≡ true → Decided r l b (Accepted (Corrected t Modes.CONDITIONAL_FORECAST)) j e h w e' h' w' → Decided r l b (late_outcome k r l b t g) j e h w e' h' w'
+    pub at_explained : (k.auto_adjust && explained r l b) ≡ true → Decided r l b (Ok (Corrected t Modes.CONDITIONAL_FORECAST)) j e h w e' h' w' → Decided r l b (late_outcome k r l b t g) j e h w e' h' w'
     unfolding late_outcome late_verdict
     at_explained y p = rw y p
 
     pub at_shingle : (k.auto_adjust && explained r l b) ≡ false → (ltb (gap r l b) r.shingle_size && not (triggered r l b t)) ≡ true
-        → Decided r l b (Accepted (Corrected t Modes.ANOMALY_IN_SHINGLE)) j e h w e' h' w' → Decided r l b (late_outcome k r l b t g) j e h w e' h' w'
+        → Decided r l b (Ok (Corrected t Modes.ANOMALY_IN_SHINGLE)) j e h w e' h' w' → Decided r l b (late_outcome k r l b t g) j e h w e' h' w'
     unfolding late_outcome late_verdict
     at_shingle y z p = rw (y, z) p
 
@@ -147,19 +146,16 @@ module _ (k : Standing) (r : Reading) (l : LastDescriptor) (b : Lent) where
     at_expected y z u is p = rw (y, z) (subst (λ (v : List Float). Decided r l b (expected_outcome k r l b v t g) j e h w e' h' w') is p)
 
   -- ---- what the exits past the noise pass ask
-  past_done : (t g : Float) (a : Answer) → way r l b k.basic_thresholder a ≡ Ways.Past t g → a ≡ Answers.Done
+  past_done : (t g : Float) (a : Answer) → way r l b k.basic_thresholder a ≡ Ways.Past t g → a ≡ Ok tt
   unfolding way
-  past_done t g Answers.Done h = refl
-  past_done t g (Answers.Refused why) h = absurd (let z : ◌≡◌ {A = ℕ} 0 1 = cc in omega arith)
+  past_done t g (Ok tt) h = refl
+  past_done t g (Err why) h = absurd (let z : ◌≡◌ {A = ℕ} 0 1 = cc in omega arith)
 
   pub past_fits : (e h w : ℕ) (a : Answer) → a ≡ answer_of r l b e h w k.base_dimension k.counts_ok
-      → (y : Way) (t g : Float) → y ≡ way r l b k.basic_thresholder a → y ≡ Ways.Past t g
-      → Branching r l (late b.point b.scale b.shift b.difference_deviations b.high b.low b.median b.ideal_high b.ideal_low b.neighbours)
-      × Writing (late b.point b.scale b.shift b.difference_deviations b.high b.low b.median b.ideal_high b.ideal_low b.neighbours) e h w
+      → (y : Way) (t g : Float) → y ≡ way r l b k.basic_thresholder a → y ≡ Ways.Past t g → Branching r l b × Writing b e h w
   past_fits e h w a said y t g is at =
       let d = sym said ∙ past_done t g a (sym is ∙ at) in
-      let f = writing r l b k.base_dimension e h w k.counts_ok d in
-      (for_late r l b k.base_dimension e h w k.counts_ok d, record { expected_long = f.expected_long; low_long = f.low_long; out_high_long = f.out_high_long; out_low_long = f.out_low_long })
+      (branching r l b k.base_dimension e h w k.counts_ok d, writing r l b k.base_dimension e h w k.counts_ok d)
 
 -- What is written past the last test: the lengths fit.
 pub buffers_are : (r : Reading) (l : LastDescriptor) (b : Lent) (n : ℕ) (row : List Float) → n ≡ start r l b → row ≡ expected_row b.high b.low n r.base_dimension b.point b.median
@@ -176,57 +172,3 @@ buffers_are r l b n row q k e h w e' h' w' f g p =
       p.highs ∙ rw alike,
       p.lows ∙ rw alike,
     )
-
--- ---- a stage that is lent some of the buffers
-pub branch_fits : (r : Reading) (l : LastDescriptor) (b : Lent) → Branching r l b → Branching r l (branch b.point b.scale b.difference_deviations b.high b.low b.median)
-unfolding start block gap
-branch_fits r l b f = record { shingle_most = f.shingle_most; base_most = f.base_most; point_most = f.point_most; expecting = f.expecting; block_small = f.block_small; apart = f.apart }
-
-pub branch_writes : (b : Lent) (e h w : ℕ) → Writing b e h w → Writing (branch b.point b.scale b.difference_deviations b.high b.low b.median) e h w
-branch_writes b e h w f = record { expected_long = f.expected_long; low_long = f.low_long; out_high_long = f.out_high_long; out_low_long = f.out_low_long }
-
--- What a stage's words hold of the buffers.
-record Alike (r : Reading) (l : LastDescriptor) (b b' : Lent) : Type 0 where
-  blocks : block r l b ≡ block r l b'
-  expecteds : expected r l b ≡ expected r l b'
-  rows : newest_expected r l b ≡ newest_expected r l b'
-  highs : b.high ≡ b'.high
-  lows : b.low ≡ b'.low
-
-module _ (r : Reading) (l : LastDescriptor) (b b' : Lent) (a : Alike r l b b') where
-  index_moves : (o : Outcome) → index_after r l b o ≡ index_after r l b' o
-  unfolding index_after relative_index
-  index_moves (Refused why) = refl
-  index_moves (Accepted (Quiet t)) = refl
-  index_moves (Accepted (Corrected t m)) = refl
-  index_moves (Accepted (Raised t g)) = ap (λ (n : ℕ). pos n -ℤ pos r.shingle_size +ℤ pos 1) a.blocks
-  index_moves (Accepted Skipped) = refl
-
-  row_moves : (o : Outcome) → row_after r l b o ≡ row_after r l b' o
-  unfolding row_after
-  row_moves (Refused why) = refl
-  row_moves (Accepted (Quiet t)) = refl
-  row_moves (Accepted (Corrected t m)) = ap (λ (x : List Float). cond (is_drift_mode m) x no_row) a.rows
-  row_moves (Accepted (Raised t g)) = a.rows
-  row_moves (Accepted Skipped) = refl
-
-  left_moves : (o o' : Outcome) → o ≡ o' → (j : Decision) (e h w e' h' w' : List Float) → Decided r l b o j e h w e' h' w' → Decided r l b' o' j e h w e' h' w'
-  left_moves o o' q j e h w e' h' w' p = subst (λ (x : Outcome). Decided r l b' x j e h w e' h' w') q (record {
-    says = p.says;
-    index = p.index ∙ index_moves o;
-    row = p.row ∙ row_moves o;
-    point = p.point ∙ ap (written o e) a.expecteds;
-    highs = p.highs ∙ (λ i. written o h (normalized r.score (a.highs i) (a.lows i) (a.highs i)));
-    lows = p.lows ∙ (λ i. written o w (normalized r.score (a.highs i) (a.lows i) (a.lows i)));
-  })
-
-module _ (k : Standing) (r : Reading) (l : LastDescriptor) (b : Lent) (t g : Float) (j : Decision) (e h w e' h' w' : List Float) where
-  pub late_lent : Decided r l (late b.point b.scale b.shift b.difference_deviations b.high b.low b.median b.ideal_high b.ideal_low b.neighbours) (late_outcome k r l (late b.point b.scale b.shift b.difference_deviations b.high b.low b.median b.ideal_high b.ideal_low b.neighbours) t g) j e h w e' h' w'
-      → Decided r l b (ended k r l b (Ways.Past t g)) j e h w e' h' w'
-  unfolding ended late_outcome late_verdict explained box start block gap triggered within_box expected drift_of newest_expected newest_of
-  late_lent p = left_moves r l _ b (record { blocks = refl; expecteds = refl; rows = refl; highs = refl; lows = refl }) _ _ refl j e h w e' h' w' p
-
-  pub branch_lent : (u : List Float) → Decided r l (branch b.point b.scale b.difference_deviations b.high b.low b.median) (expected_outcome k r l (branch b.point b.scale b.difference_deviations b.high b.low b.median) u t g) j e h w e' h' w'
-      → Decided r l b (expected_outcome k r l b u t g) j e h w e' h' w'
-  unfolding expected_outcome start block gap expected drift_of newest_expected newest_of
-  branch_lent u p = left_moves r l _ b (record { blocks = refl; expecteds = refl; rows = refl; highs = refl; lows = refl }) _ _ refl j e h w e' h' w' p

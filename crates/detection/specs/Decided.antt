@@ -1,5 +1,5 @@
 -- The contract of `judge`, which decides by how the state stands, without its lists: of these it is told the last entries alone.
-use Rattle.std.specs.Prelude.{ℕ, ◌-◌, ◌≡◌, Bool, cond, List, length, replicate, take, drop, Float}
+use Rattle.std.specs.Prelude.{ℕ, ◌-◌, ◌≡◌, Bool, cond, List, length, replicate, take, drop, Float, Result, Ok, Err}
 use Rattle.attributors.specs.Attributors.{padded}
 use Rattle.divector.specs.DiVector.{normalized}
 use Rattle.descriptor.specs.Checks.{answer_of}
@@ -14,10 +14,9 @@ use Rattle.detection.specs.Judging.{opening, expected, newest_of, decided, is_dr
 use Rattle.detection.specs.Judged.{outcome_of, index_after, written}
 use Rattle.detection.specs.declared.Verdict.{Verdict}
 use Rattle.detection.specs.declared.Verdict.TheVariants.{Quiet, Corrected, Raised, Skipped}
-use Rattle.detection.specs.declared.Outcome.{Outcome}
-use Rattle.detection.specs.declared.Outcome.TheVariants.{Accepted, Refused}
 use Rattle.predictorcorrector.specs.declared.Standing.{Standing}
 use Rattle.detection.specs.declared.Decision.{Decision}
+use Rattle.types.specs.declared.Refusal.{Refusal}
 
 -- No row: sixteen zeros.
 abbrev pub no_row : List Float
@@ -29,12 +28,12 @@ module _ (r : Reading) (l : LastDescriptor) (b : Lent) where
   newest_expected = padded zero32 16 (newest_of r l b (expected r l b))
 
   -- The row that an outcome hands on: where the candidate branch may have counted it.
-  unfoldable pub row_after : Outcome → List Float
-  row_after (Accepted (Quiet t)) = no_row
-  row_after (Accepted (Corrected t m)) = cond (is_drift_mode m) newest_expected no_row
-  row_after (Accepted (Raised t g)) = newest_expected
-  row_after (Accepted Skipped) = no_row
-  row_after (Refused why) = no_row
+  unfoldable pub row_after : Result Verdict Refusal → List Float
+  row_after (Ok (Quiet t)) = no_row
+  row_after (Ok (Corrected t m)) = cond (is_drift_mode m) newest_expected no_row
+  row_after (Ok (Raised t g)) = newest_expected
+  row_after (Ok Skipped) = no_row
+  row_after (Err why) = no_row
 
   module _ (k : Standing) where
     -- Data drift, by the last entries.
@@ -44,13 +43,13 @@ module _ (r : Reading) (l : LastDescriptor) (b : Lent) where
         k.last_actual k.last_expected (newest_of r l b b.point) (newest_of r l b (expected r l b)) b.difference_deviations
 
     -- The three numbers are the lengths of the buffers that may be written.
-    unfoldable pub decision : ℕ → ℕ → ℕ → Outcome
+    unfoldable pub decision : ℕ → ℕ → ℕ → Result Verdict Refusal
     decision e h w =
         outcome_of (decided r l b k.basic_thresholder k.auto_adjust (drift_of (opening k.basic_thresholder r r.score).threshold))
         (answer_of r l b e h w k.base_dimension k.counts_ok)
 
   -- What judging leaves for the outcome o: the buffers e (expected point), h and w (normalised attribution) at entry, e', h' and w' at exit.
-  pub record Decided (o : Outcome) (j : Decision) (e h w e' h' w' : List Float) : Type 0 where
+  pub record Decided (o : Result Verdict Refusal) (j : Decision) (e h w e' h' w' : List Float) : Type 0 where
     pub says : j.outcome ≡ o
     pub index : j.relative_index ≡ index_after r l b o
     pub row : j.newest_expected ≡ row_after o

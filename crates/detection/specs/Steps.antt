@@ -1,14 +1,12 @@
 -- What the private stages ask of their buffers and promise each other: a reader need not read it. Every accepted reading gives it (proofs/Entry.antt).
-use Rattle.std.specs.Prelude.{◌≡◌, ℕ, ◌+◌, ◌-◌, ◌≤◌, Bool, cond, ◌&&◌, List, [], ◌⊎◌, pos, length, Float}
+use Rattle.std.specs.Prelude.{◌≡◌, ℕ, ◌+◌, ◌-◌, ◌≤◌, Bool, cond, ◌&&◌, List, ◌⊎◌, pos, length, Float, Result, Ok, Err}
 use Rattle.std.specs.Float.Ieee as Ieee
 use Rattle.std.specs.Float.{binary32}
-use Rattle.types.specs.declared.Answer.{Answer}
-use Rattle.types.specs.declared.Answer.TheVariants as Answers
 use Rattle.types.specs.declared.CorrectionMode.TheVariants.{NOISE, ANOMALY_IN_SHINGLE, FORECAST, DATA_DRIFT}
 use Rattle.basicthresholder.specs.declared.BasicThresholder.{BasicThresholder}
 use Rattle.uncertainty_box.specs.Box.{within_unertainty_box}
 use Rattle.corrector.specs.Steps.{Expecting, Correcting}
-use Rattle.descriptor.specs.Lent.{Lent, lent}
+use Rattle.descriptor.specs.Lent.{Lent}
 use Rattle.descriptor.specs.declared.Reading.{Reading}
 use Rattle.descriptor.specs.declared.LastDescriptor.{LastDescriptor}
 use Rattle.candidate.specs.Candidate.{is_candidate, drift_at}
@@ -19,21 +17,12 @@ unfoldable pub use Rattle.detection.specs.Decided.{rows_counted, after_rows}
 use Rattle.detection.specs.declared.Way.{Way}
 use Rattle.detection.specs.declared.Way.TheVariants as Ways
 use Rattle.detection.specs.declared.Verdict.TheVariants.{Corrected, Raised}
-use Rattle.detection.specs.declared.Outcome.{Outcome}
-use Rattle.detection.specs.declared.Outcome.TheVariants.{Accepted, Refused}
 use Rattle.predictorcorrector.specs.declared.PredictorCorrector.{PredictorCorrector}
 use Rattle.predictorcorrector.specs.declared.Standing.{Standing}
 use Rattle.detection.specs.declared.Decision.{Decision}
-
--- The buffers that a stage is lent; the others are left empty, and its definitions do not look at them.
-abbrev pub passing : List Float → List Float → List Float → List Float → List Float → List Float → Lent
-passing p sc sh dd le la = lent p sc sh dd le la [] [] [] [] [] []
-
-abbrev pub late : List Float → List Float → List Float → List Float → List Float → List Float → List Float → List Float → List Float → List Float → Lent
-late p sc sh dd h w m ih il ns = lent p sc sh dd [] [] h w m ih il ns
-
-abbrev pub branch : List Float → List Float → List Float → List Float → List Float → List Float → Lent
-branch p sc dd h w m = lent p sc [] dd [] [] h w m [] [] []
+use Rattle.detection.specs.declared.Verdict.{Verdict}
+use Rattle.types.specs.declared.Refusal.{Refusal}
+use Rattle.types.specs.Refusals.{Answer}
 
 -- The lengths fit the sizes: for the noise pass,
 pub record Correctable (r : Reading) (l : LastDescriptor) (b : Lent) : Type 0 where
@@ -57,8 +46,8 @@ pub record Writing (b : Lent) (e h w : ℕ) : Type 0 where
   pub out_low_long : length b.high ≡ w
 
 abbrev pub Accepting : Reading → LastDescriptor → Lent → Answer → Type 0
-Accepting r l b Answers.Done = Correctable r l b
-Accepting r l b (Answers.Refused why) = Unit
+Accepting r l b (Ok _) = Correctable r l b
+Accepting r l b (Err why) = Unit
 
 -- ---- where a reading ends, up to the noise pass
 module _ (r : Reading) (l : LastDescriptor) (b : Lent) (t : BasicThresholder) where
@@ -72,8 +61,8 @@ module _ (r : Reading) (l : LastDescriptor) (b : Lent) (t : BasicThresholder) wh
       (cond (Ieee.eq working zero32) (Ways.Corrected opened.threshold NOISE) (Ways.Past opened.threshold working))))
 
   unfoldable pub way : Answer → Way
-  way Answers.Done = accepted_way
-  way (Answers.Refused why) = Ways.Refused why
+  way (Ok tt) = accepted_way
+  way (Err why) = Ways.Refused why
 
 -- ---- past it
 -- Data drift by the newest rows.
@@ -82,23 +71,23 @@ drift_by k r l threshold newest row noise =
     drift_at (is_candidate r l k.run_length r.shingle_size threshold) k.auto_adjust k.run_length r.base_dimension k.last_actual k.last_expected newest row noise
 
 module _ (k : Standing) (r : Reading) (l : LastDescriptor) (b : Lent) where
-  unfoldable pub late_outcome : Float → Float → Outcome
-  late_outcome t g = Accepted (late_verdict r l b k.auto_adjust (drift_of r l b k t) t g)
+  unfoldable pub late_outcome : Float → Float → Result Verdict Refusal
+  late_outcome t g = Ok (late_verdict r l b k.auto_adjust (drift_of r l b k t) t g)
 
   -- From the expected point on, for the box u.
-  unfoldable pub expected_outcome : List Float → Float → Float → Outcome
+  unfoldable pub expected_outcome : List Float → Float → Float → Result Verdict Refusal
   expected_outcome u t g =
-      Accepted (cond (within_unertainty_box u (start r l b) b.scale b.point (expected r l b)) (Corrected t FORECAST)
+      Ok (cond (within_unertainty_box u (start r l b) b.scale b.point (expected r l b)) (Corrected t FORECAST)
       (cond (drift_of r l b k t) (Corrected t DATA_DRIFT) (Raised t g)))
 
 -- ---- an outcome short of the candidate branch
-unfoldable pub without_row : Outcome → Decision
+unfoldable pub without_row : Result Verdict Refusal → Decision
 without_row o = record { outcome = o; relative_index = pos 0; newest_expected = no_row }
 
 -- ---- what an outcome does to the state, by the point and the row that it hands on
-unfoldable pub state_rows : PredictorCorrector → Reading → LastDescriptor → (point row : List Float) → Outcome → PredictorCorrector
-state_rows s r l point row (Accepted v) = after_rows s r l point row v
-state_rows s r l point row (Refused why) = s
+unfoldable pub state_rows : PredictorCorrector → Reading → LastDescriptor → (point row : List Float) → Result Verdict Refusal → PredictorCorrector
+state_rows s r l point row (Ok v) = after_rows s r l point row v
+state_rows s r l point row (Err why) = s
 
 -- ---- what a verdict does to the state asks of a reading
 pub record Counting (r : Reading) (point : ℕ) : Type 0 where
@@ -106,6 +95,6 @@ pub record Counting (r : Reading) (point : ℕ) : Type 0 where
   pub base_most : r.base_dimension ≤ 16
   pub inside : r.base_dimension ≤ point
 
-abbrev pub Fitting : Reading → ℕ → Outcome → Type 0
-Fitting r point (Accepted v) = Counting r point
-Fitting r point (Refused why) = Unit
+abbrev pub Fitting : Reading → ℕ → Result Verdict Refusal → Type 0
+Fitting r point (Ok v) = Counting r point
+Fitting r point (Err why) = Unit

@@ -6,18 +6,16 @@ ghost use Rattle.types.specs.Codes.{is_differenced};
 ghost use Rattle.attributors.specs.Attributors.{padded};
 ghost use Rattle.uncertainty_box.specs.Box as Box;
 ghost use Rattle.uncertainty_box.specs.Pass as Pass;
-ghost use Rattle.corrector.specs.Corrector as Corrector;
-ghost use Rattle.corrector.specs.Steps as CorrectorSteps;
-ghost use Rattle.descriptor.specs.Lent.{lent};
+ghost use Rattle.descriptor.specs.Lent.{lists_of};
 ghost use Rattle.detection.specs.Const.{zero32};
 ghost use Rattle.detection.specs.Judging as Judging;
 ghost use Rattle.detection.specs.Decided as Decided;
 ghost use Rattle.detection.specs.Steps as Steps;
 
 use basicthresholder::{BasicThresholder, Graded};
-use descriptor::{LastDescriptor, Reading};
+use descriptor::{LastDescriptor, Lent, Reading};
 use predictorcorrector::{PredictorCorrector, Standing};
-use types::{Answer, CorrectionMode, Refusal};
+use types::{CorrectionMode, Refusal};
 
 // What the watch says of an accepted reading.
 #[derive(Clone, Copy)]
@@ -28,24 +26,18 @@ pub enum Verdict {
     Skipped,
 }
 
-#[derive(Clone, Copy)]
-pub enum Outcome {
-    Accepted(Verdict),
-    Refused(Refusal),
-}
-
 // The outcome, with the relative index of a raised reading and, where the candidate branch is reached, the newest row of the expected point.
 #[derive(Clone, Copy)]
 pub struct Decision {
-    pub outcome: Outcome,
+    pub outcome: Result<Verdict, Refusal>,
     pub relative_index: i32,
     pub newest_expected: [f32; 16],
 }
 
-// The outcome, with the relative index of a raised reading and the state beside it.
+// The outcome, with the relative index of a raised reading and the state beside it, which a refusal hands back too (document 01's "state in, state out").
 #[derive(Clone, Copy)]
 pub struct Judgment {
-    pub outcome: Outcome,
+    pub outcome: Result<Verdict, Refusal>,
     pub relative_index: i32,
     pub state: PredictorCorrector,
 }
@@ -63,91 +55,64 @@ fn sixteen() -> [f32; 16]
 }
 
 // What the noise pass makes of a point; how many coordinates it read is of no use here.
-fn pass_factor(
-    base: usize,
-    scale: &[f32],
-    shift: &[f32],
-    difference_deviations: &[f32],
-    point: &[f32],
-) -> f32
-    ensures { result ≡ Pass.centered_transform_pass base scale.now shift.now difference_deviations.now point.now }
+fn pass_factor(base: usize, b: Lent, point: &[f32]) -> f32
+    ensures { result ≡ Pass.centered_transform_pass base b.entry.scale.now b.entry.shift.now b.entry.difference_deviations.now point.now }
 {
     let passed = uncertainty_box::centered_transform_pass(
         base,
-        scale,
-        shift,
-        difference_deviations,
+        b.scale,
+        b.shift,
+        b.difference_deviations,
         point,
     );
     passed.factor
 }
 
 // The noise pass of the corrected point; without a copy where nothing is corrected.
-fn noise_pass(
-    r: Reading,
-    l: LastDescriptor,
-    gap: usize,
-    point: &[f32],
-    scale: &[f32],
-    shift: &[f32],
-    difference_deviations: &[f32],
-    last_expected: &[f32],
-    last_anomalous: &[f32],
-) -> f32
-    requires fact_1 { length point.now ≤ 1024 }
-    requires fact_2 { CorrectorSteps.Correcting (length point.now) gap r.shingle_size r.base_dimension l.has_anomaly
-        (length last_expected.now) (length last_anomalous.now) (length point.now) }
-    ensures { result ≡ Pass.centered_transform_pass r.base_dimension scale.now shift.now
-        difference_deviations.now (Corrector.apply_basic_corrector point.now gap r.shingle_size r.base_dimension
-        l.has_anomaly last_expected.now last_anomalous.now l.anomaly.relative_index (is_differenced
-        r.transform_method) r.time_augmented) }
+fn noise_pass(r: Reading, l: LastDescriptor, b: Lent) -> f32
+    requires { Steps.Correctable r l (lists_of b) }
+    ensures { result ≡ Judging.noise_pass r l (lists_of b.entry) }
 {
     let base = r.base_dimension;
+    let gap = scoring::gap(r, l);
     if !scoring::is_recent(l.has_anomaly, gap, r.shingle_size) {
-        return pass_factor(base, scale, shift, difference_deviations, point);
+        return pass_factor(base, b, b.point);
     }
     let method = r.transform_method;
     let anomaly = l.anomaly;
-    let d = point.len();
+    let d = b.point.len();
     let mut work = zeros();
     corrector::write_corrected_point(
-        point,
+        b.point,
         gap,
         r.shingle_size,
         base,
         l.has_anomaly,
-        last_expected,
-        last_anomalous,
+        b.last_expected,
+        b.last_anomalous,
         anomaly.relative_index,
         method.is_differenced(),
         r.time_augmented,
         &mut work[..d],
     );
-    pass_factor(base, scale, shift, difference_deviations, &work[..d])
+    pass_factor(base, b, &work[..d])
 }
 
 // The uncertainty box in the first `base` places.
-fn box_of(
-    r: Reading,
-    start: usize,
-    point: &[f32],
-    scale: &[f32],
-    shift: &[f32],
-    difference_deviations: &[f32],
-) -> [f32; 16]
+fn box_of(r: Reading, start: usize, b: Lent) -> [f32; 16]
     requires { r.base_dimension ≤ 16 }
-    ensures { take r.base_dimension result ≡ Box.uncertainty_box point.now start scale.now shift.now
-        difference_deviations.now (is_differenced r.transform_method) (replicate r.base_dimension zero32) }
+    ensures { take r.base_dimension result ≡ Box.uncertainty_box b.entry.point.now start b.entry.scale.now b.entry.shift.now
+        b.entry.difference_deviations.now (is_differenced r.transform_method) (replicate r.base_dimension zero32) }
 {
     let base = r.base_dimension;
     let method = r.transform_method;
     let mut out = sixteen();
     uncertainty_box::construct_uncertainty_box(
-        point,
+        b.point,
         start,
-        scale,
-        shift,
-        difference_deviations,
+        b.scale,
+        b.shift,
+        b.difference_deviations,
         method.is_differenced(),
         &mut out[..base],
     );
@@ -164,8 +129,8 @@ struct Place {
 
 // Where the block starts.
 fn block_start(block: usize, base: usize) -> usize
-    requires fact_1 { block ≤ 1024 }
-    requires fact_2 { base ≤ 16 }
+    requires block_small { block ≤ 1024 }
+    requires base_most { base ≤ 16 }
     ensures { result ≡ block * base }
 {
     block * base
@@ -173,8 +138,8 @@ fn block_start(block: usize, base: usize) -> usize
 
 // Counted back from the newest block, which is 0.
 fn relative_index(block: usize, shingle_size: usize) -> i32
-    requires fact_1 { block ≤ 1024 }
-    requires fact_2 { shingle_size ≤ 64 }
+    requires block_small { block ≤ 1024 }
+    requires shingle_most { shingle_size ≤ 64 }
     ensures { result ≡ pos block -ℤ pos shingle_size +ℤ pos 1 }
 {
     (block as i32) - (shingle_size as i32) + 1
@@ -191,22 +156,18 @@ enum Way {
 }
 
 // Every exit up to the noise pass, `answer` being what the entry checks say.
+#[tactic(auto, unfolding(crate::specs::Steps::way, crate::specs::Steps::accepted_way, crate::specs::Judging::recent, crate::specs::Judging::gap))]
 fn find_way(
-    answer: Answer,
+    answer: Result<(), Refusal>,
     t: BasicThresholder,
     r: Reading,
     l: LastDescriptor,
-    point: &[f32],
-    scale: &[f32],
-    shift: &[f32],
-    difference_deviations: &[f32],
-    last_expected: &[f32],
-    last_anomalous: &[f32],
+    b: Lent,
 ) -> Way
-    requires { Steps.Accepting r l (Steps.passing point.now scale.now shift.now difference_deviations.now last_expected.now last_anomalous.now) answer }
-    ensures { result ≡ Steps.way r l (Steps.passing point.now scale.now shift.now difference_deviations.now last_expected.now last_anomalous.now) t answer }
+    requires { Steps.Accepting r l (lists_of b) answer }
+    ensures { result ≡ Steps.way r l (lists_of b.entry) t answer }
 {
-    if let Answer::Refused(why) = answer {
+    if let Err(why) = answer {
         return Way::Refused(why);
     }
     if scoring::is_skipped(r.score) {
@@ -219,18 +180,7 @@ fn find_way(
     if scoring::corrected_quiet(t, r, l) {
         return Way::Corrected(opened.threshold, CorrectionMode::ANOMALY_IN_SHINGLE);
     }
-    let working = opened.grade
-        * noise_pass(
-            r,
-            l,
-            scoring::gap(r, l),
-            point,
-            scale,
-            shift,
-            difference_deviations,
-            last_expected,
-            last_anomalous,
-        );
+    let working = opened.grade * noise_pass(r, l, b);
     if working == 0.0 {
         return Way::Corrected(opened.threshold, CorrectionMode::NOISE);
     }
@@ -238,7 +188,8 @@ fn find_way(
 }
 
 // An outcome short of the candidate branch.
-fn without_row(outcome: Outcome) -> Decision
+#[tactic(auto, unfolding(crate::specs::Steps::without_row))]
+fn without_row(outcome: Result<Verdict, Refusal>) -> Decision
     ensures { result ≡ Steps.without_row outcome }
 {
     Decision {
@@ -249,9 +200,10 @@ fn without_row(outcome: Outcome) -> Decision
 }
 
 // The newest row of the point with another row in its place, up to `end`.
+#[tactic(auto, using(corrector::proofs::Rows::row_at_is))]
 fn newest_with(row: [f32; 16], end: usize, base: usize, point: &[f32]) -> [f32; 16]
-    requires fact_1 { base ≤ 16 }
-    requires fact_2 { base ≤ length point.now }
+    requires base_most { base ≤ 16 }
+    requires inside { base ≤ length point.now }
     ensures { result ≡ cond (eqb end (length point.now)) row (padded zero32 16 (take base (drop (length point.now - base) point.now))) }
 {
     if end == point.len() {
@@ -269,8 +221,8 @@ fn within_expected(
     point: &[f32],
     row: [f32; 16],
 ) -> bool
-    requires fact_1 { base ≤ 16 }
-    requires fact_2 { start + base ≤ length point.now }
+    requires base_most { base ≤ 16 }
+    requires inside { start + base ≤ length point.now }
     ensures { result ≡ Box.within_unertainty_box (take base edges) 0 scale.now (take base (drop start point.now)) (take base row) }
 {
     let end = start + base;
@@ -285,6 +237,7 @@ fn within_expected(
 }
 
 // Whether the candidate branch is data drift.
+#[tactic(auto, using(crate::proofs::Work::tail_is), unfolding(crate::specs::Steps::drift_by))]
 fn is_drift(
     k: Standing,
     r: Reading,
@@ -314,32 +267,25 @@ fn is_drift(
     )
 }
 
-// The exits that look at the expected point: forecast, data drift, or raised, which alone writes the buffers.
+// The exits that look at the expected point: forecast, data drift, or raised, which alone writes the buffers. The three that are written are parameters here and in
+// what calls this: of a struct of `&mut` slices a contract names what is written by its place alone.
 fn expected_exits(
     k: Standing,
     r: Reading,
     l: LastDescriptor,
     block: Place,
     working: Graded,
-    point: &[f32],
-    scale: &[f32],
-    difference_deviations: &[f32],
-    high: &[f64],
-    low: &[f64],
-    median: &[f32],
+    b: Lent,
     expected: &mut [f32],
     out_high: &mut [f64],
     out_low: &mut [f64],
 ) -> Decision
-    requires fact_1 { Steps.Branching r l (Steps.branch point.now scale.now difference_deviations.now high.now low.now median.now) }
-    requires fact_2 { Steps.Writing (Steps.branch point.now scale.now difference_deviations.now high.now low.now median.now)
-        (length expected.old) (length out_high.old) (length out_low.old) }
-    requires fact_3 { block.index ≡ Judging.block r l (Steps.branch point.now scale.now difference_deviations.now high.now low.now median.now) }
-    requires fact_4 { block.start ≡ Judging.start r l (Steps.branch point.now scale.now difference_deviations.now high.now low.now median.now) }
-    requires fact_5 { length block.edges ≡ 16 }
-    ensures { Decided.Decided r l (Steps.branch point.now scale.now difference_deviations.now
-        high.now low.now median.now) (Steps.expected_outcome k r l (Steps.branch point.now
-        scale.now difference_deviations.now high.now low.now median.now)
+    requires branching { Steps.Branching r l (lists_of b) }
+    requires writing { Steps.Writing (lists_of b) (length expected.old) (length out_high.old) (length out_low.old) }
+    requires index { block.index ≡ Judging.block r l (lists_of b) }
+    requires start { block.start ≡ Judging.start r l (lists_of b) }
+    requires edges { length block.edges ≡ 16 }
+    ensures { Decided.Decided r l (lists_of b.entry) (Steps.expected_outcome k r l (lists_of b.entry)
         (take r.base_dimension block.edges) working.threshold working.grade) result expected.old out_high.old out_low.old
         expected.new out_high.new out_low.new }
 {
@@ -347,32 +293,31 @@ fn expected_exits(
     let start = block.start;
     let edges = block.edges;
     let threshold = working.threshold;
-    let row = corrector::expected_row(high, low, start, base, point, median);
-    if within_expected(edges, start, base, scale, point, row) {
-        return without_row(Outcome::Accepted(Verdict::Corrected(
-            threshold,
-            CorrectionMode::FORECAST,
-        )));
+    let row = corrector::expected_row(b.high, b.low, start, base, b.point, b.median);
+    if within_expected(edges, start, base, b.scale, b.point, row) {
+        return without_row(Ok(Verdict::Corrected(threshold, CorrectionMode::FORECAST)));
     }
-    let newest_expected = newest_with(row, start + base, base, point);
+    let newest_expected = newest_with(row, start + base, base, b.point);
     if is_drift(
         k,
         r,
         l,
         threshold,
-        point,
+        b.point,
         newest_expected,
-        difference_deviations,
+        b.difference_deviations,
     ) {
         return Decision {
-            outcome: Outcome::Accepted(Verdict::Corrected(threshold, CorrectionMode::DATA_DRIFT)),
+            outcome: Ok(Verdict::Corrected(threshold, CorrectionMode::DATA_DRIFT)),
             relative_index: 0,
             newest_expected,
         };
     }
-    scoring::write_raised(r, start, point, row, high, low, expected, out_high, out_low);
+    scoring::write_raised(
+        r, start, b.point, row, b.high, b.low, expected, out_high, out_low,
+    );
     Decision {
-        outcome: Outcome::Accepted(Verdict::Raised(threshold, working.grade)),
+        outcome: Ok(Verdict::Raised(threshold, working.grade)),
         relative_index: relative_index(block.index, r.shingle_size),
         newest_expected,
     }
@@ -384,75 +329,40 @@ fn past_noise(
     r: Reading,
     l: LastDescriptor,
     working: Graded,
-    point: &[f32],
-    scale: &[f32],
-    shift: &[f32],
-    difference_deviations: &[f32],
-    high: &[f64],
-    low: &[f64],
-    median: &[f32],
-    ideal_high: &[f64],
-    ideal_low: &[f64],
-    neighbours: &[f32],
+    b: Lent,
     expected: &mut [f32],
     out_high: &mut [f64],
     out_low: &mut [f64],
 ) -> Decision
-    requires fact_1 { Steps.Branching r l (Steps.late point.now scale.now shift.now difference_deviations.now high.now low.now median.now
-        ideal_high.now ideal_low.now neighbours.now) }
-    requires fact_2 { Steps.Writing (Steps.late point.now scale.now shift.now difference_deviations.now high.now low.now median.now
-        ideal_high.now ideal_low.now neighbours.now) (length expected.old) (length out_high.old) (length out_low.old) }
-    ensures { Decided.Decided r l (Steps.late point.now scale.now shift.now
-        difference_deviations.now high.now low.now median.now ideal_high.now
-        ideal_low.now neighbours.now) (Steps.late_outcome k r l (Steps.late point.now scale.now
-        shift.now difference_deviations.now high.now low.now median.now
-        ideal_high.now ideal_low.now neighbours.now) working.threshold working.grade) result expected.old
-        out_high.old out_low.old expected.new out_high.new out_low.new }
+    requires branching { Steps.Branching r l (lists_of b) }
+    requires writing { Steps.Writing (lists_of b) (length expected.old) (length out_high.old) (length out_low.old) }
+    ensures { Decided.Decided r l (lists_of b.entry) (Steps.late_outcome k r l (lists_of b.entry) working.threshold working.grade)
+        result expected.old out_high.old out_low.old expected.new out_high.new out_low.new }
 {
     let base = r.base_dimension;
     let threshold = working.threshold;
-    let index = scoring::anomaly_block(r, l, high, low);
+    let index = scoring::anomaly_block(r, l, b.high, b.low);
     let start = block_start(index, base);
-    let edges = box_of(r, start, point, scale, shift, difference_deviations);
+    let edges = box_of(r, start, b);
     if scoring::auto_explained(
         k.auto_adjust,
         &edges[..base],
-        point,
+        b.point,
         start,
-        scale,
-        neighbours,
+        b.scale,
+        b.neighbours,
     ) {
-        return without_row(Outcome::Accepted(Verdict::Corrected(
-            threshold,
-            CorrectionMode::CONDITIONAL_FORECAST,
-        )));
+        return without_row(Ok(Verdict::Corrected(threshold, CorrectionMode::CONDITIONAL_FORECAST)));
     }
-    if scoring::explained_by_last(r, l, high, low, ideal_high, ideal_low, threshold) {
-        return without_row(Outcome::Accepted(Verdict::Corrected(
-            threshold,
-            CorrectionMode::ANOMALY_IN_SHINGLE,
-        )));
+    if scoring::explained_by_last(r, l, b.high, b.low, b.ideal_high, b.ideal_low, threshold) {
+        return without_row(Ok(Verdict::Corrected(threshold, CorrectionMode::ANOMALY_IN_SHINGLE)));
     }
-    expected_exits(
-        k,
-        r,
-        l,
-        Place {
-            index,
-            start,
-            edges,
-        },
-        working,
-        point,
-        scale,
-        difference_deviations,
-        high,
-        low,
-        median,
-        expected,
-        out_high,
-        out_low,
-    )
+    let block = Place {
+        index,
+        start,
+        edges,
+    };
+    expected_exits(k, r, l, block, working, b, expected, out_high, out_low)
 }
 
 // Decides on a reading: document 01's entry checks (6 by `counts_ok`, as the caller has it), then the exits of the Rust's `detect_and_modify`. The expected point and the normalised
@@ -462,90 +372,35 @@ pub fn judge(
     k: Standing,
     r: Reading,
     l: LastDescriptor,
-    point: &[f32],
-    scale: &[f32],
-    shift: &[f32],
-    difference_deviations: &[f32],
-    last_expected: &[f32],
-    last_anomalous: &[f32],
-    high: &[f64],
-    low: &[f64],
-    median: &[f32],
-    ideal_high: &[f64],
-    ideal_low: &[f64],
-    neighbours: &[f32],
+    b: Lent,
     expected: &mut [f32],
     out_high: &mut [f64],
     out_low: &mut [f64],
 ) -> Decision
-    ensures { Decided.Decided r l (lent point.now scale.now shift.now difference_deviations.now
-        last_expected.now last_anomalous.now high.now low.now median.now
-        ideal_high.now ideal_low.now neighbours.now) (Decided.decision r l (lent point.now
-        scale.now shift.now difference_deviations.now last_expected.now
-        last_anomalous.now high.now low.now median.now ideal_high.now
-        ideal_low.now neighbours.now) k (length expected.old) (length out_high.old)
-        (length out_low.old)) result expected.old out_high.old out_low.old expected.new
-        out_high.new out_low.new }
+    ensures { Decided.Decided r l (lists_of b.entry) (Decided.decision r l (lists_of b.entry) k
+        (length expected.old) (length out_high.old) (length out_low.old)) result expected.old out_high.old out_low.old
+        expected.new out_high.new out_low.new }
 {
     let answer = descriptor::answer(
         r,
         l,
-        point,
-        scale,
-        shift,
-        difference_deviations,
-        last_expected,
-        last_anomalous,
-        high,
-        low,
-        median,
-        ideal_high,
-        ideal_low,
-        neighbours,
+        b,
         expected.len(),
         out_high.len(),
         out_low.len(),
         k.base_dimension,
         k.counts_ok,
     );
-    let way = find_way(
-        answer,
-        k.basic_thresholder,
-        r,
-        l,
-        point,
-        scale,
-        shift,
-        difference_deviations,
-        last_expected,
-        last_anomalous,
-    );
+    let way = find_way(answer, k.basic_thresholder, r, l, b);
     match way {
-        Way::Refused(why) => without_row(Outcome::Refused(why)),
-        Way::Skipped => without_row(Outcome::Accepted(Verdict::Skipped)),
-        Way::Quiet(threshold) => without_row(Outcome::Accepted(Verdict::Quiet(threshold))),
-        Way::Corrected(threshold, mode) => {
-            without_row(Outcome::Accepted(Verdict::Corrected(threshold, mode)))
+        Way::Refused(why) => without_row(Err(why)),
+        Way::Skipped => without_row(Ok(Verdict::Skipped)),
+        Way::Quiet(threshold) => without_row(Ok(Verdict::Quiet(threshold))),
+        Way::Corrected(threshold, mode) => { without_row(Ok(Verdict::Corrected(threshold, mode))) }
+        Way::Past(threshold, grade) => {
+            let working = Graded { threshold, grade };
+            past_noise(k, r, l, working, b, expected, out_high, out_low)
         }
-        Way::Past(threshold, grade) => past_noise(
-            k,
-            r,
-            l,
-            Graded { threshold, grade },
-            point,
-            scale,
-            shift,
-            difference_deviations,
-            high,
-            low,
-            median,
-            ideal_high,
-            ideal_low,
-            neighbours,
-            expected,
-            out_high,
-            out_low,
-        ),
     }
 }
 
@@ -553,13 +408,5 @@ pub fn judge(
 pub fn is_drift_mode(mode: CorrectionMode) -> bool
     ensures { result ≡ Judging.is_drift_mode mode }
 {
-    match mode {
-        CorrectionMode::NONE => false,
-        CorrectionMode::NOISE => false,
-        CorrectionMode::MULTI_MODE => false,
-        CorrectionMode::ANOMALY_IN_SHINGLE => false,
-        CorrectionMode::CONDITIONAL_FORECAST => false,
-        CorrectionMode::FORECAST => false,
-        CorrectionMode::DATA_DRIFT => true,
-    }
+    mode == CorrectionMode::DATA_DRIFT
 }

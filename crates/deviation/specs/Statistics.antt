@@ -1,19 +1,15 @@
 -- deviation.rs: discounted statistics of a run of scores. One definition for each function, in the Rust's order. Operators with ₆₄ are those of f64, every step
 -- rounded; `sqrt` is the correctly rounded root.
-use Rattle.std.specs.Prelude.{◌≡◌, Bool, false, cond, ◌&&◌, ℤ, pos, negsuc, ◌+ℤ◌, leb, Float}
+use Rattle.std.specs.Prelude.{◌≡◌, Bool, false, cond, ◌&&◌, ℤ, pos, negsuc, ◌+ℤ◌, leb, Float, Result, Option, Ok, Err, Some, None}
 use Rattle.std.specs.Float.Ieee.{of_int}
 use Rattle.std.specs.Float.{binary64}
 use Rattle.ieee.specs.Round.{sqrt}
 use Rattle.ieee.specs.F64.{◌+₆₄◌, ◌-₆₄◌, ◌*₆₄◌, ◌/₆₄◌, ◌<₆₄◌, ◌<=₆₄◌, ◌>₆₄◌, ◌>=₆₄◌, ◌==₆₄◌}
 use Rattle.types.specs.declared.Refusal.TheVariants.{Discount, Count}
-use Rattle.types.specs.declared.Answer.TheVariants as Answers
 use Rattle.deviation.specs.Const.{zero64, one64, count_limit}
 use Rattle.deviation.specs.declared.Deviation.{Deviation}
-use Rattle.deviation.specs.declared.Measured.{Measured}
-use Rattle.deviation.specs.declared.Measured.TheVariants.{Empty, Number}
-use Rattle.deviation.specs.declared.Made.{Made}
-use Rattle.deviation.specs.declared.Made.TheVariants.{Ready, Refused}
-use Rattle.deviation.specs.declared.Updated.{Updated}
+use Rattle.types.specs.declared.Updated.{Updated}
+use Rattle.types.specs.declared.Refusal.{Refusal}
 
 -- The record of five numbers, `create`'s arguments in the Rust's order.
 abbrev pub create : Float → Float → Float → Float → ℤ → Deviation
@@ -28,8 +24,8 @@ abbrev pub is_discount : Float → Bool
 is_discount discount = discount >=₆₄ zero64 && discount <₆₄ one64
 
 -- Refusal 1 for any other discount.
-unfoldable pub new : Float → Made
-new discount = cond (is_discount discount) (Ready (fresh discount)) (Refused Discount)
+unfoldable pub new : Float → Result Deviation Refusal
+new discount = cond (is_discount discount) (Ok (fresh discount)) (Err Discount)
 
 -- Every sum and the count go; the discount stays.
 unfoldable pub reset : Deviation → Deviation
@@ -74,15 +70,15 @@ unfoldable pub one_more : ℤ → ℤ
 one_more n = cond (countable n) (n +ℤ pos 1) n
 
 -- Refusal 6 hands the record back as it came.
-unfoldable pub update : Deviation → Float → Updated
+unfoldable pub update : Deviation → Float → Updated Deviation
 update d score =
     cond (countable d.count)
-    (record { answer = Answers.Done; deviation = next d score })
-    (record { answer = Answers.Refused Count; deviation = d })
+    (record { answer = Ok tt; state = next d score })
+    (record { answer = Err Count; state = d })
 
 -- The record that `update` hands back.
 abbrev pub counted : Deviation → Float → Deviation
-counted d score = (update d score).deviation
+counted d score = (update d score).state
 
 -- The root of a positive number; 0 of any other number and of NaN.
 unfoldable pub positive_root : Float → Float
@@ -96,19 +92,19 @@ deviation d =
 
 -- Document 02, A2: what a statistic says of its scores. It is empty, with no number, exactly where its weight is at or below 0, which NaN is not; otherwise the
 -- number is the Rust's.
-abbrev pub measured : Deviation → Float → Measured
-measured d x = cond (is_empty d) Empty (Number x)
+abbrev pub measured : Deviation → Float → Option Float
+measured d x = cond (is_empty d) None (Some x)
 
-unfoldable pub measured_mean : Deviation → Measured
+unfoldable pub measured_mean : Deviation → Option Float
 measured_mean d = measured d (mean d)
 
-unfoldable pub measured_deviation : Deviation → Measured
+unfoldable pub measured_deviation : Deviation → Option Float
 measured_deviation d = measured d (deviation d)
 
 -- What the chain takes of it.
-unfoldable pub or_zero : Measured → Float
-or_zero Empty = zero64
-or_zero (Number x) = x
+unfoldable pub or_zero : Option Float → Float
+or_zero None = zero64
+or_zero (Some x) = x
 
 -- Number-or-0 of both answers is what they were, and what the Rust's are.
 abbrev pub OrZeroAsBefore : Type 0

@@ -7,7 +7,7 @@ ghost use Rattle.std.specs.Float.{binary64};
 ghost use Rattle.deviation.specs.Statistics as Statistics;
 ghost use Rattle.deviation.specs.Const.{zero64};
 
-use types::{Answer, Refusal};
+use types::{Refusal, Updated};
 
 // Document 01's record of five numbers.
 #[derive(Clone, Copy)]
@@ -17,25 +17,6 @@ pub struct Deviation {
     pub sum_squared: f64,
     pub sum: f64,
     pub count: i32,
-}
-
-#[derive(Clone, Copy)]
-pub enum Made {
-    Ready(Deviation),
-    Refused(Refusal),
-}
-
-#[derive(Clone, Copy)]
-pub struct Updated {
-    pub answer: Answer,
-    pub deviation: Deviation,
-}
-
-// What a statistic says of its scores. An empty one, its weight at or below 0, has no number.
-#[derive(Clone, Copy)]
-pub enum Measured {
-    Empty,
-    Number(f64),
 }
 
 // The largest count that an update takes.
@@ -94,26 +75,21 @@ fn positive_root(x: f64) -> f64
     if x > 0.0 { ieee::sqrt(x) } else { 0.0 }
 }
 
-impl Measured {
-    // What the chain takes: 0 where there is no number.
-    pub fn or_zero(self) -> f64
-        ensures { result ≡ Statistics.or_zero self }
-    {
-        match self {
-            Measured::Empty => 0.0,
-            Measured::Number(x) => x,
-        }
-    }
+// What the chain takes of what a statistic says: 0 where there is no number.
+pub fn or_zero(measured: Option<f64>) -> f64
+    ensures { result ≡ Statistics.or_zero measured }
+{
+    measured.unwrap_or(0.0)
 }
 
 impl Deviation {
-    pub fn new(discount: f64) -> Made
+    pub fn new(discount: f64) -> Result<Deviation, Refusal>
         ensures { result ≡ Statistics.new discount }
     {
         if (discount >= 0.0) & (discount < 1.0) {
-            return Made::Ready(Deviation::create(discount, 0.0, 0.0, 0.0, 0));
+            return Ok(Deviation::create(discount, 0.0, 0.0, 0.0, 0));
         }
-        Made::Refused(Refusal::Discount)
+        Err(Refusal::Discount)
     }
 
     pub fn default() -> Deviation
@@ -140,20 +116,21 @@ impl Deviation {
         Deviation::create(self.discount, 0.0, 0.0, 0.0, 0)
     }
 
-    pub fn mean(self) -> Measured
+    // An empty statistic, its weight at or below 0, has no mean and no deviation.
+    pub fn mean(self) -> Option<f64>
         ensures { result ≡ Statistics.measured_mean self }
     {
         if self.is_empty() {
-            return Measured::Empty;
+            return None;
         }
-        Measured::Number(self.sum / self.weight)
+        Some(self.sum / self.weight)
     }
 
     // The Rust's `mean`, which the chain takes.
     pub fn mean_or_zero(self) -> f64
         ensures { result ≡ Statistics.mean self }
     {
-        self.mean().or_zero()
+        or_zero(self.mean())
     }
 
     fn next(self, score: f64) -> Deviation
@@ -171,18 +148,18 @@ impl Deviation {
     }
 
     // Refusal 6 hands the record back as it came.
-    pub fn update(self, score: f64) -> Updated
+    pub fn update(self, score: f64) -> Updated<Deviation>
         ensures { result ≡ Statistics.update self score }
     {
         if countable(self.count) {
             return Updated {
-                answer: Answer::Done,
-                deviation: self.next(score),
+                answer: Ok(()),
+                state: self.next(score),
             };
         }
         Updated {
-            answer: Answer::Refused(Refusal::Count),
-            deviation: self,
+            answer: Err(Refusal::Count),
+            state: self,
         }
     }
 
@@ -191,25 +168,21 @@ impl Deviation {
         ensures { result ≡ Statistics.counted self score }
     {
         let after = self.update(score);
-        after.deviation
+        after.state
     }
 
-    pub fn deviation(self) -> Measured
+    pub fn deviation(self) -> Option<f64>
         ensures { result ≡ Statistics.measured_deviation self }
     {
-        match self.mean() {
-            Measured::Empty => Measured::Empty,
-            Measured::Number(temp) => {
-                Measured::Number(positive_root(self.sum_squared / self.weight - temp * temp))
-            }
-        }
+        let temp = self.mean()?;
+        Some(positive_root(self.sum_squared / self.weight - temp * temp))
     }
 
     // The Rust's `deviation`, which the chain takes.
     pub fn deviation_or_zero(self) -> f64
         ensures { result ≡ Statistics.deviation self }
     {
-        self.deviation().or_zero()
+        or_zero(self.deviation())
     }
 
     pub fn is_empty(self) -> bool

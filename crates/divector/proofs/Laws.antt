@@ -1,17 +1,15 @@
 -- What callers use of the definitions. Assumes nothing.
-use Rattle.std.proofs.Common.{◌≡◌, ℕ, zero, suc, ◌+◌, ◌-◌, ◌/◌, ◌%◌, ◌<◌, ◌≤◌, Bool, true, false, cond, not, ◌&&◌, ◌||◌, eqb, List, [], ◌∷◌, length, replicate, sym, refl, ap, ◌∙◌, ap₂, add-suc, pos_of_ne-zero, arith, eq-eqb, ne_eqb, eqb-true}
+use Rattle.std.proofs.Common.{◌≡◌, ℕ, zero, suc, ◌+◌, ◌-◌, ◌/◌, ◌%◌, ◌<◌, ◌≤◌, Bool, true, false, cond, not, ◌&&◌, ◌||◌, eqb, List, [], ◌∷◌, length, replicate, sym, refl, ap, ◌∙◌, ap₂, add-suc, pos_of_ne-zero, arith, eq-eqb, ne_eqb, eqb-true, Result, Ok, Err}
 use lib.ListN.{length-map, length-replicate}
 use lib.Ieee as Ieee
 use lib.Ieee.{Float, binary64}
 use borrow.Author.Tests.{eqb-false}
 use Rattle.types.specs.declared.Refusal.TheVariants.{Length, Blocks}
-use Rattle.types.specs.declared.Answer.TheVariants.{Done}
-use Rattle.divector.specs.declared.Block.{Block}
-use Rattle.divector.specs.declared.Block.TheVariants.{At}
 use Rattle.ieee.specs.F64.{zero64}
 use Rattle.divector.proofs.Blocks.{first_within}
-use Rattle.divector.specs.DiVector.{after, changed, sum_from, total_of, scaled, zipped, added, added_scaled, one_length, share, normalized}
+use Rattle.divector.specs.DiVector.{after, changed, sum_from, total_of, scaled, zipped, one_length, share, normalized}
 use Rattle.divector.specs.DiVector.{block_sum, best_from, winner, first_block, bad_blocks, max_gap_contribution}
+use Rattle.types.specs.declared.Refusal.{Refusal}
 
 -- Lengths stay.
 pub scaled_length : (factor : Float) (xs : List Float) → length (scaled factor xs) ≡ length xs
@@ -23,14 +21,6 @@ unfolding zipped
 zipped_length f [] ys = refl
 zipped_length f (x ∷ xs) [] = refl
 zipped_length f (x ∷ xs) (y ∷ ys) = ap suc (zipped_length f xs ys)
-
-pub added_length : (xs ys : List Float) → length (added xs ys) ≡ length xs
-unfolding added
-added_length xs ys = zipped_length _ xs ys
-
-pub added_scaled_length : (factor : Float) (xs ys : List Float) → length (added_scaled factor xs ys) ≡ length xs
-unfolding added_scaled
-added_scaled_length factor xs ys = zipped_length _ xs ys
 
 -- What `one_length` says.
 pub record OneLength (a b c d : ℕ) : Type 0 where
@@ -53,8 +43,8 @@ unfolding one_length
 one_length_true a b c d l = simp (eq-eqb a b (sym l.second), eq-eqb a c (sym l.third), eq-eqb a d (sym l.fourth))
 
 -- A pair that a call wrote.
-pub done : {high low hs ls : List Float} → high ≡ hs → low ≡ ls → after Done high low ≡ after Done hs ls
-done p q = ap₂ (after Done) p q
+pub done : {high low hs ls : List Float} → high ≡ hs → low ≡ ls → after (Ok tt) high low ≡ after (Ok tt) hs ls
+done p q = ap₂ (after (Ok tt)) p q
 
 -- Each part of what a call leaves.
 module _ (fits : Bool) (hs ls hs' ls' : List Float) where
@@ -142,17 +132,17 @@ pub record Accepted (hs ls : List Float) (base gap : ℕ) : Type 0 where
 
 -- It is accepted then, and only then.
 module _ (hs ls : List Float) (base gap : ℕ) where
-  pub answered : Accepted hs ls base gap → max_gap_contribution hs ls base gap ≡ At (winner hs ls base (first_block (length hs) base gap) (length hs / base))
+  pub answered : Accepted hs ls base gap → max_gap_contribution hs ls base gap ≡ Ok (winner hs ls base (first_block (length hs) base gap) (length hs / base))
   unfolding max_gap_contribution bad_blocks
   answered a =
       simp (eq-eqb _ _ a.alike, ne_eqb gap 0 (λ e. omega arith), ne_eqb base 0 (λ e. omega arith), ne_eqb (length hs) 0 (λ e. omega arith), eq-eqb _ _ a.whole)
 
-  pub accepted : {k : ℕ} → max_gap_contribution hs ls base gap ≡ At k → Accepted hs ls base gap
+  pub accepted : {k : ℕ} → max_gap_contribution hs ls base gap ≡ Ok k → Accepted hs ls base gap
   unfolding max_gap_contribution bad_blocks
   accepted {k} e = by_tests _ _ _ _ _ _ refl refl refl refl refl e
     where
-      by_tests : (b : Block) (t₁ t₂ t₃ t₄ t₅ : Bool) → eqb (length hs) (length ls) ≡ t₁ → eqb gap 0 ≡ t₂ → eqb base 0 ≡ t₃ → eqb (length hs) 0 ≡ t₄ → eqb (length hs % base) 0 ≡ t₅
-          → cond (not t₁) (Block.Refused Length) (cond (t₂ || (t₃ || (t₄ || not t₅))) (Block.Refused Blocks) b) ≡ At k → Accepted hs ls base gap
+      by_tests : (b : Result ℕ Refusal) (t₁ t₂ t₃ t₄ t₅ : Bool) → eqb (length hs) (length ls) ≡ t₁ → eqb gap 0 ≡ t₂ → eqb base 0 ≡ t₃ → eqb (length hs) 0 ≡ t₄ → eqb (length hs % base) 0 ≡ t₅
+          → cond (not t₁) (Err Length) (cond (t₂ || (t₃ || (t₄ || not t₅))) (Err Blocks) b) ≡ Ok k → Accepted hs ls base gap
       by_tests b true false false false true e₁ e₂ e₃ e₄ e₅ e = record {
         alike = eqb-true _ _ e₁;
         gapped = pos_of_ne-zero (eqb-false gap 0 e₂);
@@ -167,7 +157,7 @@ module _ (hs ls : List Float) (base gap : ℕ) where
       by_tests b true false false false false e₁ e₂ e₃ e₄ e₅ e = absurd (let z : ◌≡◌ {A = ℕ} 0 1 = cc in omega arith)
 
   -- An accepted search answers one of the last gap blocks.
-  pub chosen : {k : ℕ} → max_gap_contribution hs ls base gap ≡ At k → (length hs / base - gap ≤ k) × (k < length hs / base)
+  pub chosen : {k : ℕ} → max_gap_contribution hs ls base gap ≡ Ok k → (length hs / base - gap ≤ k) × (k < length hs / base)
   chosen {k} e =
       let a = accepted e in
       let f = first_within (length hs) base a.whole gap a.gapped a.based a.long in

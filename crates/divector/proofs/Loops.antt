@@ -1,10 +1,9 @@
--- The loops of this crate, once: one that adds up a list, and one that writes a list over a slice, an element a turn. Assumes nothing.
-use Rattle.std.proofs.Common.{◌≡◌, ℕ, zero, suc, ◌+◌, ◌<◌, ◌≤◌, List, [], ◌∷◌, ◌++◌, map, length, get_or, take, drop, set, replicate, sym, refl, ap, ◌∙◌, ap₂, append-nil, le_of_suc-le-suc, not-suc-le-zero, add-one, arith, length-set, drop_of_length-le, length-take-le, take_all, drop-cons, take-suc}
-use lib.ListN.{get_or-replicate}
+-- Two loops: one that adds up a list, and one that writes a list over a slice, an element a turn. Assumes nothing.
+use Rattle.std.proofs.Common.{◌≡◌, ℕ, zero, suc, ◌+◌, ◌<◌, ◌≤◌, List, [], ◌∷◌, ◌++◌, length, get_or, take, drop, set, sym, refl, ap, ◌∙◌, ap₂, append-nil, le_of_suc-le-suc, not-suc-le-zero, add-one, arith, length-set, drop_of_length-le, length-take-le, take_all, drop-cons, take-suc}
 use lib.Seq.{append_snoc, set_at, get_or_at}
 use lib.Ieee as Ieee
 use lib.Ieee.{Float, binary64}
-use Rattle.divector.specs.DiVector.{sum_from, zipped}
+use Rattle.divector.specs.DiVector.{sum_from, scaled, zipped}
 
 module _ (acc : Float) (xs : List Float) (i : ℕ) where
   pub sum_step : (d : Float) → i < length xs → sum_from acc (drop i xs) ≡ sum_from (Ieee.add binary64 acc (get_or xs i d)) (drop (i + 1) xs)
@@ -48,11 +47,6 @@ module _ {start goal out : List Float} {i : ℕ} (h : Half start goal out i) whe
     so = ap₂ (λ (l : List Float) (x : Float). set l i x) h.so e ∙ set_next d k;
   }
 
-pub map_at : (f : Float → Float) (xs : List Float) (i : ℕ) (d : Float) → i < length xs → get_or (map f xs) i d ≡ f (get_or xs i d)
-map_at f [] i d h = absurd (not-suc-le-zero h)
-map_at f (x ∷ xs) zero d h = refl
-map_at f (x ∷ xs) (suc i) d h = map_at f xs i d (le_of_suc-le-suc h)
-
 pub zip_at : (f : Float → Float → Float) (xs ys : List Float) (i : ℕ) (d : Float) → i < length xs → i < length ys → get_or (zipped f xs ys) i d ≡ f (get_or xs i d) (get_or ys i d)
 unfolding zipped
 zip_at f [] ys i d h k = absurd (not-suc-le-zero h)
@@ -60,22 +54,15 @@ zip_at f (x ∷ xs) [] i d h k = absurd (not-suc-le-zero k)
 zip_at f (x ∷ xs) (y ∷ ys) zero d h k = refl
 zip_at f (x ∷ xs) (y ∷ ys) (suc i) d h k = zip_at f xs ys i d (le_of_suc-le-suc h) (le_of_suc-le-suc k)
 
--- x = f x
-pub map_next : (f : Float → Float) {start out : List Float} {i : ℕ} → Half start (map f start) out i → (d : Float) → i < length start
-    → Half start (map f start) (set out i (f (get_or out i d))) (i + 1)
-map_next f {start} {i = i} h d k = next h d _ k (ap f (read h d k) ∙ sym (map_at f start i d k))
-
--- x = f y
-pub into_next : (f : Float → Float) (ys : List Float) {start out : List Float} {i : ℕ} → Half start (map f ys) out i → (d : Float) → i < length start → i < length ys
-    → Half start (map f ys) (set out i (f (get_or ys i d))) (i + 1)
-into_next f ys {i = i} h d k l = next h d _ k (sym (map_at f ys i d l))
-
--- x = v
-pub fill_next : (v : Float) {start out : List Float} {i : ℕ} → Half start (replicate (length start) v) out i → (d : Float) → i < length start
-    → Half start (replicate (length start) v) (set out i v) (i + 1)
-fill_next v {start} {i = i} h d k = next h d v k (sym (get_or-replicate (length start) i v d k))
-
 -- x = f x y
 pub zip_next : (f : Float → Float → Float) (ys : List Float) {start out : List Float} {i : ℕ} → Half start (zipped f start ys) out i → (d : Float) → i < length start → i < length ys
     → Half start (zipped f start ys) (set out i (f (get_or out i d) (get_or ys i d))) (i + 1)
 zip_next f ys {start} {i = i} h d k l = next h d _ k (ap (λ (x : Float). f x (get_or ys i d)) (read h d k) ∙ sym (zip_at f start ys i d k l))
+
+-- x = y * factor
+pub scaled_over : (factor : Float) (xs ys : List Float) → length xs ≡ length ys → zipped (λ (x y : Float). Ieee.mul binary64 y factor) xs ys ≡ scaled factor ys
+unfolding zipped scaled
+scaled_over factor [] [] e = refl
+scaled_over factor [] (y ∷ ys) e = absurd (omega arith)
+scaled_over factor (x ∷ xs) [] e = absurd (omega arith)
+scaled_over factor (x ∷ xs) (y ∷ ys) e = ap (λ (l : List Float). Ieee.mul binary64 y factor ∷ l) (scaled_over factor xs ys (omega arith))

@@ -1,14 +1,12 @@
 -- divector.rs over the lists of its two vectors, hs (high) and ls (low).
-use Rattle.std.specs.Prelude.{ℕ, zero, suc, ◌+◌, ◌-◌, ◌*◌, ◌/◌, ◌%◌, Bool, cond, not, ◌&&◌, ◌||◌, List, [], ◌∷◌, map, length, get_or, replicate, pos, ◌==◌, nat_lt, slice_index_or, Float}
+use Rattle.std.specs.Prelude.{ℕ, zero, suc, ◌+◌, ◌-◌, ◌*◌, ◌/◌, ◌%◌, Bool, cond, not, ◌&&◌, ◌||◌, List, [], ◌∷◌, map, length, get_or, replicate, pos, ◌==◌, nat_lt, slice_index_or, Float, Result, Ok, Err}
 use Rattle.std.specs.Float.Ieee as Ieee
 use Rattle.std.specs.Float.{nan, binary64}
 use Rattle.types.specs.declared.Refusal.TheVariants.{Length, Blocks}
-use Rattle.types.specs.declared.Answer.{Answer}
-use Rattle.types.specs.declared.Answer.TheVariants.{Done, Refused}
-use Rattle.divector.specs.declared.Number.{Number}
-use Rattle.divector.specs.declared.Block.{Block}
 use Rattle.ieee.specs.F64.{zero64, one64, ◌<=₆₄◌, ◌>₆₄◌, ◌+₆₄◌, ◌*₆₄◌, ◌/₆₄◌}
 use Rattle.divector.specs.Const.{two64}
+use Rattle.types.specs.declared.Refusal.{Refusal}
+use Rattle.types.specs.Refusals.{Answer}
 
 -- acc and the numbers of the list, added in order
 unfoldable pub sum_from : Float → List Float → Float
@@ -24,16 +22,16 @@ abbrev pub alike : List Float → List Float → Bool
 alike hs ls = length hs == length ls
 
 -- refusal 3 where high and low differ in length
-unfoldable pub total : List Float → List Float → Number
-total hs ls = cond (alike hs ls) (Number.Value (total_of hs ls)) (Number.Refused Length)
+unfoldable pub total : List Float → List Float → Result Float Refusal
+total hs ls = cond (alike hs ls) (Ok (total_of hs ls)) (Err Length)
 
 -- high[i] + low[i]
 abbrev pub sum_at : List Float → List Float → ℕ → Float
 sum_at hs ls i = slice_index_or hs i nan +₆₄ get_or ls i nan
 
 -- refusal 3 where high and low differ in length, or there is no index i
-unfoldable pub high_low_sum : List Float → List Float → ℕ → Number
-high_low_sum hs ls i = cond (alike hs ls && nat_lt i (length hs)) (Number.Value (sum_at hs ls i)) (Number.Refused Length)
+unfoldable pub high_low_sum : List Float → List Float → ℕ → Result Float Refusal
+high_low_sum hs ls i = cond (alike hs ls && nat_lt i (length hs)) (Ok (sum_at hs ls i)) (Err Length)
 
 -- What a call answers, and the pair that it leaves.
 pub record After : Type 0 where
@@ -46,7 +44,7 @@ after r high low = record { answer = r; high = high; low = low }
 
 -- A pair hs, ls becomes hs', ls' where the lengths fit; otherwise refusal 3, and the pair as it was.
 abbrev pub changed : Bool → List Float → List Float → List Float → List Float → After
-changed fits hs ls hs' ls' = cond fits (after Done hs' ls') (after (Refused Length) hs ls)
+changed fits hs ls hs' ls' = cond fits (after (Ok tt) hs' ls') (after (Err Length) hs ls)
 
 -- x *= factor for every x
 unfoldable pub scaled : Float → List Float → List Float
@@ -143,13 +141,13 @@ unfoldable pub bad_blocks : ℕ → ℕ → ℕ → Bool
 bad_blocks n base gap = gap == 0 || (base == 0 || (n == 0 || not (n % base == 0)))
 
 -- the best of the last gap blocks; refusal 3 goes before 8
-unfoldable pub max_gap_contribution : List Float → List Float → ℕ → ℕ → Block
+unfoldable pub max_gap_contribution : List Float → List Float → ℕ → ℕ → Result ℕ Refusal
 max_gap_contribution hs ls base gap =
     let n = length hs in
-    cond (not (alike hs ls)) (Block.Refused Length)
-    (cond (bad_blocks n base gap) (Block.Refused Blocks)
-    (Block.At (winner hs ls base (first_block n base gap) (n / base))))
+    cond (not (alike hs ls)) (Err Length)
+    (cond (bad_blocks n base gap) (Err Blocks)
+    (Ok (winner hs ls base (first_block n base gap) (n / base))))
 
 -- the best of all blocks
-unfoldable pub max_contribution : List Float → List Float → ℕ → Block
+unfoldable pub max_contribution : List Float → List Float → ℕ → Result ℕ Refusal
 max_contribution hs ls base = max_gap_contribution hs ls base (length hs)

@@ -1,25 +1,11 @@
 // divector.rs over two lent slices, high and low, in place of the two vectors. The two functions on bounding boxes are the forest's.
 #![tactic(auto)]
 
-ghost use Rattle.std.specs.Prelude.{◌≡◌, ◌+◌, ◌-◌, ◌*◌, ◌<◌, ◌≤◌, length, replicate};
+ghost use Rattle.std.specs.Prelude.{◌≡◌, ◌+◌, ◌-◌, ◌*◌, ◌<◌, ◌≤◌, length, replicate, Float};
 ghost use Rattle.divector.specs.DiVector as DiVector;
 ghost use Rattle.divector.specs.DiVector.{after};
 
-use types::{Answer, Refusal};
-
-// A number, or why there is none.
-#[derive(Clone, Copy)]
-pub enum Number {
-    Value(f64),
-    Refused(Refusal),
-}
-
-// A block's place, or why there is none.
-#[derive(Clone, Copy)]
-pub enum Block {
-    At(usize),
-    Refused(Refusal),
-}
+use types::Refusal;
 
 // The sum of high and the sum of low, each in order from plus zero, added. Both in one loop, so that neither addition waits for the other.
 fn total_of(high: &[f64], low: &[f64]) -> f64
@@ -28,86 +14,36 @@ fn total_of(high: &[f64], low: &[f64]) -> f64
 {
     let mut a = 0.0f64;
     let mut b = 0.0f64;
-    let mut i = 0usize;
-    while i < high.len() {
-        a = a + high[i];
-        b = b + low[i];
-        i += 1;
+    for i in 0..high.len() {
+        a += high[i];
+        b += low[i];
     }
     a + b
 }
 
 // x *= factor
+#[tactic(auto, unfolding(crate::specs::DiVector::scaled))]
 fn scale_one(xs: &mut [f64], factor: f64)
     ensures { xs.new ≡ DiVector.scaled factor xs.old }
 {
-    let mut i = 0usize;
-    while i < xs.len() {
-        xs[i] = xs[i] * factor;
-        i += 1;
+    for x in xs.iter_mut() {
+        *x *= factor;
     }
 }
 
-// x = v
-fn fill_one(xs: &mut [f64], v: f64)
-    ensures { xs.new ≡ replicate (length xs.old) v }
+// x = f(x, y). By index, since nothing is known of what a `zip` with `iter_mut` leaves.
+fn change_each<F: Fn(f64, f64) -> f64>(xs: &mut [f64], ys: &[f64], f: F)
+    requires callable { F.IsAlwaysCallable f }
+    requires alike { length xs.old ≡ length ys.now }
+    ensures { (g : Float → Float → Float) → ((x y r : _) → F.post f x y r → r ≡ g x y) → xs.new ≡ DiVector.zipped g xs.old ys.now }
 {
-    let mut i = 0usize;
-    while i < xs.len() {
-        xs[i] = v;
-        i += 1;
-    }
-}
-
-// x = y
-fn assign_one(xs: &mut [f64], ys: &[f64])
-    requires { length xs.old ≡ length ys.now }
-    ensures { xs.new ≡ ys.now }
-{
-    let mut i = 0usize;
-    while i < ys.len() {
-        xs[i] = ys[i];
-        i += 1;
-    }
-}
-
-// x = y * factor
-fn scale_into(xs: &mut [f64], ys: &[f64], factor: f64)
-    requires { length xs.old ≡ length ys.now }
-    ensures { xs.new ≡ DiVector.scaled factor ys.now }
-{
-    let mut i = 0usize;
-    while i < ys.len() {
-        xs[i] = ys[i] * factor;
-        i += 1;
-    }
-}
-
-// x += y
-fn add_one(xs: &mut [f64], ys: &[f64])
-    requires { length xs.old ≡ length ys.now }
-    ensures { xs.new ≡ DiVector.added xs.old ys.now }
-{
-    let mut i = 0usize;
-    while i < ys.len() {
-        xs[i] = xs[i] + ys[i];
-        i += 1;
-    }
-}
-
-// x += y * factor
-fn add_scaled_one(xs: &mut [f64], ys: &[f64], factor: f64)
-    requires { length xs.old ≡ length ys.now }
-    ensures { xs.new ≡ DiVector.added_scaled factor xs.old ys.now }
-{
-    let mut i = 0usize;
-    while i < ys.len() {
-        xs[i] = xs[i] + ys[i] * factor;
-        i += 1;
+    for i in 0..ys.len() {
+        xs[i] = f(xs[i], ys[i]);
     }
 }
 
 // Are the four lengths one?
+#[tactic(auto, unfolding(crate::specs::DiVector::one_length))]
 fn one_length(a: usize, b: usize, c: usize, d: usize) -> bool
     ensures { result ≡ DiVector.one_length a b c d }
 {
@@ -120,120 +56,140 @@ fn one_length(a: usize, b: usize, c: usize, d: usize) -> bool
     a == d
 }
 
-pub fn total(high: &[f64], low: &[f64]) -> Number
+#[tactic(auto, unfolding(crate::specs::DiVector::total))]
+pub fn total(high: &[f64], low: &[f64]) -> Result<f64, Refusal>
     ensures { result ≡ DiVector.total high.now low.now }
 {
     if high.len() != low.len() {
-        return Number::Refused(Refusal::Length);
+        return Err(Refusal::Length);
     }
-    Number::Value(total_of(high, low))
+    Ok(total_of(high, low))
 }
 
-pub fn high_low_sum(high: &[f64], low: &[f64], index: usize) -> Number
+#[tactic(auto, unfolding(crate::specs::DiVector::high_low_sum))]
+pub fn high_low_sum(high: &[f64], low: &[f64], index: usize) -> Result<f64, Refusal>
     ensures { result ≡ DiVector.high_low_sum high.now low.now index }
 {
     if high.len() != low.len() {
-        return Number::Refused(Refusal::Length);
+        return Err(Refusal::Length);
     }
     if index < high.len() {
-        return Number::Value(high[index] + low[index]);
+        return Ok(high[index] + low[index]);
     }
-    Number::Refused(Refusal::Length)
+    Err(Refusal::Length)
 }
 
-pub fn scale(high: &mut [f64], low: &mut [f64], factor: f64) -> Answer
+#[tactic(auto, unfolding(crate::specs::DiVector::scale))]
+pub fn scale(high: &mut [f64], low: &mut [f64], factor: f64) -> Result<(), Refusal>
     ensures { after result high.new low.new ≡ DiVector.scale high.old low.old factor }
 {
     if high.len() != low.len() {
-        return Answer::Refused(Refusal::Length);
+        return Err(Refusal::Length);
     }
     scale_one(high, factor);
     scale_one(low, factor);
-    Answer::Done
+    Ok(())
 }
 
-pub fn divide(high: &mut [f64], low: &mut [f64], num: usize) -> Answer
+#[tactic(auto, unfolding(crate::specs::DiVector::divide))]
+pub fn divide(high: &mut [f64], low: &mut [f64], num: usize) -> Result<(), Refusal>
     ensures { after result high.new low.new ≡ DiVector.divide high.old low.old num }
 {
     scale(high, low, 1.0 / std::num::nearest_u64_to_f64(num as u64))
 }
 
-pub fn assign(high: &mut [f64], low: &mut [f64], from_high: &[f64], from_low: &[f64]) -> Answer
+#[tactic(auto, using(crate::proofs::Laws::one_length_lem), unfolding(crate::specs::DiVector::assign))]
+pub fn assign(
+    high: &mut [f64],
+    low: &mut [f64],
+    from_high: &[f64],
+    from_low: &[f64],
+) -> Result<(), Refusal>
     ensures { after result high.new low.new ≡ DiVector.assign
         high.old low.old from_high.now from_low.now }
 {
     if one_length(high.len(), low.len(), from_high.len(), from_low.len()) {
-        assign_one(high, from_high);
-        assign_one(low, from_low);
-        return Answer::Done;
+        high.copy_from_slice(from_high);
+        low.copy_from_slice(from_low);
+        return Ok(());
     }
-    Answer::Refused(Refusal::Length)
+    Err(Refusal::Length)
 }
 
-pub fn add_to(high: &[f64], low: &[f64], other_high: &mut [f64], other_low: &mut [f64]) -> Answer
+#[tactic(auto, using(crate::proofs::Laws::one_length_lem), unfolding(crate::specs::DiVector::add_to, crate::specs::DiVector::added))]
+pub fn add_to(
+    high: &[f64],
+    low: &[f64],
+    other_high: &mut [f64],
+    other_low: &mut [f64],
+) -> Result<(), Refusal>
     ensures { after result other_high.new other_low.new ≡ DiVector.add_to
         high.now low.now other_high.old other_low.old }
 {
     if one_length(high.len(), low.len(), other_high.len(), other_low.len()) {
-        add_one(other_high, high);
-        add_one(other_low, low);
-        return Answer::Done;
+        change_each(other_high, high, |x, y| x + y);
+        change_each(other_low, low, |x, y| x + y);
+        return Ok(());
     }
-    Answer::Refused(Refusal::Length)
+    Err(Refusal::Length)
 }
 
+#[tactic(auto, using(crate::proofs::Laws::one_length_lem), unfolding(crate::specs::DiVector::add_to_scaled, crate::specs::DiVector::added_scaled))]
 pub fn add_to_scaled(
     high: &[f64],
     low: &[f64],
     other_high: &mut [f64],
     other_low: &mut [f64],
     factor: f64,
-) -> Answer
+) -> Result<(), Refusal>
     ensures { after result other_high.new other_low.new ≡ DiVector.add_to_scaled
         high.now low.now other_high.old other_low.old factor }
 {
     if one_length(high.len(), low.len(), other_high.len(), other_low.len()) {
-        add_scaled_one(other_high, high, factor);
-        add_scaled_one(other_low, low, factor);
-        return Answer::Done;
+        change_each(other_high, high, |x, y| x + y * factor);
+        change_each(other_low, low, |x, y| x + y * factor);
+        return Ok(());
     }
-    Answer::Refused(Refusal::Length)
+    Err(Refusal::Length)
 }
 
 // What every entry of a pair of length n becomes where the total is not positive.
+#[tactic(auto, unfolding(crate::specs::DiVector::share))]
 fn share(value: f64, n: usize) -> f64
     ensures { result ≡ DiVector.share value n }
 {
     value / (2.0 * std::num::nearest_u64_to_f64(n as u64))
 }
 
-pub fn normalize(high: &mut [f64], low: &mut [f64], value: f64) -> Answer
+#[tactic(auto, unfolding(crate::specs::DiVector::normalize))]
+pub fn normalize(high: &mut [f64], low: &mut [f64], value: f64) -> Result<(), Refusal>
     ensures { after result high.new low.new ≡ DiVector.normalize high.old low.old value }
 {
     if high.len() != low.len() {
-        return Answer::Refused(Refusal::Length);
+        return Err(Refusal::Length);
     }
     let current = total_of(high, low);
     if current <= 0.0 {
         let v = share(value, high.len());
-        fill_one(high, v);
-        fill_one(low, v);
-        return Answer::Done;
+        high.fill(v);
+        low.fill(v);
+        return Ok(());
     }
     let factor = value / current;
     scale_one(high, factor);
     scale_one(low, factor);
-    Answer::Done
+    Ok(())
 }
 
 // What `normalize` would leave of high and low, written elsewhere.
+#[tactic(auto, using(crate::proofs::Laws::one_length_lem), unfolding(crate::specs::DiVector::normalize_into))]
 pub fn normalize_into(
     high: &[f64],
     low: &[f64],
     value: f64,
     out_high: &mut [f64],
     out_low: &mut [f64],
-) -> Answer
+) -> Result<(), Refusal>
     ensures { after result out_high.new out_low.new ≡ DiVector.normalize_into
         high.now low.now value out_high.old out_low.old }
 {
@@ -241,82 +197,87 @@ pub fn normalize_into(
         let current = total_of(high, low);
         if current <= 0.0 {
             let v = share(value, high.len());
-            fill_one(out_high, v);
-            fill_one(out_low, v);
-            return Answer::Done;
+            out_high.fill(v);
+            out_low.fill(v);
+            return Ok(());
         }
         let factor = value / current;
-        scale_into(out_high, high, factor);
-        scale_into(out_low, low, factor);
-        return Answer::Done;
+        change_each(out_high, high, |_, y| y * factor);
+        change_each(out_low, low, |_, y| y * factor);
+        return Ok(());
     }
-    Answer::Refused(Refusal::Length)
+    Err(Refusal::Length)
 }
 
 // The sum of the block at place k.
+#[tactic(auto, unfolding(crate::specs::DiVector::pair_sum, crate::specs::DiVector::block_sum))]
 fn block_sum(high: &[f64], low: &[f64], base: usize, k: usize) -> f64
-    requires fact_1 { length high.now ≡ length low.now }
-    requires fact_2 { k * base + base ≤ length high.now }
+    requires alike { length high.now ≡ length low.now }
+    requires block_in_bounds { k * base + base ≤ length high.now }
     ensures { result ≡ DiVector.block_sum high.now low.now base k }
 {
     let at = k * base;
     let mut val = 0.0;
-    let mut i = 0usize;
-    while i < base {
-        val = val + (high[at + i] + low[at + i]);
-        i += 1;
+    for i in at..at + base {
+        val += high[i] + low[i];
     }
     val
 }
 
 // The winner from the block at start on. Each block is summed once.
+#[tactic(auto, unfolding(crate::specs::DiVector::winner))]
 fn best_from(high: &[f64], low: &[f64], base: usize, start: usize, blocks: usize) -> usize
-    requires fact_1 { length high.now ≡ length low.now }
-    requires fact_2 { start < blocks }
-    requires fact_3 { blocks * base ≤ length high.now }
+    requires alike { length high.now ≡ length low.now }
+    requires some_block { start < blocks }
+    requires blocks_in_bounds { blocks * base ≤ length high.now }
     ensures { result ≡ DiVector.winner high.now low.now base start blocks }
 {
     let mut index = start;
     let mut val = block_sum(high, low, base, start);
-    let mut j = start + 1;
-    while j < blocks {
+    for j in start + 1..blocks {
         let sum = block_sum(high, low, base, j);
         if sum > val {
             val = sum;
             index = j;
         }
-        j += 1;
     }
     index
 }
 
-pub fn max_gap_contribution(high: &[f64], low: &[f64], base: usize, gap: usize) -> Block
+#[tactic(auto, unfolding(crate::specs::DiVector::max_gap_contribution, crate::specs::DiVector::bad_blocks))]
+pub fn max_gap_contribution(
+    high: &[f64],
+    low: &[f64],
+    base: usize,
+    gap: usize,
+) -> Result<usize, Refusal>
     ensures { result ≡ DiVector.max_gap_contribution high.now low.now base gap }
 {
     let n = high.len();
     if n != low.len() {
-        return Block::Refused(Refusal::Length);
+        return Err(Refusal::Length);
     }
     if gap == 0 {
-        return Block::Refused(Refusal::Blocks);
+        return Err(Refusal::Blocks);
     }
     if base == 0 {
-        return Block::Refused(Refusal::Blocks);
+        return Err(Refusal::Blocks);
     }
     if n == 0 {
-        return Block::Refused(Refusal::Blocks);
+        return Err(Refusal::Blocks);
     }
     if n % base != 0 {
-        return Block::Refused(Refusal::Blocks);
+        return Err(Refusal::Blocks);
     }
     let blocks = n / base;
     if gap > blocks {
-        return Block::At(best_from(high, low, base, 0, blocks));
+        return Ok(best_from(high, low, base, 0, blocks));
     }
-    Block::At(best_from(high, low, base, blocks - gap, blocks))
+    Ok(best_from(high, low, base, blocks - gap, blocks))
 }
 
-pub fn max_contribution(high: &[f64], low: &[f64], base: usize) -> Block
+#[tactic(auto, unfolding(crate::specs::DiVector::max_contribution))]
+pub fn max_contribution(high: &[f64], low: &[f64], base: usize) -> Result<usize, Refusal>
     ensures { result ≡ DiVector.max_contribution high.now low.now base }
 {
     max_gap_contribution(high, low, base, high.len())

@@ -3,8 +3,7 @@
 #![tactic(auto)]
 
 use basicthresholder::BasicThresholder;
-use deviation::{Deviation, Measured};
-use divector::Block;
+use deviation::Deviation;
 use std::io;
 use types::TransformMethod;
 
@@ -24,10 +23,10 @@ fn end(rt: &impl Print) -> io::Result<()> {
     rt.print("\n")
 }
 
-fn measured(rt: &impl Print, m: Measured) -> io::Result<()> {
+fn measured(rt: &impl Print, m: Option<f64>) -> io::Result<()> {
     match m {
-        Measured::Empty => rt.print(" empty"),
-        Measured::Number(x) => wide(rt, x),
+        None => rt.print(" empty"),
+        Some(x) => wide(rt, x),
     }
 }
 
@@ -99,8 +98,8 @@ fn thresholds(rt: &impl Print) -> io::Result<()> {
 
 fn block(rt: &impl Print, high: [f64; 4], low: [f64; 4], gap: usize) -> io::Result<()> {
     match divector::max_gap_contribution(&high, &low, 2, gap) {
-        Block::At(k) => whole(rt, k as u64),
-        Block::Refused(_) => rt.print(" refused"),
+        Ok(k) => whole(rt, k as u64),
+        Err(_) => rt.print(" refused"),
     }
 }
 
@@ -116,7 +115,7 @@ fn attributions(rt: &impl Print) -> io::Result<()> {
     rt.print("zeros of length 2 to 4:")?;
     let mut high = [0.0f64; 2];
     let mut low = [0.0f64; 2];
-    divector::normalize(&mut high, &mut low, 4.0);
+    let _ = divector::normalize(&mut high, &mut low, 4.0);
     wide(rt, high[0])?;
     wide(rt, high[1])?;
     wide(rt, low[0])?;
@@ -164,7 +163,7 @@ fn steps(rt: &impl Print) -> io::Result<()> {
 // The number that the newest row of a point so long gets.
 fn sized(rt: &impl Print, shingle_size: usize, base: usize, len: usize) -> io::Result<()> {
     let answer = corrector::newest_row_answer(shingle_size, base, len);
-    whole(rt, answer.number() as u64)?;
+    whole(rt, types::answered(answer) as u64)?;
     end(rt)
 }
 
@@ -178,7 +177,7 @@ fn sizes(rt: &impl Print) -> io::Result<()> {
     rt.print("horizon 1:")?;
     let set = fresh().set_score_differencing(1.0);
     let answer = set.answer;
-    whole(rt, answer.number() as u64)?;
+    whole(rt, types::answered(answer) as u64)?;
     end(rt)
 }
 

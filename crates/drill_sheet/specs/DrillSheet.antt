@@ -1,6 +1,6 @@
 -- Document 01's drill sheet as one list: a row has what the definitions give, and beside it what document 01 says. `Holds sheet` is the statement that every
 -- row is right; its proof is proofs/EveryRow.antt. The quoted lines are document 01's, and a star marks those that it asks to be proved.
-use Rattle.std.specs.Prelude.{◌≡◌, Bool, true, false, List, [], ◌∷◌, map, ℕ, pos, Float}
+use Rattle.std.specs.Prelude.{◌≡◌, Bool, true, false, List, [], ◌∷◌, map, ℕ, pos, Float, Result, Ok}
 use Rattle.std.specs.Float.{nan, binary32, binary64}
 use Rattle.std.specs.Float.Ieee.{round}
 use Rattle.types.specs.Refusals.{answered}
@@ -11,11 +11,10 @@ use Rattle.deviation.specs.Statistics.{fresh, counted, mean, deviation, factor}
 use Rattle.basicthresholder.specs.declared.BasicThresholder.{BasicThresholder}
 use Rattle.basicthresholder.specs.Grades.{graded, threshold_and_grade}
 use Rattle.basicthresholder.specs.Updates.{fresh_thresholder, with_absolute_threshold, with_initial_threshold, set_score_differencing}
-use Rattle.divector.specs.declared.Block.{Block}
-use Rattle.divector.specs.declared.Block.TheVariants.{At}
 use Rattle.divector.specs.DiVector.{max_gap_contribution, normalized}
 use Rattle.uncertainty_box.specs.Box.{path_deviation}
 use Rattle.corrector.specs.Corrector.{apply_basic_corrector, newest_row_answer}
+use Rattle.types.specs.declared.Refusal.{Refusal}
 
 -- A row: what the definitions give, and what document 01 says.
 pub record Row : Type 1 where
@@ -55,7 +54,7 @@ abbrev pub at_one : Float → Bool → BasicThresholder
 at_one discount adjust = with_initial_threshold (with_absolute_threshold (fresh_thresholder discount adjust) (f32 1 1)) (f32 1 1)
 
 -- High 1,2,3,4, low zeros, base 2, at a gap.
-abbrev pub rising : ℕ → Block
+abbrev pub rising : ℕ → Result ℕ Refusal
 rising gap = max_gap_contribution (f64s (1 ∷ 2 ∷ 3 ∷ 4 ∷ [])) (f64s (0 ∷ 0 ∷ 0 ∷ 0 ∷ [])) 2 gap
 
 -- The corrector at a gap: there is a last anomaly, its relative index is 0, and the transform is differenced.
@@ -94,10 +93,10 @@ sheet discount adjust method shingle timed =
     ∷ (threshold_and_grade (fresh_thresholder discount adjust) (f32 14 10) method shingle gives graded (f32 3 2) (f32 0 1))
     ∷ (threshold_and_grade (fresh_thresholder discount adjust) (f32 3 2) method shingle gives graded (f32 3 2) (f32 1 1))
     -- "*High 1,2,3,4, low zeros, base 2: gaps 1, 2, 3 all give block 1. *All ones, gap 2: block 0."
-    ∷ (rising 1 gives At 1)
-    ∷ (rising 2 gives At 1)
-    ∷ (rising 3 gives At 1)
-    ∷ (max_gap_contribution (f64s (1 ∷ 1 ∷ 1 ∷ 1 ∷ [])) (f64s (1 ∷ 1 ∷ 1 ∷ 1 ∷ [])) 2 2 gives At 0)
+    ∷ (rising 1 gives Ok 1)
+    ∷ (rising 2 gives Ok 1)
+    ∷ (rising 3 gives Ok 1)
+    ∷ (max_gap_contribution (f64s (1 ∷ 1 ∷ 1 ∷ 1 ∷ [])) (f64s (1 ∷ 1 ∷ 1 ∷ 1 ∷ [])) 2 2 gives Ok 0)
     -- "*Corrector, base 1, shingle 4, point 1,2,3,4, expected 5,6,7,8, anomalous 5,6,7,18, relative index 0, differenced: gap 1 gives 6,7,8,14;
     -- gap 4 gives 11,2,3,4; gap 5 leaves the point."
     ∷ (corrected 1 timed gives f32s (6 ∷ 7 ∷ 8 ∷ 14 ∷ []))

@@ -41,13 +41,14 @@ fn write_line(out: &mut [u8], at: usize, number: u64, line: Line) -> usize
 // A part of the input, row by row. Most rows are other drawers', so what these do stands apart.
 fn read(run: Run, input: &[u8], out: &mut [u8]) -> Fed
     requires { 84 * length input.now ≤ length out.old }
-    ensures fact_1 { result.run ≡ Feeding.fed run input.now }
-    ensures fact_2 { Steps.Put out.old 0 (Feeding.printed run input.now) result.written out.new }
+    ensures run { result.run ≡ Feeding.fed run input.now }
+    ensures printed { Steps.Put out.old 0 (Feeding.printed run input.now) result.written out.new }
 {
     let mut scan = run.scan;
     let mut course = run.course;
     let mut i = 0usize;
     let mut to = 0usize;
+    // No `for`: the place jumps from row to row.
     while i < input.len() {
         if !export_rows::is_open(course) {
             return Fed {
@@ -88,8 +89,8 @@ fn total(course: Course, out: &mut [u8], at: usize) -> usize
 // The end of the input: a last row without a line end is judged, then the counts.
 fn close(run: Run, out: &mut [u8]) -> Fed
     requires { 168 ≤ length out.old }
-    ensures fact_1 { result.run ≡ Feeding.closed run }
-    ensures fact_2 { Steps.Put out.old 0 (Feeding.closing run) result.written out.new }
+    ensures run { result.run ≡ Feeding.closed run }
+    ensures printed { Steps.Put out.old 0 (Feeding.closing run) result.written out.new }
 {
     let course = run.course;
     let last = csv_rows::finish(run.scan);
@@ -110,6 +111,7 @@ fn close(run: Run, out: &mut [u8]) -> Fed
 }
 
 // A run that has read nothing. `score_rows::header` is what it prints first.
+#[tactic(auto, unfolding(crate::specs::Feeding::begin))]
 pub fn begin() -> Run
     ensures { result ≡ Feeding.begin }
 {
@@ -119,7 +121,7 @@ pub fn begin() -> Run
     }
 }
 
-// Reads the first n bytes of a part of the input, or all where n is more.
+// Reads the first n bytes of a part of the input, or all where n is more. The arrays' types say that what is printed has room; slices would need a `requires`.
 pub fn feed(run: Run, input: &[u8; PART], n: usize, out: &mut [u8; ROOM]) -> Fed
     ensures { Feeding.Prints (Feeding.fed run (take n input.now)) (Feeding.printed run (take n input.now)) out.old result out.new }
 {
@@ -140,6 +142,6 @@ pub fn finish(run: Run, out: &mut [u8; ROOM]) -> Fed
 // However the input is cut, the header and what `feed` and `finish` print are together the output of the whole input, and the run ends as `ending` says of it.
 // Nothing calls it: the check asks for its proof.
 fn whole_run()
-    ensures fact_1 { Feeding.Whole }
-    ensures fact_2 { Feeding.WholeEnding }
+    ensures whole { Feeding.Whole }
+    ensures ending { Feeding.WholeEnding }
 {}

@@ -52,6 +52,7 @@ pub struct Taken {
 }
 
 // A run that has read nothing.
+#[tactic(auto, unfolding(crate::specs::Taking::begin, crate::specs::Taking::unwatched))]
 pub fn begin() -> Course
     ensures { result ≡ Taking.begin }
 {
@@ -67,6 +68,7 @@ pub fn begin() -> Course
 }
 
 // Whether the run goes on.
+#[tactic(auto, unfolding(crate::specs::Taking::is_open))]
 pub fn is_open(course: Course) -> bool
     ensures { result ≡ Taking.is_open course.ending }
 {
@@ -80,6 +82,7 @@ pub fn is_open(course: Course) -> bool
 }
 
 // The run that has ended so.
+#[tactic(auto, unfolding(crate::specs::Taking::ended))]
 fn ended(course: Course, ending: Ending) -> Course
     ensures { result ≡ Taking.ended course ending }
 {
@@ -92,6 +95,7 @@ fn ended(course: Course, ending: Ending) -> Course
 }
 
 // The run after a row that does not end it.
+#[tactic(auto, unfolding(crate::specs::Taking::passed))]
 fn passed(course: Course, watch: Watch) -> Course
     ensures { result ≡ Taking.passed course watch }
 {
@@ -103,6 +107,7 @@ fn passed(course: Course, watch: Watch) -> Course
 }
 
 // Whether a row is one that a run watching that drawer passes over: sound, and another drawer's.
+#[tactic(auto, unfolding(crate::specs::Taking::is_passed_over))]
 pub fn is_passed_over(drawer: u32, row: Row) -> bool
     ensures { result ≡ Taking.is_passed_over drawer row }
 {
@@ -176,6 +181,7 @@ fn met(course: Course, row: Row) -> Taken
 }
 
 // A row of the input; a run that has ended stays as it is.
+#[tactic(auto, unfolding(crate::specs::Taking::taken))]
 pub fn take(course: Course, row: Row) -> Taken
     ensures { result ≡ Taking.taken course row }
 {
@@ -189,6 +195,7 @@ pub fn take(course: Course, row: Row) -> Taken
 }
 
 // The run whose input has ended, its counts given.
+#[tactic(auto, unfolding(crate::specs::Taking::totalled))]
 pub fn total(course: Course) -> Course
     ensures { result ≡ Taking.totalled course }
 {

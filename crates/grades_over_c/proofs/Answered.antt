@@ -1,4 +1,5 @@
 -- What an answer of 0 says of a call: it refused nothing that it took, and left its bytes. Assumes nothing.
+use Rattle.std.specs.Prelude.{Result, Ok, Err}
 use mathlib.Core.Path.{◌≡◌, refl, ap, ◌∙◌}
 use mathlib.Core.Bool.{Bool, true, false, cond, true≢false}
 use mathlib.Core.List.{List}
@@ -9,14 +10,10 @@ use Rattle.types.specs.Refusals.{number}
 use Rattle.types.specs.declared.Refusal.{Refusal}
 use Rattle.types.specs.declared.Refusal.TheVariants.{Length}
 use Rattle.types.specs.declared.TransformMethod.{TransformMethod}
-use Rattle.types.specs.declared.MethodCode.{MethodCode}
-use Rattle.types.specs.declared.MethodCode.TheVariants as Code
 use Rattle.basicthresholder.specs.declared.BasicThresholder.{BasicThresholder}
 use Rattle.basicthresholder.specs.declared.Graded.{Graded}
 use Rattle.layout.specs.States.{encode_graded}
 use Rattle.layout.specs.Left.{Left, left, put_into}
-use Rattle.layout.specs.declared.ThresholderRead.{ThresholderRead}
-use Rattle.layout.specs.declared.ThresholderRead.TheVariants as Held
 use Rattle.c_chain.proofs.Steps.{refused_number}
 use Rattle.c_interface.specs.Calls.{thresholder_read, graded_by}
 
@@ -37,23 +34,23 @@ module _ (out ys : List ℕ) where
 
   -- A thresholder was read, and what was asked of it is left.
   module _ (f : BasicThresholder → List ℕ) (n : ℕ) where
-    pub read : (t : ThresholderRead) → left 0 ys ≡ thresholder_read f n t out → (s : BasicThresholder) × (t ≡ Held.Read s)
+    pub read : (t : Result BasicThresholder Refusal) → left 0 ys ≡ thresholder_read f n t out → (s : BasicThresholder) × (t ≡ Ok s)
     unfolding thresholder_read
-    read (Held.Read s) e = (s, refl)
-    read (Held.Refused why) e = absurd (not_refused why e)
+    read (Ok s) e = (s, refl)
+    read (Err why) e = absurd (not_refused why e)
 
-    pub asked : (t : ThresholderRead) (s : BasicThresholder) → t ≡ Held.Read s → left 0 ys ≡ thresholder_read f n t out → ys ≡ f s
+    pub asked : (t : Result BasicThresholder Refusal) (s : BasicThresholder) → t ≡ Ok s → left 0 ys ≡ thresholder_read f n t out → ys ≡ f s
     unfolding thresholder_read
-    asked t s k e = put n (f s) (e ∙ ap (λ (r : ThresholderRead). thresholder_read f n r out) k)
+    asked t s k e = put n (f s) (e ∙ ap (λ (r : Result BasicThresholder Refusal). thresholder_read f n r out) k)
 
   -- The code is a method's, and a thresholder was read.
-  module _ (f : BasicThresholder → TransformMethod → Graded) (t : ThresholderRead) where
-    pub known : (c : MethodCode) → left 0 ys ≡ graded_by f c t out → (m : TransformMethod) × (c ≡ Code.Known m)
+  module _ (f : BasicThresholder → TransformMethod → Graded) (t : Result BasicThresholder Refusal) where
+    pub known : (c : Result TransformMethod Refusal) → left 0 ys ≡ graded_by f c t out → (m : TransformMethod) × (c ≡ Ok m)
     unfolding graded_by
-    known (Code.Known m) e = (m, refl)
-    known (Code.Refused why) e = absurd (not_refused why e)
+    known (Ok m) e = (m, refl)
+    known (Err why) e = absurd (not_refused why e)
 
-    pub graded : (c : MethodCode) → left 0 ys ≡ graded_by f c t out → (s : BasicThresholder) × (t ≡ Held.Read s)
+    pub graded : (c : Result TransformMethod Refusal) → left 0 ys ≡ graded_by f c t out → (s : BasicThresholder) × (t ≡ Ok s)
     unfolding graded_by
-    graded (Code.Known m) e = read (λ s. encode_graded (f s m)) 8 t e
-    graded (Code.Refused why) e = absurd (not_refused why e)
+    graded (Ok m) e = read (λ s. encode_graded (f s m)) 8 t e
+    graded (Err why) e = absurd (not_refused why e)

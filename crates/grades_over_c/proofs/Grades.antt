@@ -1,4 +1,5 @@
 -- The grade in the bytes that a graded call leaves is the grade of the thresholder that it read. Assumes nothing.
+use Rattle.std.specs.Prelude.{Result, Ok}
 use mathlib.Core.Path.{◌≡◌, sym, ap, ◌∙◌, subst}
 use mathlib.Core.Bool.{cond}
 use mathlib.Core.List.{List}
@@ -10,8 +11,6 @@ use lib.Ieee.Fits.{round-fits, cond-fits, div-fits}
 use Rattle.util.specs.Util.{minf32}
 use Rattle.types.specs.Codes.{method_of}
 use Rattle.types.specs.declared.TransformMethod.{TransformMethod}
-use Rattle.types.specs.declared.MethodCode.{MethodCode}
-use Rattle.types.specs.declared.MethodCode.TheVariants as Code
 use Rattle.basicthresholder.specs.Const.{zero32, one32, tenth32}
 use Rattle.basicthresholder.specs.Grades.{grade_over, is_deviation_ready, threshold_and_grade, threshold_and_grade_with_factor, primary_grade, primary_threshold_and_grade}
 use Rattle.basicthresholder.specs.declared.BasicThresholder.{BasicThresholder}
@@ -27,6 +26,7 @@ use Rattle.c_interface.specs.Calls.{thresholder_read, graded_by}
 use Rattle.demand3_over_c.proofs.Held.{min_fits}
 use Rattle.grades_over_c.specs.Statement.{GradedByFactor, GradedByZ, GradedByDistance, grade_in, Holds}
 use Rattle.grades_over_c.proofs.Answered.{asked}
+use Rattle.types.specs.declared.Refusal.{Refusal}
 
 -- ---- grades are f32
 sixteenths_fit : (g : Float) → Sixteenths g → T (fits binary32 g)
@@ -54,19 +54,19 @@ module _ (xs : List ℕ) (s : BasicThresholder) (k : Holds xs s) (score : Float)
       → left 0 ys ≡ thresholder_read (λ t. encode_graded (g t)) 8 (read_thresholder xs) out → grade_in ys ≡ (g s).grade
   left_grade g out ys h e = ap grade_in (asked out ys (λ t. encode_graded (g t)) 8 (read_thresholder xs) s k e) ∙ grade_back (g s) h
 
-  pub by_factor : (factor : Float) (method : ℕ) (m : TransformMethod) (shingle_size : ℕ) (out ys : List ℕ) → method_of method ≡ Code.Known m
+  pub by_factor : (factor : Float) (method : ℕ) (m : TransformMethod) (shingle_size : ℕ) (out ys : List ℕ) → method_of method ≡ Ok m
       → GradedByFactor xs score factor method shingle_size out ys → grade_in ys ≡ grade s score factor m shingle_size
   unfolding graded_by
   by_factor factor method m shingle_size out ys c e =
       left_grade (λ t. threshold_and_grade_with_factor t score factor m shingle_size) out ys (sixteenths_fit _ (higher_scores.sixteenths s score factor m shingle_size))
-      (e ∙ ap (λ (a : MethodCode). graded_by (λ t b. threshold_and_grade_with_factor t score factor b shingle_size) a (read_thresholder xs) out) c)
+      (e ∙ ap (λ (a : Result TransformMethod Refusal). graded_by (λ t b. threshold_and_grade_with_factor t score factor b shingle_size) a (read_thresholder xs) out) c)
 
-  pub by_z : (method : ℕ) (m : TransformMethod) (shingle_size : ℕ) (out ys : List ℕ) → method_of method ≡ Code.Known m
+  pub by_z : (method : ℕ) (m : TransformMethod) (shingle_size : ℕ) (out ys : List ℕ) → method_of method ≡ Ok m
       → GradedByZ xs score method shingle_size out ys → grade_in ys ≡ grade s score s.z_factor m shingle_size
   unfolding graded_by threshold_and_grade
   by_z method m shingle_size out ys c e =
       left_grade (λ t. threshold_and_grade t score m shingle_size) out ys (sixteenths_fit _ (higher_scores.sixteenths s score s.z_factor m shingle_size))
-      (e ∙ ap (λ (a : MethodCode). graded_by (λ t b. threshold_and_grade t score b shingle_size) a (read_thresholder xs) out) c)
+      (e ∙ ap (λ (a : Result TransformMethod Refusal). graded_by (λ t b. threshold_and_grade t score b shingle_size) a (read_thresholder xs) out) c)
 
   pub by_distance : (out ys : List ℕ) → GradedByDistance xs score out ys → grade_in ys ≡ primary_grade s score
   unfolding primary_threshold_and_grade

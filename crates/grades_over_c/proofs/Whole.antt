@@ -1,4 +1,5 @@
 -- The statement. Assumes nothing.
+use Rattle.std.specs.Prelude.{Ok}
 use mathlib.Core.Path.{◌≡◌, sym, subst, ◌∙◌}
 use mathlib.Core.Bool.{not}
 use mathlib.Core.List.{List}
@@ -7,7 +8,6 @@ use lib.Dec.{T}
 use lib.Ieee.{Float, le, lt, eq, is_nan}
 use Rattle.types.specs.Codes.{method_of}
 use Rattle.types.specs.declared.TransformMethod.{TransformMethod}
-use Rattle.types.specs.declared.MethodCode.TheVariants as Code
 use Rattle.basicthresholder.specs.Const.{zero32}
 use Rattle.basicthresholder.specs.Grades.{computed_threshold, threshold_and_grade, threshold_and_grade_with_factor, primary_threshold_and_grade}
 use Rattle.basicthresholder.specs.declared.BasicThresholder.{BasicThresholder}
@@ -34,7 +34,7 @@ held xs r = (let k = kept xs r in (k.state, k.reads, k.reached))
 
 -- The thresholder and the method that a graded call went by.
 module _ (f : BasicThresholder → TransformMethod → Answer.Graded) (xs : List ℕ) (method : ℕ) (out ys : List ℕ) (e : left 0 ys ≡ graded_by f (method_of method) (read_thresholder xs) out) where
-  method_of_lem : (m : TransformMethod) × (method_of method ≡ Code.Known m)
+  method_of_lem : (m : TransformMethod) × (method_of method ≡ Ok m)
   method_of_lem = known out ys f (read_thresholder xs) (method_of method) e
 
   state_of : (s : BasicThresholder) × Holds xs s
@@ -61,11 +61,11 @@ module _ (xs : List ℕ) (s : BasicThresholder) (k : Holds xs s) (r : Reached s)
       (higher_scores.rises s r n x y o s.z_factor m.0 shingle_size)
 
 below : (xs : List ℕ) (s : BasicThresholder) → Holds xs s → (score factor : Float) (method shingle_size : ℕ) (out ys : List ℕ) → GradedByFactor xs score factor method shingle_size out ys
-    → (m : TransformMethod) → method_of method ≡ Code.Known m → T (lt score (computed_threshold s factor m shingle_size)) → grade_in ys ≡ zero32
+    → (m : TransformMethod) → method_of method ≡ Ok m → T (lt score (computed_threshold s factor m shingle_size)) → grade_in ys ≡ zero32
 below xs s k score factor method shingle_size out ys e m c h = by_factor xs s k score factor method m shingle_size out ys c e ∙ higher_scores.below s score factor m shingle_size h
 
 at_zero : (xs : List ℕ) (s : BasicThresholder) → Holds xs s → (score factor : Float) (method shingle_size : ℕ) (out ys : List ℕ) → GradedByFactor xs score factor method shingle_size out ys
-    → (m : TransformMethod) → method_of method ≡ Code.Known m → T (eq (computed_threshold s factor m shingle_size) zero32) → grade_in ys ≡ zero32
+    → (m : TransformMethod) → method_of method ≡ Ok m → T (eq (computed_threshold s factor m shingle_size) zero32) → grade_in ys ≡ zero32
 at_zero xs s k score factor method shingle_size out ys e m c h = by_factor xs s k score factor method m shingle_size out ys c e ∙ higher_scores.at_zero s score factor m shingle_size h
 
 distance_rises : (xs : List ℕ) (x y : Float) → T (le x y) → (out out' ys ys' : List ℕ) → GradedByDistance xs x out ys → GradedByDistance xs y out' ys' → T (le (grade_in ys) (grade_in ys'))

@@ -1,4 +1,5 @@
 -- There are bytes that calls reach, and graded calls over them that answer 0. Assumes nothing.
+use Rattle.std.specs.Prelude.{Ok}
 use mathlib.Core.Path.{◌≡◌, refl}
 use mathlib.Core.Bool.{false}
 use mathlib.Core.List.{List}
@@ -13,7 +14,6 @@ use Rattle.deviation.specs.Const.{zero64}
 use Rattle.basicthresholder.specs.Const.{one32, two32}
 use Rattle.basicthresholder.specs.Grades.{threshold_and_grade_with_factor}
 use Rattle.basicthresholder.specs.Updates.{fresh_thresholder, new_adjustible}
-use Rattle.basicthresholder.specs.declared.Made.TheVariants.{Ready}
 use Rattle.layout.specs.Places.{thresholder_length}
 use Rattle.layout.specs.States.{encode_graded}
 use Rattle.layout.specs.Left.{left, put_into}
@@ -26,7 +26,7 @@ use Rattle.grades_over_c.proofs.Kept.{put_reads}
 zero_fits : T (fits binary64 zero64)
 zero_fits = of_bits-fits binary64 0
 
-new_is : new_adjustible zero64 false ≡ Ready (fresh_thresholder zero64 false)
+new_is : new_adjustible zero64 false ≡ Ok (fresh_thresholder zero64 false)
 unfolding new_adjustible le lt eq of_bits
 new_is = refl
 

@@ -1,9 +1,8 @@
 -- A higher score never earns a lower grade, over C: what this crate proves. Definitions only.
-use Rattle.std.specs.Prelude.{ℕ, ◌≡◌, false, not, List, T, length, Float}
+use Rattle.std.specs.Prelude.{ℕ, ◌≡◌, false, not, List, T, length, Float, Ok}
 use Rattle.std.specs.Float.Ieee.{le, lt, eq, is_nan}
 use Rattle.types.specs.Codes.{method_of}
 use Rattle.types.specs.declared.TransformMethod.{TransformMethod}
-use Rattle.types.specs.declared.MethodCode.TheVariants as Code
 use Rattle.deviation.specs.Const.{zero64}
 use Rattle.basicthresholder.specs.Const.{zero32, one32, two32}
 use Rattle.basicthresholder.specs.Grades.{computed_threshold}
@@ -16,7 +15,6 @@ use Rattle.layout.specs.Places.{thresholder_length}
 use Rattle.layout.specs.Numbers.{f32_at}
 use Rattle.layout.specs.Left.{left}
 use Rattle.layout.specs.States.{encode_thresholder, read_thresholder}
-use Rattle.layout.specs.declared.ThresholderRead.TheVariants as Held
 use Rattle.c_interface.specs.Calls.{primary_threshold_and_grade_into, threshold_and_grade_into, threshold_and_grade_with_factor_into}
 use Rattle.grades_over_c.specs.Bytes.{ReachedBytes}
 
@@ -37,7 +35,7 @@ grade_in ys = f32_at ys 4
 
 -- xs holds the thresholder s.
 abbrev pub Holds : List ℕ → BasicThresholder → Type 0
-Holds xs s = read_thresholder xs ≡ Held.Read s
+Holds xs s = read_thresholder xs ≡ Ok s
 
 -- The bytes of a new thresholder.
 abbrev pub new_bytes : List ℕ
@@ -57,8 +55,8 @@ pub record HigherOverC : Type 0 where
   -- Over any bytes: k/16, and 0 below the computed threshold or where that is 0.
   pub sixteenths : (xs : List ℕ) (score factor : Float) (method shingle_size : ℕ) (out ys : List ℕ) → GradedByFactor xs score factor method shingle_size out ys → Sixteenths (grade_in ys)
   pub below : (xs : List ℕ) (s : BasicThresholder) → Holds xs s → (score factor : Float) (method shingle_size : ℕ) (out ys : List ℕ) → GradedByFactor xs score factor method shingle_size out ys
-      → (m : TransformMethod) → method_of method ≡ Code.Known m → T (lt score (computed_threshold s factor m shingle_size)) → grade_in ys ≡ zero32
+      → (m : TransformMethod) → method_of method ≡ Ok m → T (lt score (computed_threshold s factor m shingle_size)) → grade_in ys ≡ zero32
   pub at_zero : (xs : List ℕ) (s : BasicThresholder) → Holds xs s → (score factor : Float) (method shingle_size : ℕ) (out ys : List ℕ) → GradedByFactor xs score factor method shingle_size out ys
-      → (m : TransformMethod) → method_of method ≡ Code.Known m → T (eq (computed_threshold s factor m shingle_size) zero32) → grade_in ys ≡ zero32
+      → (m : TransformMethod) → method_of method ≡ Ok m → T (eq (computed_threshold s factor m shingle_size) zero32) → grade_in ys ≡ zero32
   -- DISTANCE's grade, over any bytes.
   pub distance_rises : (xs : List ℕ) (x y : Float) → T (le x y) → (out out' ys ys' : List ℕ) → GradedByDistance xs x out ys → GradedByDistance xs y out' ys' → T (le (grade_in ys) (grade_in ys'))

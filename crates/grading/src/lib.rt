@@ -12,6 +12,7 @@ const MINIMUM_SCORES: i32 = 10;
 
 const MINIMUM_Z_FACTOR: f32 = 2.0;
 
+#[tactic(auto, unfolding(crate::specs::Grading::counts_ready))]
 pub fn counts_ready(count: i32, score_differencing: f32, primary_count: i32) -> bool
     ensures { result ≡ Grading.counts_ready count score_differencing primary_count }
 {
@@ -24,6 +25,7 @@ pub fn counts_ready(count: i32, score_differencing: f32, primary_count: i32) -> 
     true
 }
 
+#[tactic(auto, unfolding(crate::specs::Grading::intermediate_fraction))]
 pub fn intermediate_fraction(count: i32) -> f32
     ensures { result ≡ Grading.intermediate_fraction count }
 {
@@ -36,6 +38,7 @@ pub fn intermediate_fraction(count: i32) -> f32
     std::num::nearest_i32_to_f32(count - MINIMUM_SCORES) * 1.0 / 10.0
 }
 
+#[tactic(auto, unfolding(crate::specs::Grading::at_least_minimum))]
 fn at_least_minimum(corrected_factor: f32) -> f32
     ensures { result ≡ Grading.at_least_minimum corrected_factor }
 {
@@ -46,6 +49,7 @@ fn at_least_minimum(corrected_factor: f32) -> f32
 }
 
 // `base` is the primary mean, `limit` the factor adjustment threshold.
+#[tactic(auto, unfolding(crate::specs::Grading::adjusted_factor))]
 pub fn adjusted_factor(base: f32, factor: f32, limit: f32, none: bool) -> f32
     ensures { result ≡ Grading.adjusted_factor base factor limit none }
 {
@@ -55,18 +59,21 @@ pub fn adjusted_factor(base: f32, factor: f32, limit: f32, none: bool) -> f32
     at_least_minimum(factor)
 }
 
+#[tactic(auto, unfolding(crate::specs::Grading::smaller))]
 pub fn smaller(a: f64, b: f64) -> f64
     ensures { result ≡ Grading.smaller a b }
 {
     if a < b { a } else { b }
 }
 
+#[tactic(auto, unfolding(crate::specs::Grading::mixed))]
 pub fn mixed(score_differencing: f32, first: f64, second: f64) -> f32
     ensures { result ≡ Grading.mixed score_differencing first second }
 {
     score_differencing * narrow(first) + (1.0 - score_differencing) * narrow(second)
 }
 
+#[tactic(auto, unfolding(crate::specs::Grading::eased_absolute))]
 pub fn eased_absolute(t: f32, intermediate_fraction: f32, limit: f32, absolute: f32) -> f32
     ensures { result ≡ Grading.eased_absolute t intermediate_fraction limit absolute }
 {
@@ -76,6 +83,7 @@ pub fn eased_absolute(t: f32, intermediate_fraction: f32, limit: f32, absolute: 
     absolute
 }
 
+#[tactic(auto, unfolding(crate::specs::Grading::threshold_from))]
 pub fn threshold_from(
     ready: bool,
     intermediate_fraction: f32,
@@ -94,6 +102,7 @@ pub fn threshold_from(
     maxf32(t, absolute)
 }
 
+#[tactic(auto, unfolding(crate::specs::Grading::surprise_index))]
 pub fn surprise_index(
     ready: bool,
     score: f32,
@@ -113,18 +122,21 @@ pub fn surprise_index(
     minf32(1.0, maxf32((score - absolute) / absolute, 0.0))
 }
 
+#[tactic(auto, unfolding(crate::specs::Grading::sixteenths))]
 pub fn sixteenths(t: f32) -> f32
     ensures { result ≡ Grading.sixteenths t }
 {
     minf32(ieee::floor(t * 20.0) / 16.0, 1.0)
 }
 
+#[tactic(auto, unfolding(crate::specs::Grading::threshold_by))]
 pub fn threshold_by(mean: f32, z_factor: f32, deviation: f32) -> f32
     ensures { result ≡ Grading.threshold_by mean z_factor deviation }
 {
     mean + z_factor * deviation
 }
 
+#[tactic(auto, unfolding(crate::specs::Grading::grade_over))]
 pub fn grade_over(t: f32, deviation: f32) -> f32
     ensures { result ≡ Grading.grade_over t deviation }
 {

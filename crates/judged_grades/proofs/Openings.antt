@@ -1,11 +1,10 @@
 -- The opening grade rises with the score, and the verdict shows it. Assumes nothing.
+use Rattle.std.specs.Prelude.{Result, Ok, Err}
 use mathlib.Core.Path.{◌≡◌, refl, sym, ap, ◌∙◌, subst}
 use mathlib.Core.Bool.{Bool, true, false, not, cond, ◌||◌, true≢false}
 use lib.Dec.{T}
 use lib.Ieee.{Float, le, eq, is_nan}
 use Rattle.types.specs.Codes.{is_height}
-use Rattle.types.specs.declared.Answer.{Answer}
-use Rattle.types.specs.declared.Answer.TheVariants as Answers
 use Rattle.basicthresholder.specs.Const.{zero32}
 use Rattle.basicthresholder.specs.Grades.{is_deviation_ready, threshold_and_grade, primary_grade, primary_threshold_and_grade}
 use Rattle.basicthresholder.specs.declared.BasicThresholder.{BasicThresholder}
@@ -22,12 +21,12 @@ use Rattle.detection.specs.Judging.{opening, verdict}
 use Rattle.detection.specs.Judged.{outcome, outcome_of}
 use Rattle.detection.specs.declared.Verdict.{Verdict}
 use Rattle.detection.specs.declared.Verdict.TheVariants.{Skipped}
-use Rattle.detection.specs.declared.Outcome.{Outcome}
-use Rattle.detection.specs.declared.Outcome.TheVariants.{Accepted, Refused}
 use Rattle.demand3.specs.Calls.{Judging, Contract, grade_of, opened}
 use Rattle.demand3.specs.Statement.{is_quiet, is_raised, is_skipped, Shows}
 use Rattle.demand3.proofs.Opens.{verdict_shows, zero_skips}
 use Rattle.judged_grades.specs.Statement.{with_score, Tells}
+use Rattle.types.specs.declared.Refusal.{Refusal}
+use Rattle.types.specs.Refusals.{Answer}
 
 -- ---- the opening grade
 height : (t : BasicThresholder) → Reached t → T (not (is_nan t.initial_threshold)) → (r : Reading) (x y : Float) → Scores x y
@@ -71,21 +70,21 @@ opening_least t r x = go (is_height r.scoring_strategy)
     go false = distance_least t x
 
 -- ---- the verdict of an accepted call
-said_of : Outcome → Verdict
-said_of (Accepted v) = v
-said_of (Refused why) = Skipped
+said_of : Result Verdict Refusal → Verdict
+said_of (Ok v) = v
+said_of (Err why) = Skipped
 
-is_accepted : Outcome → Bool
-is_accepted (Accepted v) = true
-is_accepted (Refused why) = false
+is_accepted : Result Verdict Refusal → Bool
+is_accepted (Ok v) = true
+is_accepted (Err why) = false
 
-said : (u v : Verdict) (a : Answer) → outcome_of u a ≡ Accepted v → u ≡ v
+said : (u v : Verdict) (a : Answer) → outcome_of u a ≡ Ok v → u ≡ v
 unfolding outcome_of said_of is_accepted
-said u v Answers.Done e = ap said_of e
-said u v (Answers.Refused why) e = absurd (true≢false (sym (ap is_accepted e)))
+said u v (Ok _) e = ap said_of e
+said u v (Err why) e = absurd (true≢false (sym (ap is_accepted e)))
 
 module _ (s : PredictorCorrector) (c : Judging) (k : Contract s c) where
-  verdict_is : (v : Verdict) → c.judgment.outcome ≡ Accepted v → verdict c.reading c.last c.lent s ≡ v
+  verdict_is : (v : Verdict) → c.judgment.outcome ≡ Ok v → verdict c.reading c.last c.lent s ≡ v
   unfolding outcome
   verdict_is v e = said (verdict c.reading c.last c.lent s) v _ (sym k.says ∙ e)
 
@@ -123,5 +122,5 @@ module _ (s : PredictorCorrector) (r r' : Reading) (l : T (le (opened s r).grade
   pub tells : (v v' : Verdict) → Showing s r v → Showing s r' v' → Tells v v'
   tells v v' i j = record { quiet = quiet v v' i j; raised = raised v v' i j }
 
-pub accepted_shows : (s : PredictorCorrector) (c : Judging) → Contract s c → (v : Verdict) → c.judgment.outcome ≡ Accepted v → Showing s c.reading v
+pub accepted_shows : (s : PredictorCorrector) (c : Judging) → Contract s c → (v : Verdict) → c.judgment.outcome ≡ Ok v → Showing s c.reading v
 accepted_shows s c k v e = subst (Showing s c.reading) (verdict_is s c k v e) (showing s c.reading c.last c.lent)

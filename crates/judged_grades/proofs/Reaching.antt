@@ -1,27 +1,26 @@
 -- The thresholder of a drawer that calls reach is one that calls reach. Assumes nothing.
+use Rattle.std.specs.Prelude.{Result, Ok, Err, is_ok}
 use Prim.Native.Nat.{ℕ}
-use mathlib.Core.Path.{◌≡◌, refl, sym, subst}
-use mathlib.Core.Bool.{Bool, true, false, cond, ◌&&◌}
+use Rattle.std.specs.Result.{result_unwrap_or}
+use mathlib.Core.Path.{◌≡◌, refl, sym, ap, subst}
+use mathlib.Core.Bool.{Bool, true, false, cond, ◌&&◌, true≢false}
 use mathlib.Core.List.{List}
 use lib.Dec.{leb, ltb}
 use lib.Ieee.{Float}
 use Rattle.types.specs.Codes.{is_height}
-use Rattle.types.specs.declared.Answer.{Answer}
-use Rattle.types.specs.declared.Answer.TheVariants as Answers
 use Rattle.types.specs.declared.Refusal.TheVariants.{Discount, Range}
 use Rattle.types.specs.declared.ScoringStrategy.{ScoringStrategy}
 use Rattle.deviation.specs.Const.{count_limit}
 use Rattle.deviation.specs.Statistics.{is_discount}
 use Rattle.basicthresholder.specs.Updates.{fresh_thresholder, new_adjustible, update, update_primary}
 use Rattle.basicthresholder.specs.declared.BasicThresholder.{BasicThresholder}
-use Rattle.basicthresholder.specs.declared.Made.TheVariants as Constructed
 use Rattle.grades.specs.Reached.{Reached, new_adjustible_call, default, update_primary_call, update_capped}
 use Rattle.grades.specs.Reached as Thresholder
 use Rattle.descriptor.specs.Lent.{Lent}
 use Rattle.descriptor.specs.declared.Reading.{Reading}
 use Rattle.descriptor.specs.declared.LastDescriptor.{LastDescriptor}
 use Rattle.predictorcorrector.specs.State as State
-use Rattle.predictorcorrector.specs.State.{updated, fresh_state, refused_new, set_horizon, height_score, run_ended, auto_adjusted, candidate_counted, run_grown}
+use Rattle.predictorcorrector.specs.State.{updated, fresh_state, set_horizon, height_score, run_ended, auto_adjusted, candidate_counted, run_grown}
 use Rattle.predictorcorrector.specs.Lists.{row_fits}
 use Rattle.predictorcorrector.specs.declared.PredictorCorrector.{PredictorCorrector}
 use Rattle.scoring.specs.Scores as Scores
@@ -29,16 +28,16 @@ use Rattle.detection.specs.Judging.{is_drift_mode, entered, corrected_score, can
 use Rattle.detection.specs.Judged.{state_after}
 use Rattle.detection.specs.declared.Verdict.{Verdict}
 use Rattle.detection.specs.declared.Verdict.TheVariants.{Quiet, Corrected, Raised, Skipped}
-use Rattle.detection.specs.declared.Outcome.{Outcome}
-use Rattle.detection.specs.declared.Outcome.TheVariants.{Accepted, Refused}
 use Rattle.calls.specs.Calls.{adjust_answer, adjusted_by, update_auto_adjust}
 use Rattle.judged_grades.specs.Drawers.{ReachedDrawer, new, set_z_factor, set_lower_threshold, set_initial_threshold, set_horizon_call, update_auto_adjust_call, judged}
+use Rattle.types.specs.declared.Refusal.{Refusal}
+use Rattle.types.specs.Refusals.{Answer}
 
 abbrev Held : PredictorCorrector → Type 0
 Held s = Reached s.basic_thresholder
 
 -- ---- a construction
-made : (d : Float) → is_discount d ≡ true → new_adjustible d false ≡ Constructed.Ready (fresh_thresholder d false)
+made : (d : Float) → is_discount d ≡ true → new_adjustible d false ≡ Ok (fresh_thresholder d false)
 unfolding new_adjustible
 made d e = rw e refl
 
@@ -46,19 +45,14 @@ fresh_held : (d : Float) (auto : Bool) (base : ℕ) → is_discount d ≡ true �
 unfolding fresh_state
 fresh_held d auto base e = new_adjustible_call d false (made d e)
 
-refused_held : (why : Answer) → Held (refused_new why).state
-unfolding refused_new fresh_state
-refused_held why = default
-
-new_held : (d : Float) (auto : Bool) (base : ℕ) → Held (State.new d auto base).state
+new_held : (d : Float) (auto : Bool) (base : ℕ) (s : PredictorCorrector) → State.new d auto base ≡ Ok s → Held s
 unfolding State.new
-new_held d auto base = go (is_discount d) (leb 1 base && leb base 16) refl
+new_held d auto base s = go (is_discount d) (leb 1 base && leb base 16) refl
   where
-    go : (b c : Bool) → is_discount d ≡ b
-        → Held (cond b (cond c (updated Answers.Done (fresh_state d auto base)) (refused_new (Answers.Refused Range))) (refused_new (Answers.Refused Discount))).state
-    go true true e = fresh_held d auto base e
-    go true false e = refused_held (Answers.Refused Range)
-    go false c e = refused_held (Answers.Refused Discount)
+    go : (b c : Bool) → is_discount d ≡ b → cond b (cond c (Ok (fresh_state d auto base)) (Err Range)) (Err Discount) ≡ Ok s → Held s
+    go true true e q = subst Held (ap (λ (r : Result PredictorCorrector Refusal). result_unwrap_or r s) q) (fresh_held d auto base e)
+    go true false e q = absurd (true≢false (ap is_ok (sym q)))
+    go false c e q = absurd (true≢false (ap is_ok (sym q)))
 
 -- ---- what a reading does to the lists and the run leaves the thresholder
 either_held : (c : Bool) (s s' : PredictorCorrector) → Held s → Held s' → Held (cond c s s')
@@ -92,7 +86,7 @@ score_reached : (t : BasicThresholder) (k : ScoringStrategy) (x y : Float) (o : 
 unfolding State.update_score
 score_reached t k x y o z h = go (is_height k)
   where
-    go : (c : Bool) → Reached (cond c (update t x y (height_score o z)).thresholder (update_primary t x).thresholder)
+    go : (c : Bool) → Reached (cond c (update t x y (height_score o z)).state (update_primary t x).state)
     go true = update_capped x y (height_score o z) h
     go false = update_primary_call x h
 
@@ -114,10 +108,10 @@ module _ (r : Reading) (l : LastDescriptor) (b : Lent) where
   after_held s (Raised t g) h = entered_held (run_grown (candidate_state r l b s t)) r l (corrected_score r l) (grown_held (candidate_state r l b s t) (branch_held s t h))
   after_held s Skipped h = h
 
-  outcome_held : (s : PredictorCorrector) (o : Outcome) → Held s → Held (state_after s r l b o)
+  outcome_held : (s : PredictorCorrector) (o : Result Verdict Refusal) → Held s → Held (state_after s r l b o)
   unfolding state_after
-  outcome_held s (Accepted v) h = after_held s v h
-  outcome_held s (Refused why) h = h
+  outcome_held s (Ok v) h = after_held s v h
+  outcome_held s (Err why) h = h
 
 -- ---- the calls
 horizon_held : (s : PredictorCorrector) (x : Float) → Held s → Held (set_horizon s x).state
@@ -129,11 +123,11 @@ unfolding update_auto_adjust adjusted_by
 adjusting_held s n point h = go (adjust_answer s n point)
   where
     go : (a : Answer) → Held (adjusted_by a s point)
-    go Answers.Done = adjusted_held s point h
-    go (Answers.Refused why) = h
+    go (Ok tt) = adjusted_held s point h
+    go (Err why) = h
 
 pub reaching : (s : PredictorCorrector) → ReachedDrawer s → Reached s.basic_thresholder
-reaching _ (new d auto base e) = new_held d auto base
+reaching s (new d auto base e) = new_held d auto base s e
 reaching _ (set_z_factor {s} x r) = Thresholder.set_z_factor x (reaching s r)
 reaching _ (set_lower_threshold {s} x r) = Thresholder.set_absolute_threshold x (reaching s r)
 reaching _ (set_initial_threshold {s} x r) = Thresholder.set_initial_threshold x (reaching s r)

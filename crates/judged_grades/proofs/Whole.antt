@@ -1,4 +1,5 @@
 -- The statement. Assumes nothing.
+use Rattle.std.specs.Prelude.{Ok}
 use mathlib.Core.Path.{◌≡◌, refl, sym, ap, ◌∙◌, subst}
 use mathlib.Core.Bool.{false, not}
 use lib.Dec.{T}
@@ -7,8 +8,6 @@ use Rattle.grade_order.specs.Statement.{Scores}
 use Rattle.descriptor.specs.declared.Reading.{Reading}
 use Rattle.predictorcorrector.specs.declared.PredictorCorrector.{PredictorCorrector}
 use Rattle.detection.specs.declared.Verdict.{Verdict}
-use Rattle.detection.specs.declared.Outcome.TheVariants.{Accepted}
-use Rattle.predictorcorrector.specs.declared.Updated.{Updated}
 use Rattle.demand3.specs.Calls.{Judging, Contract, opened}
 use Rattle.demand3.specs.Calm.{nought, made}
 use Rattle.demand3.proofs.Demand3.{demand_3_of_calls}
@@ -22,15 +21,13 @@ module _ (s : PredictorCorrector) (h : ReachedDrawer s) (n : T (not (is_nan s.ba
   opening r y o = opening_rises s.basic_thresholder (reaching s h) n r r.score y o
 
   judged : (c c' : Judging) → Contract s c → Contract s c' → c'.reading ≡ with_score c.reading c'.reading.score → Scores c.reading.score c'.reading.score
-      → (v v' : Verdict) → c.judgment.outcome ≡ Accepted v → c'.judgment.outcome ≡ Accepted v' → Tells v v'
+      → (v v' : Verdict) → c.judgment.outcome ≡ Ok v → c'.judgment.outcome ≡ Ok v' → Tells v v'
   judged c c' k k' e o v v' i i' =
       tells s c.reading c'.reading (subst (λ (r : Reading). T (le (opened s c.reading).grade (opened s r).grade)) (sym e) (opening c.reading c'.reading.score o))
       v v' (accepted_shows s c k v i) (accepted_shows s c' k' v' i')
 
-met : ReachedDrawer made.state
-met =
-    let m = demand_3_of_calls.met.0.0 in
-    subst (λ (u : Updated). ReachedDrawer u.state) (sym m.contract) (new nought false 1 (sym (ap (λ (u : Updated). u.answer) m.contract) ∙ m.accepted))
+met : ReachedDrawer made
+met = new nought false 1 demand_3_of_calls.met.0.0.contract
 
 own : (r : Reading) → with_score r r.score ≡ r
 own r = refl

@@ -1,5 +1,5 @@
 -- A higher score never opens with a lower grade: what this crate proves. Definitions only.
-use Rattle.std.specs.Prelude.{◌≡◌, not, ◌||◌, T, Float}
+use Rattle.std.specs.Prelude.{◌≡◌, not, ◌||◌, T, Float, Ok}
 use Rattle.std.specs.Float.Ieee.{le, is_nan}
 use Rattle.basicthresholder.specs.Const.{zero32}
 use Rattle.grade_order.specs.Statement.{Scores}
@@ -7,7 +7,6 @@ use Rattle.grades.specs.Reached.{Reached}
 use Rattle.descriptor.specs.declared.Reading.{Reading}
 use Rattle.predictorcorrector.specs.declared.PredictorCorrector.{PredictorCorrector}
 use Rattle.detection.specs.declared.Verdict.{Verdict}
-use Rattle.detection.specs.declared.Outcome.TheVariants.{Accepted}
 use Rattle.demand3.specs.Calls.{Judging, Contract, grade_of, opened}
 use Rattle.demand3.specs.Calm.{made}
 use Rattle.demand3.specs.Statement.{is_quiet, is_raised, is_skipped}
@@ -35,7 +34,7 @@ pub record Tells (v v' : Verdict) : Type 0 where
 pub record HigherJudged : Type 0 where
   -- The thresholder of a drawer that calls reach, judged ones among them, is one that calls reach; a new drawer is such a one.
   pub reached : (s : PredictorCorrector) → ReachedDrawer s → Reached s.basic_thresholder
-  pub met : ReachedDrawer made.state
+  pub met : ReachedDrawer made
   -- A reading with its own score is itself.
   pub own : (r : Reading) → with_score r r.score ≡ r
   -- The opening grade is at least 0, and rises, by the height strategy and by DISTANCE.
@@ -45,4 +44,4 @@ pub record HigherJudged : Type 0 where
   -- Two calls of `detect_and_modify` in that state, both accepted; what else they took may differ.
   pub judged : (s : PredictorCorrector) → ReachedDrawer s → T (not (is_nan s.basic_thresholder.initial_threshold))
       → (c c' : Judging) → Contract s c → Contract s c' → c'.reading ≡ with_score c.reading c'.reading.score → Scores c.reading.score c'.reading.score
-      → (v v' : Verdict) → c.judgment.outcome ≡ Accepted v → c'.judgment.outcome ≡ Accepted v' → Tells v v'
+      → (v v' : Verdict) → c.judgment.outcome ≡ Ok v → c'.judgment.outcome ≡ Ok v' → Tells v v'

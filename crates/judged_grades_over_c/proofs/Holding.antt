@@ -1,13 +1,12 @@
 -- Bytes that calls reach hold a state that calls reach. Assumes nothing.
+use Rattle.std.specs.Prelude.{Result, Ok, Err}
 use Prim.Native.Nat.{ℕ}
 use mathlib.Core.Path.{◌≡◌, refl, sym, ap, ◌∙◌, subst}
 use mathlib.Core.List.{List}
 use lib.Dec.{eqb}
 use lib.ListN.{length}
 use lib.Ieee.{Float}
-use Rattle.types.specs.Refusals.{answered}
-use Rattle.types.specs.declared.Answer.{Answer}
-use Rattle.types.specs.declared.Answer.TheVariants as Answers
+use Rattle.types.specs.Refusals.{answered, Answer}
 use Rattle.divector.specs.DiVector.{normalized}
 use Rattle.descriptor.specs.Lent.{Lent}
 use Rattle.descriptor.specs.declared.Reading.{Reading}
@@ -18,8 +17,6 @@ use Rattle.detection.specs.Judging.{expected, after}
 use Rattle.detection.specs.Judged.{outcome, state_after, index_after, written, outcome_number}
 use Rattle.detection.specs.declared.Verdict.{Verdict}
 use Rattle.detection.specs.declared.Verdict.TheVariants.{Quiet, Corrected, Raised, Skipped}
-use Rattle.detection.specs.declared.Outcome.{Outcome}
-use Rattle.detection.specs.declared.Outcome.TheVariants.{Accepted, Refused}
 use Rattle.calls.specs.Calls as Calls
 use Rattle.calls.specs.Calls.{adjust_answer, adjusted_by}
 use Rattle.layout.specs.Left.{Left, left}
@@ -35,6 +32,7 @@ use Rattle.demand3_over_c.proofs.Simulation.{reading_of, last_of, over, Taken, t
 use Rattle.judged_grades.specs.Drawers as Drawers
 use Rattle.judged_grades.specs.Drawers.{ReachedDrawer}
 use Rattle.judged_grades_over_c.specs.Stored.{ReachedStored, krcf_new, krcf_chain_set_z_factor, krcf_chain_set_lower_threshold, krcf_chain_set_initial_threshold, krcf_chain_set_horizon, krcf_update_auto_adjust, krcf_detect_and_modify}
+use Rattle.types.specs.declared.Refusal.{Refusal}
 
 -- xs holds s, which calls reach.
 record Kept (xs : List ℕ) : Type 0 where
@@ -47,7 +45,7 @@ keep s h r = record { state = s; holds = h; reached = r }
 
 -- ---- a judgment by value, of any inputs
 module _ (s : PredictorCorrector) (r : Reading) (l : LastDescriptor) (b : Lent) (e h w : List Float) where
-  abbrev told : Outcome
+  abbrev told : Result Verdict Refusal
   told = outcome s r l b (length e) (length h) (length w)
 
   judging : ByValue.Judging
@@ -91,20 +89,20 @@ module _ (xs : List ℕ) (c : Judging) (q : Contract xs c) where
       reached : ReachedDrawer (decode_state xs)
       reached = subst ReachedDrawer (sym m.holds.state) m.reached
 
-      bytes : (o : Outcome) → over xs c ≡ o → c.state' ≡ state_left o xs (state_over xs c.reading c.last c.lent o)
-      bytes o e = q.bytes ∙ ap (λ (o : Outcome). state_left o xs (state_over xs c.reading c.last c.lent o)) e
+      bytes : (o : Result Verdict Refusal) → over xs c ≡ o → c.state' ≡ state_left o xs (state_over xs c.reading c.last c.lent o)
+      bytes o e = q.bytes ∙ ap (λ (o : Result Verdict Refusal). state_left o xs (state_over xs c.reading c.last c.lent o)) e
 
       accepted : Taken xs c → Kept c.state'
       accepted k =
           let v = said xs c k in
           let after-it = after (reading_of xs c) (last_of xs c) c.lent (decode_state xs) v in
-          keep after-it (subst (Holds after-it) (sym (bytes (Accepted v) k.says)) (put v holds k))
+          keep after-it (subst (Holds after-it) (sym (bytes (Ok v) k.says)) (put v holds k))
           (subst ReachedDrawer (ap (state_after (decode_state xs) (reading_of xs c) (last_of xs c) c.lent) k.says_by)
           (value_reached (decode_state xs) (reading_of xs c) (last_of xs c) c.lent c.expected c.high c.low reached))
 
-      go : (o : Outcome) → over xs c ≡ o → Kept c.state'
-      go (Accepted v) e = accepted (taken xs c (ap outcome_number e))
-      go (Refused why) e = keep m.state (subst (Holds m.state) (sym (bytes (Refused why) e)) m.holds) m.reached
+      go : (o : Result Verdict Refusal) → over xs c ≡ o → Kept c.state'
+      go (Ok v) e = accepted (taken xs c (ap outcome_number e))
+      go (Err why) e = keep m.state (subst (Holds m.state) (sym (bytes (Err why) e)) m.holds) m.reached
 
 -- ---- krcf_update_auto_adjust
 module _ (xs : List ℕ) (m : Kept xs) (shingle : ℕ) (point : List Float) where
@@ -119,11 +117,11 @@ module _ (xs : List ℕ) (m : Kept xs) (shingle : ℕ) (point : List Float) wher
 
   by_answer : (n : ℕ) (ys : List ℕ) (a : Answer) → answer ≡ a → left n ys ≡ left (answered a) (stored_by a xs (adjusted_by a m.state point)) → Kept ys
   unfolding stored_by adjusted_by Calls.update_auto_adjust answer
-  by_answer n ys Answers.Done p e =
+  by_answer n ys (Ok tt) p e =
       keep (auto_adjusted m.state point)
       (subst (Holds (auto_adjusted m.state point)) (sym (ap (λ (l : Left). l.bytes) e)) (put_holds xs (auto_adjusted m.state point) m.holds.size (adjusted_fits m.state point m.holds.fits)))
       (subst (λ (a : Answer). ReachedDrawer (adjusted_by a m.state point)) p (Drawers.update_auto_adjust_call shingle point m.reached))
-  by_answer n ys (Answers.Refused why) p e = keep m.state (subst (Holds m.state) (sym (ap (λ (l : Left). l.bytes) e)) m.holds) m.reached
+  by_answer n ys (Err why) p e = keep m.state (subst (Holds m.state) (sym (ap (λ (l : Left). l.bytes) e)) m.holds) m.reached
 
   adjusted_kept : (n : ℕ) (ys : List ℕ) → left n ys ≡ update_auto_adjust xs shingle point → Kept ys
   unfolding Calls.update_auto_adjust answer
@@ -132,7 +130,7 @@ module _ (xs : List ℕ) (m : Kept xs) (shingle : ℕ) (point : List Float) wher
 -- ---- every call
 kept : (xs : List ℕ) → ReachedStored xs → Kept xs
 kept ys (krcf_new d auto base out h e) =
-    let m = new_holds d (eqb auto 1) base auto out ys h e in keep (new d (eqb auto 1) base).state m.1 (Drawers.new d (eqb auto 1) base m.0)
+    let m = new_holds d (eqb auto 1) base auto out ys h e in keep m.0 m.2 (Drawers.new d (eqb auto 1) base m.1)
 kept _ (krcf_chain_set_z_factor {xs} x n ys h e r) =
     let m = kept xs r in keep (z_factor_set m.state x) (z_holds m.state xs m.holds x n ys h e) (Drawers.set_z_factor x m.reached)
 kept _ (krcf_chain_set_lower_threshold {xs} x n ys h e r) =

@@ -4,17 +4,19 @@
 ghost use Rattle.std.specs.Prelude.{◌≡◌, ◌-◌, length, get_or};
 ghost use Rattle.deviation.specs.Const.{zero64};
 ghost use Rattle.deviation.specs.Statistics.{fresh};
-ghost use Rattle.descriptor.specs.Lent.{lent};
+ghost use Rattle.descriptor.specs.Lent.{lists_of};
 ghost use Rattle.predictorcorrector.specs.State as State;
 ghost use Rattle.detection.specs.Judged as Judged;
 ghost use Rattle.detection.specs.Steps as Steps;
 
-use descriptor::{LastDescriptor, Reading};
-use detection::{Judgment, Outcome, Verdict};
+use descriptor::{LastDescriptor, Lent, Reading};
+use detection::{Judgment, Verdict};
 use deviation::Deviation;
 use predictorcorrector::{PredictorCorrector, Standing};
+use types::Refusal;
 
 // The candidate branch's rows, counted.
+#[tactic(auto, using(detection::proofs::Work::tail_is), unfolding(detection::specs::Decided::rows_counted))]
 fn rows_counted(
     s: PredictorCorrector,
     r: Reading,
@@ -40,6 +42,7 @@ fn rows_counted(
 }
 
 // What a verdict does to the state.
+#[tactic(auto, unfolding(detection::specs::Decided::after_rows))]
 fn after(
     s: PredictorCorrector,
     r: Reading,
@@ -69,11 +72,12 @@ fn after(
 }
 
 // The same for an outcome: a refusal leaves the state as it came.
+#[tactic(auto, unfolding(detection::specs::Steps::state_rows))]
 fn state_after(
     s: PredictorCorrector,
     r: Reading,
     l: LastDescriptor,
-    outcome: Outcome,
+    outcome: Result<Verdict, Refusal>,
     point: &[f32],
     newest_expected: [f32; 16],
 ) -> PredictorCorrector
@@ -81,15 +85,15 @@ fn state_after(
     ensures { result ≡ Steps.state_rows s r l point.now newest_expected outcome }
 {
     match outcome {
-        Outcome::Accepted(verdict) => after(s, r, l, verdict, point, newest_expected),
-        Outcome::Refused(_) => s,
+        Ok(verdict) => after(s, r, l, verdict, point, newest_expected),
+        Err(_) => s,
     }
 }
 
 // The last of the entries that exist; a new one past the end.
 fn last_entry(list: [Deviation; 16], base: usize) -> Deviation
-    ensures fact_1 { result ≡ get_or list (base - 1) (fresh zero64) }
-    ensures fact_2 { length list ≡ 16 }
+    ensures entry { result ≡ get_or list (base - 1) (fresh zero64) }
+    ensures list_long { length list ≡ 16 }
 {
     let y = candidate::last_place(base);
     if y < 16 {
@@ -98,10 +102,11 @@ fn last_entry(list: [Deviation; 16], base: usize) -> Deviation
     Deviation::create(0.0, 0.0, 0.0, 0.0, 0)
 }
 
+#[tactic(auto, unfolding(predictorcorrector::specs::State::standing))]
 fn standing_of(s: PredictorCorrector) -> Standing
-    ensures fact_1 { result ≡ State.standing s }
-    ensures fact_2 { length s.deviations_actual ≡ 16 }
-    ensures fact_3 { length s.deviations_expected ≡ 16 }
+    ensures standing { result ≡ State.standing s }
+    ensures actual_long { length s.deviations_actual ≡ 16 }
+    ensures expected_long { length s.deviations_expected ≡ 16 }
 {
     let base = s.base_dimension as usize;
     let basic_thresholder = s.basic_thresholder;
@@ -123,52 +128,20 @@ pub fn detect_and_modify(
     s: PredictorCorrector,
     r: Reading,
     l: LastDescriptor,
-    point: &[f32],
-    scale: &[f32],
-    shift: &[f32],
-    difference_deviations: &[f32],
-    last_expected: &[f32],
-    last_anomalous: &[f32],
-    high: &[f64],
-    low: &[f64],
-    median: &[f32],
-    ideal_high: &[f64],
-    ideal_low: &[f64],
-    neighbours: &[f32],
+    b: Lent,
     expected: &mut [f32],
     out_high: &mut [f64],
     out_low: &mut [f64],
 ) -> Judgment
-    ensures { Judged.Judged s r l (lent point.now scale.now shift.now difference_deviations.now
-        last_expected.now last_anomalous.now high.now low.now median.now
-        ideal_high.now ideal_low.now neighbours.now) result expected.old out_high.old
-        out_low.old expected.new out_high.new out_low.new }
+    ensures { Judged.Judged s r l (lists_of b.entry) result expected.old out_high.old out_low.old
+        expected.new out_high.new out_low.new }
 {
-    let decision = detection::judge(
-        standing_of(s),
-        r,
-        l,
-        point,
-        scale,
-        shift,
-        difference_deviations,
-        last_expected,
-        last_anomalous,
-        high,
-        low,
-        median,
-        ideal_high,
-        ideal_low,
-        neighbours,
-        expected,
-        out_high,
-        out_low,
-    );
+    let decision = detection::judge(standing_of(s), r, l, b, expected, out_high, out_low);
     let outcome = decision.outcome;
     let newest_expected = decision.newest_expected;
     Judgment {
         outcome,
         relative_index: decision.relative_index,
-        state: state_after(s, r, l, outcome, point, newest_expected),
+        state: state_after(s, r, l, outcome, b.point, newest_expected),
     }
 }

@@ -1,6 +1,7 @@
 -- The entries of a stored list changed in place, one after the other: the entry that is read is still as it came, so the loop leaves the changed list. Assumes nothing.
-use Rattle.std.proofs.Common.{◌≡◌, ℕ, zero, suc, ◌+◌, ◌-◌, ◌*◌, ◌<◌, ◌≤◌, Bool, true, false, cond, ◌&&◌, T, eqb, ltb, leb, List, [], ◌∷◌, ◌++◌, length, get_or, take, drop, set, replicate, sym, refl, ap, ◌∙◌, not-suc-le-zero, add-zero, add_assoc, add-one, arith, length-set, get_or-drop, get_or-set_other, get_or-set_same, drop-drop, drop_at, eq-eqb, ne_eqb, eqb-true, le-leb, leb-false, leb-true}
+use Rattle.std.proofs.Common.{◌≡◌, ℕ, zero, suc, ◌+◌, ◌-◌, ◌*◌, ◌<◌, ◌≤◌, Bool, true, false, cond, ◌&&◌, T, eqb, ltb, leb, List, [], ◌∷◌, ◌++◌, length, get_or, take, drop, set, replicate, sym, refl, ap, ◌∙◌, not-suc-le-zero, add-zero, add_assoc, add-one, arith, length-set, get_or-drop, get_or-set_other, get_or-set_same, drop-drop, drop_at, eq-eqb, ne_eqb, eqb-true, le-leb, leb-false, leb-true, Ok, Err}
 use lib.ListN.{get_or-eq_default}
+use Rattle.std.specs.List.{list_all, range_with_len}
 use lib.Ieee.{Float, binary32, fits}
 use lib.Ieee as Ieee
 use borrow.Author.Tests.{eqb-false}
@@ -13,9 +14,8 @@ use Rattle.basicthresholder.specs.declared.BasicThresholder.{BasicThresholder}
 use Rattle.predictorcorrector.specs.State.{state, with_thresholder, with_run, existing, state_counts_ok, longer_run, run_ended, auto_adjusted, candidate_counted, height_score, update_score, standing}
 use Rattle.predictorcorrector.specs.declared.PredictorCorrector.{PredictorCorrector}
 use Rattle.predictorcorrector.specs.Lists.{changed, stepped, row_fits, first_countable, list_countable}
-use Rattle.predictorcorrector.proofs.Rows.{countable_next, changed_at, stepped_at, none_left, row_fits_lem, lists_ok}
+use Rattle.predictorcorrector.proofs.Rows.{countable_next, countable_end, changed_at, stepped_at, none_left, row_fits_lem, lists_ok}
 use Rattle.types.specs.declared.Refusal.TheVariants.{Range, Length, Count}
-use Rattle.types.specs.declared.Answer.TheVariants.{Done, Refused}
 use Rattle.types.specs.Codes.{is_height}
 use Rattle.types.specs.declared.ScoringStrategy.{ScoringStrategy}
 use Rattle.descriptor.specs.declared.Reading.{Reading}
@@ -23,7 +23,7 @@ use Rattle.descriptor.specs.Checks.{range_ok, sizes_ok}
 use Rattle.descriptor.proofs.Bounds.{sizes}
 use Rattle.basicthresholder.specs.Updates.{counts_ok, updated, update, update_both, update_primary, both_counted, primary_counted}
 use Rattle.descriptor.proofs.Bounds.{both}
-use Rattle.layout.specs.Places.{deviation_length, state_length, auto_adjust_at, run_length_at, base_dimension_at, actual_at, expected_at, list_length, reading_length, last_length}
+use Rattle.layout.specs.Places.{deviation_length, state_length, auto_adjust_at, run_length_at, base_dimension_at, actual_at, expected_at, list_length}
 use Rattle.layout.specs.Numbers.{le4, le8, f64_at, i32_at, flag_at, f32_bytes, f64_bytes, i32_bytes, flag_byte, flag_bytes, bytes8, bytes4, pasted, written_of}
 use Rattle.layout.specs.States.{joined, deviation_at, encode_deviation, encode_thresholder, decode_thresholder}
 use Rattle.layout.specs.Chain.{state_codes_ok, entries, filled, empty_list, list_at, list_over, encode_head, encode_state_over, decode_state}
@@ -33,6 +33,7 @@ use Rattle.layout.specs.Parts.{most, head, last_of, row_kept_over, Taking, score
 use Rattle.layout.proofs.Laws.{deviation_length_lem}
 use Rattle.layout.proofs.Widened.{narrow_same}
 use Rattle.layout.proofs.Pasting.{pasted_length, pasted_split, pasted_onwards, set_next, front}
+use Rattle.types.specs.Refusals.{Answer}
 
 -- ---- what is read behind a paste
 drop_behind : (xs : List ℕ) (at : ℕ) (ys : List ℕ) (j : ℕ) → at ≤ length xs → at + length ys ≤ j → drop j (pasted xs at ys) ≡ drop j xs
@@ -96,7 +97,7 @@ module _ {A : Type 0} (f : ℕ → A) (d : A) where
           let q = eqb-false i n e in
           get_or-set_other (filled f n ds) n i (f n) d q ∙ less (omega arith) (omega arith)
 
--- ---- one turn of the loop, for the list ds that it leaves: d is what it read, v what it wrote.
+-- ---- what the entries hold
 module _ (xs : List ℕ) (at n : ℕ) where
   pub list_length_lem : length (list_at xs at n) ≡ 16
   unfolding list_at empty_list
@@ -106,33 +107,26 @@ module _ (xs : List ℕ) (at n : ℕ) where
   unfolding list_at empty_list
   entry few i h = filled_at (λ (k : ℕ). deviation_at xs (at + deviation_length * k)) (fresh zero64) n i (replicate 16 (fresh zero64)) h (omega arith)
 
-module _ (xs : List ℕ) (at n : ℕ) (few : n ≤ 16) (i : ℕ) (h : i < n) (long : at + list_length ≤ length xs) where
-  module _ (ds : List Deviation) (out after : List ℕ) (d v : Deviation) (was : out ≡ list_over xs at ds i) (read : d ≡ deviation_at out (at + deviation_length * i)) (put : after ≡ pasted out (at + deviation_length * i) (encode_deviation v)) where
-    read_is : d ≡ get_or (list_at xs at n) i (fresh zero64)
-    read_is = read ∙ ap (λ (l : List ℕ). deviation_at l (at + deviation_length * i)) was ∙ over_behind xs at ds i (at + deviation_length * i) (omega arith) (omega arith) ∙ sym (entry xs at n few i h)
-
-    turn : v ≡ get_or ds i (fresh zero64) → after ≡ list_over xs at ds (i + 1)
-    unfolding list_over
-    turn e = put ∙ rw (add-one, was, e)
-
-  pub settled_turn : (out after : List ℕ) (d : Deviation) → out ≡ list_over xs at (list_at xs at n) i → d ≡ deviation_at out (at + deviation_length * i) → after ≡ pasted out (at + deviation_length * i) (encode_deviation d)
-      → after ≡ list_over xs at (list_at xs at n) (i + 1)
-  settled_turn out after d was read put = turn (list_at xs at n) out after d d was read put (read_is (list_at xs at n) out after d d was read put)
-
-  pub changed_turn : (f : Deviation → Deviation) (out after : List ℕ) (d v : Deviation) → out ≡ list_over xs at (changed f n (list_at xs at n)) i → d ≡ deviation_at out (at + deviation_length * i) → v ≡ f d
-      → after ≡ pasted out (at + deviation_length * i) (encode_deviation v) → after ≡ list_over xs at (changed f n (list_at xs at n)) (i + 1)
-  changed_turn f out after d v was read e put =
-      let ds = changed f n (list_at xs at n) in
+module _ (xs : List ℕ) (at n : ℕ) (few : n ≤ 16) (i : ℕ) (h : i < n) where
+  pub changed_entry : (f : Deviation → Deviation) → get_or (changed f n (list_at xs at n)) i (fresh zero64) ≡ f (deviation_at xs (at + deviation_length * i))
+  changed_entry f =
       let s = list_length_lem xs at n in
-      turn ds out after d v was read put (e ∙ ap f (read_is ds out after d v was read put) ∙ sym (changed_at f (fresh zero64) n i (list_at xs at n) h (omega arith)))
+      changed_at f (fresh zero64) n i (list_at xs at n) h (omega arith) ∙ ap f (entry xs at n few i h)
 
-  pub counted_turn : (f : Deviation → Float → Deviation) (row : List Float) (x₀ : Float) (out after : List ℕ) (d v : Deviation) (x : Float) → n ≤ length row
-      → out ≡ list_over xs at (stepped f n (list_at xs at n) row) i → d ≡ deviation_at out (at + deviation_length * i) → x ≡ get_or row i x₀ → v ≡ f d x
-      → after ≡ pasted out (at + deviation_length * i) (encode_deviation v) → after ≡ list_over xs at (stepped f n (list_at xs at n) row) (i + 1)
-  counted_turn f row x₀ out after d v x wide was read q e put =
-      let ds = stepped f n (list_at xs at n) row in
+  pub stepped_entry : (f : Deviation → Float → Deviation) (row : List Float) (x₀ : Float) → n ≤ length row
+      → get_or (stepped f n (list_at xs at n) row) i (fresh zero64) ≡ f (deviation_at xs (at + deviation_length * i)) (get_or row i x₀)
+  stepped_entry f row x₀ wide =
       let s = list_length_lem xs at n in
-      turn ds out after d v was read put (e ∙ (λ t. f (read_is ds out after d v was read put t) (q t)) ∙ sym (stepped_at f (fresh zero64) x₀ n i (list_at xs at n) row h (omega arith) (omega arith)))
+      stepped_at f (fresh zero64) x₀ n i (list_at xs at n) row h (omega arith) (omega arith) ∙ ap (λ (d : Deviation). f d (get_or row i x₀)) (entry xs at n few i h)
+
+-- ---- one turn of the loop, for the list ds that it leaves
+module _ (xs : List ℕ) (at i : ℕ) (ds : List Deviation) (out : List ℕ) (was : out ≡ list_over xs at ds i) where
+  pub still : (d : Deviation) → at + deviation_length * i ≤ length xs → d ≡ deviation_at out (at + deviation_length * i) → d ≡ deviation_at xs (at + deviation_length * i)
+  still d h read = read ∙ ap (λ (l : List ℕ). deviation_at l (at + deviation_length * i)) was ∙ over_behind xs at ds i (at + deviation_length * i) h (omega arith)
+
+  pub turn : (after : List ℕ) (v : Deviation) → v ≡ get_or ds i (fresh zero64) → after ≡ pasted out (at + deviation_length * i) (encode_deviation v) → after ≡ list_over xs at ds (i + 1)
+  unfolding list_over
+  turn after v e put = put ∙ rw (add-one, was, e)
 
 -- ---- a list behind what is put before it
 filled_same : {A : Type 0} (f g : ℕ → A) → ((k : ℕ) → f k ≡ g k) → (n : ℕ) (ds : List A) → filled f n ds ≡ filled g n ds
@@ -374,7 +368,7 @@ pub record Fitting (xs : List ℕ) (r : Reading) (lengths : Bool) : Type 0 where
   pub based : r.base_dimension ≡ le4 xs base_dimension_at
   pub fit : lengths ≡ true
 
-passed : (b a c d e f : Bool) → cond b (cond a (cond c (cond d (cond e Done (Refused Count)) (Refused Length)) (Refused Range)) (cond f (Refused Length) (Refused Range))) (Refused Range) ≡ Done
+passed : (b a c d e f : Bool) → cond {A = Answer} b (cond a (cond c (cond d (cond e (Ok tt) (Err Count)) (Err Length)) (Err Range)) (cond f (Err Length) (Err Range))) (Err Range) ≡ Ok tt
     → (a ≡ true) × (c ≡ true) × (d ≡ true) × (e ≡ true)
 passed true true true true true f h = (refl, refl, refl, refl)
 passed true true true true false f h = absurd (let z : ◌≡◌ {A = ℕ} 0 1 = cc in omega arith)
@@ -384,7 +378,7 @@ passed true false c d e true h = absurd (let z : ◌≡◌ {A = ℕ} 0 1 = cc in
 passed true false c d e false h = absurd (let z : ◌≡◌ {A = ℕ} 0 1 = cc in omega arith)
 passed false a c d e f h = absurd (let z : ◌≡◌ {A = ℕ} 0 1 = cc in omega arith)
 
-pub fitting : (xs : List ℕ) (r : Reading) (lengths : Bool) → reading_answer xs r lengths ≡ Done → Fitting xs r lengths
+pub fitting : (xs : List ℕ) (r : Reading) (lengths : Bool) → reading_answer xs r lengths ≡ Ok tt → Fitting xs r lengths
 unfolding reading_answer range_ok decode_state
 fitting xs r lengths h =
     let p = passed (state_codes_ok xs) (eqb (length xs) state_length) (range_ok r.shingle_size r.base_dimension (decode_state xs).base_dimension) lengths (state_counts_ok (decode_state xs)) (sizes_ok r.shingle_size r.base_dimension) h in
@@ -397,14 +391,8 @@ pub base_is : (xs : List ℕ) → le4 xs base_dimension_at ≡ (decode_state xs)
 unfolding decode_state
 base_is xs = refl
 
-pub all_three : (a b c : ℕ) (d : Bool) → (eqb a state_length && (eqb b reading_length && (eqb c last_length && d))) ≡ true → (a ≡ state_length) × (b ≡ reading_length) × (c ≡ last_length)
-all_three a b c d h =
-    let p = both (eqb a state_length) _ h in
-    let q = both (eqb b reading_length) _ p.1 in
-    (eqb-true a state_length p.0, eqb-true b reading_length q.0, eqb-true c last_length (both (eqb c last_length) d q.1).0)
-
 -- ---- update_score by its parts. Its score is an `f32`, so narrowing it changes nothing
-module _ (t : BasicThresholder) (ok : counts_ok t ≡ true) (strategy : ScoringStrategy) (score corrected : Float) (last : ScoringStrategy) (before : Float) (single : T (fits binary32 score)) where
+module _ (t : BasicThresholder) (ok : counts_ok t ≡ true) (strategy : ScoringStrategy) (score corrected : Float) (last : ScoringStrategy) (before : Float) (single : T (fits binary32 (primary_score strategy score))) where
   abbrev ByParts : Type 0
   ByParts =
       scored t (primary_score strategy score) (primary_score strategy score) (second_after strategy t.secondary_deviation (Ieee.sub binary32 corrected (height_score last before)))
@@ -416,7 +404,7 @@ module _ (t : BasicThresholder) (ok : counts_ok t ≡ true) (strategy : ScoringS
 
   by_distance : is_height strategy ≡ false → ByParts
   unfolding scored primary_score second_after update_score update_primary updated primary_counted
-  by_distance h = rw (h, ok, narrow_same score single)
+  by_distance h = rw (h, ok, narrow_same score (rw h at single))
 
   pub by_parts : ByParts
   by_parts = go (is_height strategy) refl
@@ -427,12 +415,22 @@ module _ (t : BasicThresholder) (ok : counts_ok t ≡ true) (strategy : ScoringS
 
 -- ---- refusal 6's test on the bytes
 module _ (xs : List ℕ) (at n : ℕ) (few : n ≤ 16) (long : at + list_length ≤ length xs) where
-  pub counts_next : (i : ℕ) → i < n → first_countable (n - i) (drop i (list_at xs at n)) ≡ (countable (i32_at xs (at + deviation_length * i + 32)) && first_countable (n - (i + 1)) (drop (i + 1) (list_at xs at n)))
+  counts_next : (i : ℕ) → i < n → first_countable (n - i) (drop i (list_at xs at n)) ≡ (countable (i32_at xs (at + deviation_length * i + 32)) && first_countable (n - (i + 1)) (drop (i + 1) (list_at xs at n)))
   unfolding deviation_at
   counts_next i h =
       let s = list_length_lem xs at n in
       countable_next n i (list_at xs at n) (fresh zero64) h (omega arith)
       ∙ ap (λ (d : Deviation). countable d.count && first_countable (n - (i + 1)) (drop (i + 1) (list_at xs at n))) (entry xs at n few i h)
+
+  abbrev taken_at : ℕ → Bool
+  taken_at k = countable (i32_at xs (at + deviation_length * k + 32))
+
+  counts_from : (m i : ℕ) → i + m ≡ n → list_all taken_at (range_with_len i m) ≡ first_countable (n - i) (drop i (list_at xs at n))
+  counts_from zero i e = sym (countable_end n i (list_at xs at n) (omega arith))
+  counts_from (suc m) i e = ap (λ (b : Bool). taken_at i && b) (counts_from m (i + 1) (omega arith)) ∙ sym (counts_next i (omega arith))
+
+  pub counts_all : list_all taken_at (range_with_len 0 n) ≡ first_countable n (list_at xs at n)
+  counts_all = let whole : n - 0 ≡ n = omega arith in counts_from n 0 (omega arith) ∙ ap (λ (m : ℕ). first_countable m (list_at xs at n)) whole
 
 cap_is : (auto : Bool) (base : ℕ) → cond (leb (existing auto base) 16) (existing auto base) 16 ≡ entries auto base
 unfolding entries

@@ -1,6 +1,6 @@
-pub mod Signs
 pub mod Pasting
 pub mod Laws
+pub mod Words
 pub mod Rows
 pub mod InPlace
 pub mod Taken

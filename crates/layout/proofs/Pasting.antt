@@ -7,7 +7,6 @@ use Rattle.basicthresholder.specs.declared.BasicThresholder.{BasicThresholder}
 use Rattle.layout.specs.Places.{deviation_length, thresholder_length, auto_threshold_at, verdict_length}
 use Rattle.layout.specs.Numbers.{bytes4, bytes8, f32_bytes, f64_bytes, i32_bytes, flag_byte, flag_bytes, pasted}
 use Rattle.layout.specs.Readings.{verdict_bytes}
-use Rattle.layout.specs.Parts.{singles, doubles}
 use Rattle.layout.specs.States.{joined, encode_deviation, encode_thresholder}
 
 -- ---- one paste after another.
@@ -71,47 +70,47 @@ set_next xs at ys b h =
     let size = pasted_length xs at ys (omega arith) in
     set_is (pasted xs at ys) (at + length ys) b (omega arith) ∙ pasted_next xs at ys (b ∷ []) (omega arith)
 
-pub four : (xs : List ℕ) (at a b c d : ℕ) → at + 4 ≤ length xs → set (set (set (set xs at a) (at + 1) b) (at + 2) c) (at + 3) d ≡ pasted xs at (a ∷ b ∷ c ∷ d ∷ [])
-four xs at a b c d h =
-    ap (λ (l : List ℕ). set (set (set l (at + 1) b) (at + 2) c) (at + 3) d) (set_is xs at a (omega arith))
-    ∙ ap (λ (l : List ℕ). set (set l (at + 2) c) (at + 3) d) (set_next xs at (a ∷ []) b (omega arith))
-    ∙ ap (λ (l : List ℕ). set l (at + 3) d) (set_next xs at (a ∷ b ∷ []) c (omega arith))
-    ∙ set_next xs at (a ∷ b ∷ c ∷ []) d (omega arith)
-
 -- ---- what is put over a list, part by part. A place is the length of what stands before.
 module _ (xs : List ℕ) where
   pub deviation_pasted : (at : ℕ) (d : Deviation) → at + deviation_length ≤ length xs
-      → pasted (pasted (pasted xs at (doubles d.discount d.weight)) (at + 16) (doubles d.sum_squared d.sum)) (at + 32) (i32_bytes d.count)
+      → pasted (pasted (pasted (pasted (pasted xs at (f64_bytes d.discount)) (at + 8) (f64_bytes d.weight)) (at + 16) (f64_bytes d.sum_squared)) (at + 24) (f64_bytes d.sum)) (at + 32) (i32_bytes d.count)
       ≡ pasted xs at (encode_deviation d)
-  unfolding encode_deviation joined doubles f64_bytes i32_bytes bytes8 bytes4
+  unfolding encode_deviation joined f64_bytes i32_bytes bytes8 bytes4
   deviation_pasted at d h =
-      ap (λ (l : List ℕ). pasted l (at + 32) (i32_bytes d.count)) (pasted_next xs at (doubles d.discount d.weight) (doubles d.sum_squared d.sum) (omega arith))
-      ∙ pasted_next xs at (doubles d.discount d.weight ++ doubles d.sum_squared d.sum) (i32_bytes d.count) (omega arith)
+      let a = f64_bytes d.discount in
+      let b = f64_bytes d.weight in
+      let c = f64_bytes d.sum_squared in
+      let e = f64_bytes d.sum in
+      let n = i32_bytes d.count in
+      ap (λ (l : List ℕ). pasted (pasted (pasted l (at + 16) c) (at + 24) e) (at + 32) n) (pasted_next xs at a b (omega arith))
+      ∙ ap (λ (l : List ℕ). pasted (pasted l (at + 24) e) (at + 32) n) (pasted_next xs at (a ++ b) c (omega arith))
+      ∙ ap (λ (l : List ℕ). pasted l (at + 32) n) (pasted_next xs at ((a ++ b) ++ c) e (omega arith))
+      ∙ pasted_next xs at (((a ++ b) ++ c) ++ e) n (omega arith)
 
   pub thresholder_pasted : (s : BasicThresholder) → thresholder_length ≤ length xs
-      → pasted (pasted (pasted (set (pasted (pasted (pasted (pasted (pasted (pasted xs
-      0 (f32_bytes s.elasticity)) 4 (i32_bytes s.count)) 8 (singles s.score_differencing s.last_score))
+      → pasted (pasted (pasted (pasted (pasted (pasted (set (pasted (pasted (pasted (pasted (pasted (pasted (pasted xs
+      0 (f32_bytes s.elasticity)) 4 (i32_bytes s.count)) 8 (f32_bytes s.score_differencing)) 12 (f32_bytes s.last_score))
       16 (encode_deviation s.primary_deviation)) 52 (encode_deviation s.secondary_deviation)) 88 (encode_deviation s.threshold_deviation))
-      auto_threshold_at (flag_byte s.auto_threshold)) 125 (singles s.absolute_threshold s.absolute_score_fraction))
-      133 (singles s.lower_threshold s.factor_adjustment_threshold)) 141 (singles s.initial_threshold s.z_factor)
+      auto_threshold_at (flag_byte s.auto_threshold)) 125 (f32_bytes s.absolute_threshold)) 129 (f32_bytes s.absolute_score_fraction))
+      133 (f32_bytes s.lower_threshold)) 137 (f32_bytes s.factor_adjustment_threshold)) 141 (f32_bytes s.initial_threshold)) 145 (f32_bytes s.z_factor)
       ≡ pasted xs 0 (encode_thresholder s)
-  unfolding encode_thresholder encode_deviation joined singles f32_bytes f64_bytes i32_bytes flag_bytes bytes8 bytes4
+  unfolding encode_thresholder encode_deviation joined f32_bytes f64_bytes i32_bytes flag_bytes bytes8 bytes4
   thresholder_pasted s h =
-      let first = f32_bytes s.elasticity ∷ i32_bytes s.count ∷ singles s.score_differencing s.last_score
+      let first = f32_bytes s.elasticity ∷ i32_bytes s.count ∷ f32_bytes s.score_differencing ∷ f32_bytes s.last_score
       ∷ encode_deviation s.primary_deviation ∷ encode_deviation s.secondary_deviation ∷ encode_deviation s.threshold_deviation ∷ [] in
       let flag = flag_byte s.auto_threshold in
-      let a = singles s.absolute_threshold s.absolute_score_fraction in
-      let b = singles s.lower_threshold s.factor_adjustment_threshold in
-      let c = singles s.initial_threshold s.z_factor in
-      ap (λ (l : List ℕ). pasted (pasted (pasted (set l auto_threshold_at flag) 125 a) 133 b) 141 c) (pasted_all_lem xs 0 first (omega arith))
-      ∙ ap (λ (l : List ℕ). pasted (pasted (pasted l 125 a) 133 b) 141 c) (set_next xs 0 (joined first) flag (omega arith))
-      ∙ pasted_onwards xs (joined first ++ (flag ∷ [])) (a ∷ b ∷ c ∷ []) (omega arith)
+      let rest = f32_bytes s.absolute_threshold ∷ f32_bytes s.absolute_score_fraction ∷ f32_bytes s.lower_threshold
+      ∷ f32_bytes s.factor_adjustment_threshold ∷ f32_bytes s.initial_threshold ∷ f32_bytes s.z_factor ∷ [] in
+      ap (λ (l : List ℕ). pasted_all (set l auto_threshold_at flag) 125 rest) (pasted_all_lem xs 0 first (omega arith))
+      ∙ ap (λ (l : List ℕ). pasted_all l 125 rest) (set_next xs 0 (joined first) flag (omega arith))
+      ∙ pasted_onwards xs (joined first ++ (flag ∷ [])) rest (omega arith)
 
   pub verdict_pasted : (kind mode : ℕ) (t g : Float) (n : ℤ) → length xs ≡ verdict_length
-      → pasted (pasted (set (set xs 0 kind) 1 mode) 2 (singles t g)) 10 (i32_bytes n) ≡ verdict_bytes kind mode t g n
-  unfolding verdict_bytes joined singles f32_bytes i32_bytes bytes4
+      → pasted (pasted (pasted (set (set xs 0 kind) 1 mode) 2 (f32_bytes t)) 6 (f32_bytes g)) 10 (i32_bytes n) ≡ verdict_bytes kind mode t g n
+  unfolding verdict_bytes joined f32_bytes i32_bytes bytes4
   verdict_pasted kind mode t g n h =
-      ap (λ (l : List ℕ). pasted (pasted (set l 1 mode) 2 (singles t g)) 10 (i32_bytes n)) (set_is xs 0 kind (omega arith))
-      ∙ ap (λ (l : List ℕ). pasted (pasted l 2 (singles t g)) 10 (i32_bytes n)) (set_next xs 0 (kind ∷ []) mode (omega arith))
-      ∙ pasted_onwards xs (kind ∷ mode ∷ []) (singles t g ∷ i32_bytes n ∷ []) (omega arith)
+      let rest = f32_bytes t ∷ f32_bytes g ∷ i32_bytes n ∷ [] in
+      ap (λ (l : List ℕ). pasted_all (set l 1 mode) 2 rest) (set_is xs 0 kind (omega arith))
+      ∙ ap (λ (l : List ℕ). pasted_all l 2 rest) (set_next xs 0 (kind ∷ []) mode (omega arith))
+      ∙ pasted_onwards xs (kind ∷ mode ∷ []) rest (omega arith)
       ∙ pasted_whole xs (verdict_bytes kind mode t g n) (omega arith)

@@ -1,20 +1,17 @@
 -- The chain's stored state: the thresholder, auto adjust in 1 byte, run length and base dimension in 4 each, then the two lists of statistics with room for 16.
 -- Of a list only the entries that exist are read and written.
-use Rattle.std.specs.Prelude.{ℕ, zero, suc, ◌+◌, ◌*◌, Bool, true, false, cond, ◌&&◌, List, [], ◌∷◌, length, replicate, ◌==◌, nat_le, slice_index, slice_index_or, slice_set}
+use Rattle.std.specs.Prelude.{ℕ, zero, suc, ◌+◌, ◌*◌, Bool, true, false, cond, ◌&&◌, List, [], ◌∷◌, length, replicate, ◌==◌, nat_le, slice_index, slice_index_or, slice_set, Result, Ok, Err}
 use Rattle.types.specs.declared.Refusal.{Refusal}
 use Rattle.types.specs.declared.Refusal.TheVariants.{Range, Length}
-use Rattle.types.specs.declared.Answer.TheVariants as Answers
 use Rattle.deviation.specs.declared.Deviation.{Deviation}
 use Rattle.deviation.specs.Statistics.{fresh}
 use Rattle.deviation.specs.Const.{zero64}
 use Rattle.predictorcorrector.specs.declared.PredictorCorrector.{PredictorCorrector}
 use Rattle.predictorcorrector.specs.State.{state, new, standing}
 use Rattle.layout.specs.Places.{deviation_length, auto_threshold_at, state_length, auto_adjust_at, run_length_at, base_dimension_at, actual_at, expected_at}
-use Rattle.layout.specs.declared.StateRead.{StateRead}
-use Rattle.layout.specs.declared.StandingRead.{StandingRead}
-use Rattle.layout.specs.declared.StandingRead.TheVariants.{Read, Refused}
 use Rattle.layout.specs.Numbers.{le4, flag_at, bytes4, flag_bytes, pasted}
 use Rattle.layout.specs.States.{joined, deviation_at, encode_deviation, decode_thresholder, encode_thresholder}
+use Rattle.predictorcorrector.specs.declared.Standing.{Standing}
 
 -- How many entries of the lists exist: the first base (at most 16) with auto adjust, none without it.
 unfoldable pub entries : Bool → ℕ → ℕ
@@ -60,13 +57,9 @@ encode_state_over xs s =
 unfoldable pub state_codes_ok : List ℕ → Bool
 state_codes_ok xs = cond (length xs == state_length) (nat_le (slice_index xs auto_threshold_at) 1 && nat_le (slice_index xs auto_adjust_at) 1) true
 
--- What stands beside a refusal: a state that means nothing, as beside a refused construction.
-unfoldable pub unread : Refusal → StateRead
-unread why = record { answer = Answers.Refused why; state = (new zero64 false 0).state }
-
 -- What is read of a slice: 3 for another length, then 2 for a yes/no byte above 1.
-unfoldable pub read_state : List ℕ → StateRead
-read_state xs = cond (length xs == state_length) (cond (state_codes_ok xs) (record { answer = Answers.Done; state = decode_state xs }) (unread Range)) (unread Length)
+unfoldable pub read_state : List ℕ → Result PredictorCorrector Refusal
+read_state xs = cond (length xs == state_length) (cond (state_codes_ok xs) (Ok (decode_state xs)) (Err Range)) (Err Length)
 
-unfoldable pub read_standing : List ℕ → StandingRead
-read_standing xs = cond (length xs == state_length) (cond (state_codes_ok xs) (Read (standing (decode_state xs))) (Refused Range)) (Refused Length)
+unfoldable pub read_standing : List ℕ → Result Standing Refusal
+read_standing xs = cond (length xs == state_length) (cond (state_codes_ok xs) (Ok (standing (decode_state xs))) (Err Range)) (Err Length)

@@ -1,9 +1,7 @@
 -- The bytes of a stored state after a call. A reading: its scores enter the thresholder, and the run and the two lists change. A state that the reading does not fit,
 -- that has a yes/no byte above 1, or that refusal 6 is of, is left alone, whole.
-use Rattle.std.specs.Prelude.{ℕ, Bool, cond, ◌&&◌, List, length, ◌==◌, nat_le, Float}
+use Rattle.std.specs.Prelude.{ℕ, Bool, cond, ◌&&◌, List, length, ◌==◌, nat_le, Float, Ok, Err}
 use Rattle.types.specs.declared.Refusal.TheVariants.{Range, Length, Count}
-use Rattle.types.specs.declared.Answer.{Answer}
-use Rattle.types.specs.declared.Answer.TheVariants.{Done, Refused}
 use Rattle.descriptor.specs.Checks.{sizes_ok, range_ok}
 use Rattle.descriptor.specs.declared.Reading.{Reading}
 use Rattle.descriptor.specs.declared.LastDescriptor.{LastDescriptor}
@@ -12,6 +10,7 @@ use Rattle.basicthresholder.specs.declared.BasicThresholder.{BasicThresholder}
 use Rattle.predictorcorrector.specs.declared.PredictorCorrector.{PredictorCorrector}
 use Rattle.layout.specs.Places.{state_length}
 use Rattle.layout.specs.Chain.{state_codes_ok, decode_state, encode_state_over}
+use Rattle.types.specs.Refusals.{Answer}
 
 -- The smallest refusal of a reading that the bytes xs meet: their yes/no bytes, and its sizes, as far as the state can be read; lengths, of which the caller tests the
 -- others; counts.
@@ -20,10 +19,10 @@ reading_answer xs r lengths =
     cond (state_codes_ok xs)
     (cond (length xs == state_length)
     (cond (range_ok r.shingle_size r.base_dimension (decode_state xs).base_dimension)
-    (cond lengths (cond (state_counts_ok (decode_state xs)) Done (Refused Count)) (Refused Length))
-    (Refused Range))
-    (cond (sizes_ok r.shingle_size r.base_dimension) (Refused Length) (Refused Range)))
-    (Refused Range)
+    (cond lengths (cond (state_counts_ok (decode_state xs)) (Ok tt) (Err Count)) (Err Length))
+    (Err Range))
+    (cond (sizes_ok r.shingle_size r.base_dimension) (Err Length) (Err Range)))
+    (Err Range)
 
 -- The point has at least as many numbers as the base.
 abbrev pub row_in_point : Reading → ℕ → Bool
@@ -35,8 +34,8 @@ rows_fit r newest expected = nat_le r.base_dimension newest && nat_le r.base_dim
 
 -- The bytes xs after a call that leaves the state s; a refused one leaves them as they came.
 unfoldable pub stored_by : Answer → List ℕ → PredictorCorrector → List ℕ
-stored_by Done xs s = encode_state_over xs s
-stored_by (Refused why) xs s = xs
+stored_by (Ok _) xs s = encode_state_over xs s
+stored_by (Err why) xs s = xs
 
 -- The run of a stored state; 0 of a slice of another length.
 unfoldable pub stored_run : List ℕ → ℕ

@@ -1,5 +1,5 @@
 -- What this crate's private functions promise each other. A reader need not read it: no public contract mentions it.
-use Rattle.std.specs.Prelude.{◌≡◌, ℕ, ◌+◌, ◌-◌, ◌*◌, ◌≤◌, Bool, true, cond, ◌&&◌, List, [], ◌++◌, length, ◌==◌, nat_le, Float}
+use Rattle.std.specs.Prelude.{◌≡◌, ℕ, ◌+◌, ◌-◌, ◌*◌, ◌≤◌, Bool, true, cond, ◌&&◌, List, [], length, ◌==◌, nat_le, Float}
 use Rattle.types.specs.Codes.{is_height}
 use Rattle.types.specs.declared.ScoringStrategy.{ScoringStrategy}
 use Rattle.util.specs.Util.{minf32}
@@ -9,19 +9,11 @@ use Rattle.deviation.specs.declared.Deviation.{Deviation}
 use Rattle.basicthresholder.specs.Const.{two32}
 use Rattle.basicthresholder.specs.Updates.{with_counted, counted_over}
 use Rattle.basicthresholder.specs.declared.BasicThresholder.{BasicThresholder}
-use Rattle.predictorcorrector.specs.State.{state, update_score, state_counts_ok}
-use Rattle.predictorcorrector.specs.declared.PredictorCorrector.{PredictorCorrector}
+use Rattle.predictorcorrector.specs.State.{state, state_counts_ok}
 use Rattle.layout.specs.Places.{deviation_length, state_length, base_dimension_at}
-use Rattle.layout.specs.Numbers.{le4, f32_bytes, f64_bytes}
+use Rattle.layout.specs.Numbers.{le4}
 use Rattle.layout.specs.States.{deviation_at}
 use Rattle.layout.specs.Chain.{list_at, list_over, encode_head, decode_state}
-
--- Two floats, one behind the other.
-unfoldable pub singles : Float → Float → List ℕ
-singles a b = f32_bytes a ++ f32_bytes b
-
-unfoldable pub doubles : Float → Float → List ℕ
-doubles a b = f64_bytes a ++ f64_bytes b
 
 -- What stands before the lists, which it does not look at.
 abbrev pub head : BasicThresholder → Bool → ℕ → ℕ → List ℕ
@@ -44,11 +36,7 @@ pub record Taking (xs : List ℕ) : Type 0 where
   pub few : le4 xs base_dimension_at ≤ 16
   pub counts : state_counts_ok (decode_state xs) ≡ true
 
--- The thresholder of a state with a reading's scores entered: `last` is the last descriptor's.
-abbrev pub entering : PredictorCorrector → ScoringStrategy → (score corrected : Float) → ScoringStrategy → (last : Float) → BasicThresholder
-entering s strategy score corrected last_strategy last = update_score s.basic_thresholder strategy score corrected last_strategy last
-
--- The same by its parts: the score that the primary statistic counts, which is the last score too, and the secondary statistic.
+-- A reading's scores entered, by parts: the score that the primary statistic counts, which is the last score too, and the secondary statistic.
 unfoldable pub primary_score : ScoringStrategy → Float → Float
 primary_score strategy score = cond (is_height strategy) (minf32 two32 score) score
 

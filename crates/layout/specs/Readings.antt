@@ -1,26 +1,25 @@
 -- The numbers of a reading, of the descriptor before it, and of a verdict: little-endian, without gaps.
-use Rattle.std.specs.Prelude.{ℕ, Bool, true, cond, ◌&&◌, ◌||◌, List, [], ◌∷◌, length, ℤ, ◌==◌, nat_le, slice_index, Float}
+use Rattle.std.specs.Prelude.{ℕ, Bool, true, cond, ◌&&◌, ◌||◌, List, [], ◌∷◌, length, ℤ, ◌==◌, nat_le, slice_index, Float, Result, Ok, Err}
 use Rattle.types.specs.Codes.{method_of}
 use Rattle.types.specs.declared.ScoringStrategy.{ScoringStrategy}
 use Rattle.types.specs.declared.ScoringStrategy.TheVariants.{EXPECTED_INVERSE_HEIGHT, DISTANCE}
 use Rattle.types.specs.declared.TransformMethod.{TransformMethod}
 use Rattle.types.specs.declared.TransformMethod.TheVariants as Method
-use Rattle.types.specs.declared.MethodCode.{MethodCode}
-use Rattle.types.specs.declared.MethodCode.TheVariants.{Known, Refused}
 use Rattle.descriptor.specs.declared.Reading.{Reading}
 use Rattle.descriptor.specs.declared.LastAnomaly.{LastAnomaly}
 use Rattle.descriptor.specs.declared.LastDescriptor.{LastDescriptor}
 use Rattle.layout.specs.Places.{reading_length, shingle_size_at, reading_base_at, strategy_at, method_at, time_augmented_at, values_seen_at, score_at, corrected_score_at, last_length, last_strategy_at, last_descriptor_score_at, last_threshold_at, has_anomaly_at, anomaly_index_at, anomaly_seen_at, has_attribution_at, anomaly_score_at}
 use Rattle.layout.specs.Numbers.{le4, f32_at, i32_at, flag_at, f32_bytes, i32_bytes}
 use Rattle.layout.specs.States.{joined}
+use Rattle.types.specs.declared.Refusal.{Refusal}
 
 -- What codes mean. Those outside their lists are refused before they are read.
 unfoldable pub strategy_from : ℕ → ScoringStrategy
 strategy_from n = cond (n == 0) EXPECTED_INVERSE_HEIGHT DISTANCE
 
-unfoldable pub method_from : MethodCode → TransformMethod
-method_from (Known m) = m
-method_from (Refused why) = Method.NONE
+unfoldable pub method_from : Result TransformMethod Refusal → TransformMethod
+method_from (Ok m) = m
+method_from (Err why) = Method.NONE
 
 unfoldable pub decode_reading : List ℕ → Reading
 decode_reading xs = record {

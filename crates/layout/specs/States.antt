@@ -1,15 +1,12 @@
 -- A stored statistic and a stored thresholder: the fields in the Rust's order without gaps.
-use Rattle.std.specs.Prelude.{ℕ, ◌+◌, cond, List, [], ◌∷◌, ◌++◌, length, ◌==◌, nat_le, slice_index}
+use Rattle.std.specs.Prelude.{ℕ, ◌+◌, cond, List, [], ◌∷◌, ◌++◌, length, ◌==◌, nat_le, slice_index, Result, Ok, Err}
 use Rattle.types.specs.declared.Refusal.TheVariants.{Range, Length}
 use Rattle.deviation.specs.declared.Deviation.{Deviation}
 use Rattle.basicthresholder.specs.declared.BasicThresholder.{BasicThresholder}
 use Rattle.basicthresholder.specs.declared.Graded.{Graded}
 use Rattle.layout.specs.Places.{deviation_length, weight_at, sum_squared_at, sum_at, deviation_count_at, thresholder_length, elasticity_at, count_at, score_differencing_at, last_score_at, primary_at, secondary_at, third_at, auto_threshold_at, absolute_threshold_at, absolute_score_fraction_at, lower_threshold_at, factor_adjustment_threshold_at, initial_threshold_at, z_factor_at}
-use Rattle.layout.specs.declared.DeviationRead.{DeviationRead}
-use Rattle.layout.specs.declared.DeviationRead.TheVariants as Statistics
-use Rattle.layout.specs.declared.ThresholderRead.{ThresholderRead}
-use Rattle.layout.specs.declared.ThresholderRead.TheVariants as Thresholders
 use Rattle.layout.specs.Numbers.{f32_at, f64_at, i32_at, flag_at, f32_bytes, f64_bytes, i32_bytes, flag_bytes}
+use Rattle.types.specs.declared.Refusal.{Refusal}
 
 -- The statistic from place i on.
 unfoldable pub deviation_at : List ℕ → ℕ → Deviation
@@ -63,11 +60,11 @@ unfoldable pub encode_graded : Graded → List ℕ
 encode_graded g = joined (f32_bytes g.threshold ∷ f32_bytes g.grade ∷ [])
 
 -- What is read of a slice: 3 for another length, then 2 for a yes/no byte above 1.
-unfoldable pub read_deviation : List ℕ → DeviationRead
-read_deviation xs = cond (length xs == deviation_length) (Statistics.Read (decode_deviation xs)) (Statistics.Refused Length)
+unfoldable pub read_deviation : List ℕ → Result Deviation Refusal
+read_deviation xs = cond (length xs == deviation_length) (Ok (decode_deviation xs)) (Err Length)
 
-unfoldable pub read_thresholder : List ℕ → ThresholderRead
+unfoldable pub read_thresholder : List ℕ → Result BasicThresholder Refusal
 read_thresholder xs =
     cond (length xs == thresholder_length)
-    (cond (nat_le (slice_index xs auto_threshold_at) 1) (Thresholders.Read (decode_thresholder xs)) (Thresholders.Refused Range))
-    (Thresholders.Refused Length)
+    (cond (nat_le (slice_index xs auto_threshold_at) 1) (Ok (decode_thresholder xs)) (Err Range))
+    (Err Length)

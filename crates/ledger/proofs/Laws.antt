@@ -38,10 +38,10 @@ pub by_default : (d z : Float) (ts : List Told) (vs : List Shown) → z ≡ z_fa
     → accepted ts ≤ most_readings → Sizes ts → Demand3 d z_factor_default ts vs
 by_default d z ts vs e p h k = subst (λ (y : Float). Demand3 d y ts vs) e (p (subst (λ (y : Float). InBounds y ts) (sym e) (default_z ts h k)))
 
-pub new_horizon : (d z x : Float) (t : BasicThresholder) → New d z t → New d z (set_score_differencing t x).thresholder
+pub new_horizon : (d z x : Float) (t : BasicThresholder) → New d z t → New d z (set_score_differencing t x).state
 unfolding set_score_differencing
 new_horizon d z x t n = go (is_horizon x)
   where
-    go : (b : Bool) → New d z (cond b (done (with_score_differencing t x)) (refused Horizon t)).thresholder
+    go : (b : Bool) → New d z (cond b (done (with_score_differencing t x)) (refused Horizon t)).state
     go true = record { primary = n.primary; count = n.count; z_factor = n.z_factor }
     go false = n

@@ -1,19 +1,19 @@
 -- The calls against their definitions. Assumes nothing.
+use Rattle.std.specs.Prelude.{Option, Some, None, is_some, Result, Ok, Err}
+use Rattle.std.specs.Option.{unwrap_or}
 use mathlib.Core.Path.{◌≡◌, refl, sym, ap, ap₂, ◌∙◌}
-use mathlib.Core.Bool.{Bool, true, false, cond, ◌&&◌}
+use mathlib.Core.Bool.{Bool, true, false, cond, ◌&&◌, true≢false}
 use mathlib.Core.List.{List, ◌∷◌, ◌++◌}
-use Prim.Native.Nat.{ℕ, zero, suc, ◌+◌, ◌-◌, ◌≤◌, ◌<◌}
+use Prim.Native.Nat.{ℕ, zero, suc, ◌+◌, ◌-◌, ◌≤◌}
 use native.Mathlib.Nat.{le_antisymm}
 use native.Mathlib.Numerals.{add-one}
 use native.Mathlib.Omega.{arith}
 use lib.Dec.{eqb, leb, lit≤}
 use lib.Ieee.{Float}
-use lib.ListN.{length, get_or, take, drop, set, replicate, length-replicate, length-take, length-drop}
-use lib.Seq.{get_or-set_same, get_or-set_other, ext_get_or}
+use lib.ListN.{length, take, drop, replicate, length-replicate, length-take, length-drop}
 use borrow.Author.Tests.{eq-eqb, ne_eqb, lt-ltb}
-use Rattle.types.specs.Refusals.{number, answered}
+use Rattle.types.specs.Refusals.{number}
 use Rattle.types.specs.declared.Refusal.{Refusal}
-use Rattle.predictorcorrector.specs.declared.Updated.{Updated}
 use Rattle.predictorcorrector.specs.declared.PredictorCorrector.{PredictorCorrector}
 use Rattle.predictorcorrector.specs.State.{new}
 use Rattle.layout.specs.Places.{state_length}
@@ -21,17 +21,13 @@ use Rattle.layout.specs.Chain.{encode_state_over}
 use Rattle.layout.specs.Left.{Left, left}
 use Rattle.layout.specs.Numbers.{pasted, written_of}
 use Rattle.stored_state.proofs.Back.{state_length_lem}
-use Rattle.c_chain.proofs.Steps.{made_refused, made_range, made_done}
+use Rattle.c_chain.proofs.Steps.{refused_number, made_refused, made_range, made_done}
 use Rattle.c_chain.specs.States.{chain_made}
 use Rattle.record_pool.specs.Pool.{place, count_of, first_used, first_free, next_at, rules_ok, locate, vacancy, numbers_of, listing, with_header, with_next, with_record, with_state, opened, unlinked, removed}
 use Rattle.pool_links.specs.Links as Links
 use Rattle.pool_links.specs.declared.Header.{Header}
 use Rattle.pool_links.specs.declared.Link.{Link}
 use Rattle.record_pool.specs.declared.Slot.{Slot}
-use Rattle.record_pool.specs.declared.Listed.{Listed}
-use Rattle.record_pool.specs.declared.Located.{Located}
-use Rattle.record_pool.specs.declared.Located.TheVariants.{At, Refused}
-use Rattle.record_pool.proofs.Occ.{Either, equal, other, either}
 use Rattle.record_pool.proofs.Locating.{located, vacant}
 use Rattle.record_pool.proofs.Writes.{header_length, record_length, record_state}
 use Rattle.record_pool.proofs.Putting.{part_put, state_over_opened}
@@ -78,7 +74,7 @@ taken_out xs a b s l h ea el eb =
     eb ∙ (λ t. with_record (ea t) s.index (el t).next (el t).number (replicate 2040 0))
     ∙ ap (λ (f : ℕ). with_record (unlinked xs s.front s.index) s.index f 0 (replicate 2040 0)) h.placed.free
 
-pub held : (xs : List ℕ) (d : ℕ) (r : Located) (s : Slot) → r ≡ locate xs d → r ≡ At s → Held xs s
+pub held : (xs : List ℕ) (d : ℕ) (r : Result Slot Refusal) (s : Slot) → r ≡ locate xs d → r ≡ Ok s → Held xs s
 held xs d r s e q =
     let t = located xs d s (sym e ∙ q) in
     let f = t.same in
@@ -96,13 +92,13 @@ held xs d r s e q =
       some = t.some;
     }
 
-pub remove_done : (xs out : List ℕ) (d : ℕ) (r : Located) (s : Slot) → r ≡ locate xs d → r ≡ At s → out ≡ removed xs s.front s.index → left 0 out ≡ remove d xs
+pub remove_done : (xs out : List ℕ) (d : ℕ) (r : Result Slot Refusal) (s : Slot) → r ≡ locate xs d → r ≡ Ok s → out ≡ removed xs s.front s.index → left 0 out ≡ remove d xs
 unfolding remove
-remove_done xs out d r s e q eo = ap (left 0) eo ∙ sym (ap (λ (l : Located). remove_by l xs) (sym e ∙ q))
+remove_done xs out d r s e q eo = ap (left 0) eo ∙ sym (ap (λ (l : Result Slot Refusal). remove_by l xs) (sym e ∙ q))
 
-pub remove_refused : (xs : List ℕ) (d n : ℕ) (r : Located) (why : Refusal) → r ≡ locate xs d → r ≡ Refused why → n ≡ number why → left n xs ≡ remove d xs
+pub remove_refused : (xs : List ℕ) (d n : ℕ) (r : Result Slot Refusal) (why : Refusal) → r ≡ locate xs d → r ≡ Err why → n ≡ number why → left n xs ≡ remove d xs
 unfolding remove
-remove_refused xs d n r why e q en = ap (λ (m : ℕ). left m xs) en ∙ sym (ap (λ (l : Located). remove_by l xs) (sym e ∙ q))
+remove_refused xs d n r why e q en = ap (λ (m : ℕ). left m xs) en ∙ sym (ap (λ (l : Result Slot Refusal). remove_by l xs) (sym e ∙ q))
 
 -- ---- laying out.
 pub laid_more : (xs out out' : List ℕ) (k next : ℕ) → out ≡ laid_records k xs → next ≡ behind (k + 1) → out' ≡ with_next out (k + 1) next → out' ≡ laid_records (k + 1) xs
@@ -133,7 +129,7 @@ taken_in xs a b d s index h l k ei eh ea el eb =
     ∙ ap (λ (h : Header). with_record (with_header xs h.count h.used h.free) s.index s.used d (replicate 2040 0)) eh
     ∙ (λ t. with_record (with_header xs (more t) ((ei ∙ k.first) t) ((k.placed.next ∙ ap (next_at xs) k.first) t)) (k.first t) (k.placed.used t) d (replicate 2040 0))
 
-pub spare : (xs : List ℕ) (d : ℕ) (r : Located) (s : Slot) → r ≡ vacancy xs d → r ≡ At s → Spare xs s
+pub spare : (xs : List ℕ) (d : ℕ) (r : Result Slot Refusal) (s : Slot) → r ≡ vacancy xs d → r ≡ Ok s → Spare xs s
 spare xs d r s e q =
     let t = vacant xs d s (sym e ∙ q) in
     let f = t.same in
@@ -153,7 +149,7 @@ spare xs d r s e q =
       first = ap (λ (s : Slot). s.index) f;
     }
 
-pub open_room : (xs a : List ℕ) (d : ℕ) (r : Located) (s : Slot) → r ≡ vacancy xs d → r ≡ At s → a ≡ opened xs d (replicate 2040 0)
+pub open_room : (xs a : List ℕ) (d : ℕ) (r : Result Slot Refusal) (s : Slot) → r ≡ vacancy xs d → r ≡ Ok s → a ≡ opened xs d (replicate 2040 0)
     → (length a ≡ 61472) × (s.state + state_length ≤ 61472)
 unfolding opened
 open_room xs a d r s e q ea =
@@ -167,12 +163,12 @@ open_room xs a d r s e q ea =
       omega arith,
     )
 
-pub open_refused : (xs : List ℕ) (d n adjust base : ℕ) (discount : Float) (r : Located) (why : Refusal) → r ≡ vacancy xs d → r ≡ Refused why → n ≡ number why
+pub open_refused : (xs : List ℕ) (d n adjust base : ℕ) (discount : Float) (r : Result Slot Refusal) (why : Refusal) → r ≡ vacancy xs d → r ≡ Err why → n ≡ number why
     → left n xs ≡ opening d discount adjust base xs
 unfolding opening
 open_refused xs d n adjust base discount r why e q en =
     ap (λ (m : ℕ). left m xs) en
-    ∙ sym (ap (λ (l : Located). open_by l (chain_made (new discount (eqb adjust 1) base) adjust (replicate state_length 0)) d xs) (sym e ∙ q))
+    ∙ sym (ap (λ (l : Result Slot Refusal). open_by l (chain_made (new discount (eqb adjust 1) base) adjust (replicate state_length 0)) d xs) (sym e ∙ q))
 
 -- The state's bytes of an opened record are zero, and a state put over them is the record opened with it.
 opened_zeros : (xs : List ℕ) (d : ℕ) → length xs ≡ 61472 → 1 ≤ first_free xs → first_free xs ≤ 30
@@ -202,105 +198,76 @@ state_put xs ys at n s size room e ey =
     ∙ ap (λ (b : Bool). cond b (encode_state_over ps s) ps) (eq-eqb (length ps) state_length long) in
     part_put xs ys at n (ap length is ∙ state_length_lem ps s long ∙ sym e) ∙ ap (pasted xs at) is
 
-module _ (xs a : List ℕ) (d adjust base : ℕ) (discount : Float) (r : Located) (s : Slot) (made : Updated) (why : ℕ) (e : r ≡ vacancy xs d) (q : r ≡ At s)
-    (m : made ≡ new discount (eqb adjust 1) base) (w : why ≡ answered made.answer) where
+module _ (xs a : List ℕ) (d adjust base : ℕ) (discount : Float) (r : Result Slot Refusal) (s : Slot) (e : r ≡ vacancy xs d) (q : r ≡ Ok s) where
   abbrev zeros : List ℕ
   zeros = replicate state_length 0
 
+  abbrev made : Result PredictorCorrector Refusal
+  made = new discount (eqb adjust 1) base
+
   abbrev asked : Left
-  asked = chain_made (new discount (eqb adjust 1) base) adjust zeros
+  asked = chain_made made adjust zeros
 
   by : opening d discount adjust base xs ≡ opened_with asked d xs
   unfolding opening
-  by = ap (λ (l : Located). open_by l asked d xs) (sym e ∙ q)
+  by = ap (λ (l : Result Slot Refusal). open_by l asked d xs) (sym e ∙ q)
 
   answered_by : (n : ℕ) (ys : List ℕ) → left n ys ≡ asked → opened_with asked d xs ≡ opened_with (left n ys) d xs
   answered_by n ys h = ap (λ (l : Left). opened_with l d xs) (sym h)
 
-  pub open_unmade : (why ≡ 0 → ⊥) → left why xs ≡ opening d discount adjust base xs
-  open_unmade n =
-      sym (by ∙ answered_by why zeros (made_refused made (new discount (eqb adjust 1) base) adjust zeros m why w (ne_eqb why 0 n))
-      ∙ ap (λ (b : Bool). cond b (left 0 (opened xs d (zeros ++ replicate 730 0))) (left why xs)) (ne_eqb why 0 n))
+  pub open_unmade : (why : Refusal) (n : ℕ) → made ≡ Err why → n ≡ number why → left n xs ≡ opening d discount adjust base xs
+  open_unmade why n m w =
+      let some : eqb n 0 ≡ false = ap (λ (k : ℕ). eqb k 0) w ∙ refused_number why in
+      sym (by ∙ answered_by n zeros (made_refused made adjust zeros why n m w)
+      ∙ ap (λ (b : Bool). cond b (left 0 (opened xs d (zeros ++ replicate 730 0))) (left n xs)) some)
 
-  pub open_range : why ≡ 0 → leb adjust 1 ≡ false → left 2 xs ≡ opening d discount adjust base xs
-  open_range z l = sym (by ∙ answered_by 2 zeros (made_range made (new discount (eqb adjust 1) base) adjust zeros m why w z l))
+  module _ (t : PredictorCorrector) (m : made ≡ Ok t) where
+    pub open_range : leb adjust 1 ≡ false → left 2 xs ≡ opening d discount adjust base xs
+    open_range l = sym (by ∙ answered_by 2 zeros (made_range made adjust zeros t m l))
 
-  pub open_done : (out : List ℕ) → why ≡ 0 → leb adjust 1 ≡ true → a ≡ opened xs d (replicate 2040 0)
-      → out ≡ pasted a s.state (encode_state_over (take state_length (drop s.state a)) made.state) → left 0 out ≡ opening d discount adjust base xs
-  unfolding written_of
-  open_done out z l ea eo =
-      let t = vacant xs d s (sym e ∙ q) in
-      let i : s.index ≡ first_free xs = ap (λ (s : Slot). s.index) t.same in
-      let at : s.state ≡ place (first_free xs) + 8 = t.place ∙ ap (λ (n : ℕ). place n + 8) i in
-      let low = t.low in
-      let high = t.high in
-      let long : length zeros ≡ state_length = length-replicate {A = ℕ} state_length 0 in
-      let state : take state_length (drop s.state a) ≡ zeros =
-      ap₂ (λ (n : ℕ) (l : List ℕ). take state_length (drop n l)) at ea ∙ opened_zeros xs d t.size (omega arith) (omega arith) in
-      let zs : List ℕ = encode_state_over zeros made.state in
-      let size : length zs ≡ state_length = state_length_lem zeros made.state long in
-      let told : left 0 zs ≡ asked =
-      made_done made (new discount (eqb adjust 1) base) adjust zeros m why w z l zeros zs (eq-eqb (length zeros) state_length long) (ap (λ (n : ℕ). replicate {A = ℕ} n 0) (sym long))
-      (sym (ap (λ (b : Bool). cond b zs zeros) (eq-eqb (length zeros) state_length long))) in
-      let whole : out ≡ opened xs d (zs ++ replicate 730 0) =
-      eo ∙ (λ k. pasted (ea k) (at k) (encode_state_over (state k) made.state))
-      ∙ over_opened xs d zs t.size (omega arith) (omega arith) size in
-      ap (left 0) whole ∙ sym (by ∙ answered_by 0 zs told)
+    pub open_done : (out : List ℕ) → leb adjust 1 ≡ true → a ≡ opened xs d (replicate 2040 0)
+        → out ≡ pasted a s.state (encode_state_over (take state_length (drop s.state a)) t) → left 0 out ≡ opening d discount adjust base xs
+    unfolding written_of
+    open_done out l ea eo =
+        let v = vacant xs d s (sym e ∙ q) in
+        let i : s.index ≡ first_free xs = ap (λ (s : Slot). s.index) v.same in
+        let at : s.state ≡ place (first_free xs) + 8 = v.place ∙ ap (λ (n : ℕ). place n + 8) i in
+        let low = v.low in
+        let high = v.high in
+        let long : length zeros ≡ state_length = length-replicate {A = ℕ} state_length 0 in
+        let state : take state_length (drop s.state a) ≡ zeros =
+        ap₂ (λ (n : ℕ) (l : List ℕ). take state_length (drop n l)) at ea ∙ opened_zeros xs d v.size (omega arith) (omega arith) in
+        let zs : List ℕ = encode_state_over zeros t in
+        let size : length zs ≡ state_length = state_length_lem zeros t long in
+        let told : left 0 zs ≡ asked =
+        made_done made adjust zeros t m l zeros zs (eq-eqb (length zeros) state_length long) (ap (λ (n : ℕ). replicate {A = ℕ} n 0) (sym long))
+        (sym (ap (λ (b : Bool). cond b zs zeros) (eq-eqb (length zeros) state_length long))) in
+        let whole : out ≡ opened xs d (zs ++ replicate 730 0) =
+        eo ∙ (λ k. pasted (ea k) (at k) (encode_state_over (state k) t))
+        ∙ over_opened xs d zs v.size (omega arith) (omega arith) size in
+        ap (left 0) whole ∙ sym (by ∙ answered_by 0 zs told)
 
 -- ---- listing.
-differ : true ≡ false → ⊥
-differ e = let z : ◌≡◌ {A = ℕ} 0 1 = cc in omega arith
-
-module _ (xs : List ℕ) (r : Listed) (e : r ≡ listing xs) where
-  its : (b : Bool) → rules_ok xs ≡ b → r.sound ≡ b
-  unfolding listing
-  its true q = ap (λ (r : Listed). r.sound) (e ∙ ap (λ (b : Bool). cond b (record { sound = true; numbers = numbers_of xs }) (record { sound = false; numbers = replicate 30 0 })) q)
-  its false q = ap (λ (r : Listed). r.sound) (e ∙ ap (λ (b : Bool). cond b (record { sound = true; numbers = numbers_of xs }) (record { sound = false; numbers = replicate 30 0 })) q)
-
-  unsound : r.sound ≡ true → rules_ok xs ≡ false → ⊥
-  unsound t q = differ (sym t ∙ its false q)
-
-  sound : r.sound ≡ false → rules_ok xs ≡ true → ⊥
-  sound t q = differ (sym (its true q) ∙ t)
-
--- The first k numbers have been copied.
-abbrev pub Copied : List ℕ → ℕ → List ℕ → Type 0
-Copied numbers k out = (j : ℕ) → j < k → get_or out j 0 ≡ get_or numbers j 0
-
-pub copied_none : (numbers out : List ℕ) → Copied numbers 0 out
-copied_none numbers out j h = absurd (omega arith)
-
-pub copied_more : (numbers out : List ℕ) (k : ℕ) → k < 30 → length out ≡ 30 → Copied numbers k out → Copied numbers (k + 1) (set out k (get_or numbers k 0))
-copied_more numbers out k b l h j i = go (either k j)
-  where
-    go : Either k j → get_or (set out k (get_or numbers k 0)) j 0 ≡ get_or numbers j 0
-    go (equal p e) = ap (λ (n : ℕ). get_or (set out k (get_or numbers k 0)) n 0) (sym p) ∙ get_or-set_same out k (get_or numbers k 0) 0 (omega arith) ∙ ap (λ (n : ℕ). get_or numbers n 0) p
-    go (other p e) = get_or-set_other out k j (get_or numbers k 0) 0 (λ q. p (sym q)) ∙ h j (omega arith)
-
-pub copied_all : (numbers out : List ℕ) (k : ℕ) → length numbers ≡ 30 → length out ≡ 30 → 30 ≤ k → Copied numbers k out → out ≡ numbers
-copied_all numbers out k ln lo h c = ext_get_or 0 out numbers (lo ∙ sym ln) (λ j i. c j (omega arith))
-
-pub list_done : (xs out out' : List ℕ) (r : Listed) → length out ≡ 30 → r ≡ listing xs → r.sound ≡ true → out' ≡ r.numbers → left 0 out' ≡ list xs out
+pub list_done : (xs out out' ns : List ℕ) → length out ≡ 30 → Some ns ≡ listing xs → out' ≡ ns → left 0 out' ≡ list xs out
 unfolding list listing
-list_done xs out out' r l e t eo = go (rules_ok xs) refl
+list_done xs out out' ns l e eo =
+    go (rules_ok xs) e ∙ sym (ap (λ (a : Bool). cond (a && rules_ok xs) (left 0 (numbers_of xs)) (left 13 out)) (eq-eqb (length out) 30 l))
   where
-    go : (b : Bool) → rules_ok xs ≡ b → left 0 out' ≡ cond (eqb (length out) 30 && rules_ok xs) (left 0 (numbers_of xs)) (left 13 out)
-    go true q =
-        ap (left 0) (eo ∙ ap (λ (r : Listed). r.numbers) (e ∙ ap (λ (b : Bool). cond b (record { sound = true; numbers = numbers_of xs }) (record { sound = false; numbers = replicate 30 0 })) q))
-        ∙ sym (ap₂ (λ (a b : Bool). cond (a && b) (left 0 (numbers_of xs)) (left 13 out)) (eq-eqb (length out) 30 l) q)
-    go false q = absurd (unsound xs r e t q)
+    go : (b : Bool) → Some ns ≡ cond b (Some (numbers_of xs)) None → left 0 out' ≡ cond b (left 0 (numbers_of xs)) (left 13 out)
+    go true q = ap (left 0) (eo ∙ ap (λ (o : Option (List ℕ)). unwrap_or o ns) q)
+    go false q = absurd (true≢false (ap is_some q))
 
 neither : (a : Bool) (l m : Left) → cond (a && false) l m ≡ m
 neither true l m = refl
 neither false l m = refl
 
-pub list_broken : (xs out : List ℕ) (r : Listed) → r ≡ listing xs → r.sound ≡ false → left 13 out ≡ list xs out
+pub list_broken : (xs out : List ℕ) → None ≡ listing xs → left 13 out ≡ list xs out
 unfolding list listing
-list_broken xs out r e t = go (rules_ok xs) refl
+list_broken xs out e = go (rules_ok xs) e
   where
-    go : (b : Bool) → rules_ok xs ≡ b → left 13 out ≡ cond (eqb (length out) 30 && rules_ok xs) (left 0 (numbers_of xs)) (left 13 out)
-    go true q = absurd (sound xs r e t q)
-    go false q = sym (ap (λ (b : Bool). cond (eqb (length out) 30 && b) (left 0 (numbers_of xs)) (left 13 out)) q ∙ neither (eqb (length out) 30) (left 0 (numbers_of xs)) (left 13 out))
+    go : (b : Bool) → None ≡ cond b (Some (numbers_of xs)) None → left 13 out ≡ cond (eqb (length out) 30 && b) (left 0 (numbers_of xs)) (left 13 out)
+    go true q = absurd (true≢false (sym (ap is_some q)))
+    go false q = sym (neither (eqb (length out) 30) (left 0 (numbers_of xs)) (left 13 out))
 
 pub list_short : (xs out : List ℕ) → (length out ≡ 30 → ⊥) → left 13 out ≡ list xs out
 unfolding list

@@ -1,5 +1,5 @@
 -- Laying out a pool, opening and removing a drawer, listing all: what each call answers, and every byte afterwards. A refused call changes none.
-use Rattle.std.specs.Prelude.{ℕ, zero, suc, ◌-◌, cond, ◌&&◌, List, ◌++◌, eqb, length, replicate, Float}
+use Rattle.std.specs.Prelude.{ℕ, zero, suc, ◌-◌, cond, ◌&&◌, List, ◌++◌, eqb, length, replicate, Float, Result, Ok, Err}
 use Rattle.types.specs.Refusals.{number}
 use Rattle.types.specs.declared.Refusal.TheVariants as Refusals
 use Rattle.predictorcorrector.specs.State.{new}
@@ -7,8 +7,8 @@ use Rattle.layout.specs.Places.{state_length}
 use Rattle.layout.specs.Left.{Left, left}
 use Rattle.c_chain.specs.States.{chain_made}
 use Rattle.record_pool.specs.Pool.{pool_length, rules_ok, locate, vacancy, numbers_of, with_header, with_next, opened, removed}
-use Rattle.record_pool.specs.declared.Located.{Located}
-use Rattle.record_pool.specs.declared.Located.TheVariants.{At, Refused}
+use Rattle.record_pool.specs.declared.Slot.{Slot}
+use Rattle.types.specs.declared.Refusal.{Refusal}
 
 -- An empty pool: zeros but for its free chain, which runs from 1 to 30.
 abbrev pub behind : ℕ → ℕ
@@ -29,17 +29,17 @@ lay_out xs = cond (eqb (length xs) pool_length) (left 0 laid_out) (left (number 
 abbrev pub opened_with : Left → ℕ → List ℕ → Left
 opened_with made d xs = cond (eqb made.answer 0) (left 0 (opened xs d (made.bytes ++ replicate (2040 - state_length) 0))) (left made.answer xs)
 
-abbrev pub open_by : Located → Left → ℕ → List ℕ → Left
-open_by (At s) made d xs = opened_with made d xs
-open_by (Refused why) made d xs = left (number why) xs
+abbrev pub open_by : Result Slot Refusal → Left → ℕ → List ℕ → Left
+open_by (Ok s) made d xs = opened_with made d xs
+open_by (Err why) made d xs = left (number why) xs
 
 unfoldable pub opening : ℕ → (discount : Float) → (adjust base : ℕ) → List ℕ → Left
 opening d discount adjust base xs = open_by (vacancy xs d) (chain_made (new discount (eqb adjust 1) base) adjust (replicate state_length 0)) d xs
 
 -- ---- removing: 13, then 11
-abbrev pub remove_by : Located → List ℕ → Left
-remove_by (At s) xs = left 0 (removed xs s.front s.index)
-remove_by (Refused why) xs = left (number why) xs
+abbrev pub remove_by : Result Slot Refusal → List ℕ → Left
+remove_by (Ok s) xs = left 0 (removed xs s.front s.index)
+remove_by (Err why) xs = left (number why) xs
 
 unfoldable pub remove : ℕ → List ℕ → Left
 remove d xs = remove_by (locate xs d) xs

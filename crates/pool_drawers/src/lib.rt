@@ -13,62 +13,69 @@ ghost use Rattle.pool_drawers.specs.Steps.{Held, Spare};
 
 use pool_links::{Header, Link};
 use predictorcorrector::PredictorCorrector;
-use record_pool::{Located, Slot};
+use record_pool::Slot;
 
-// Document 01's refusal of a base or a yes/no byte; document 02's of a pool or a listing's slice.
+// Document 01's refusal of a base or a yes/no byte; document 02's of a pool or a listing's slice: numbers, as C is told them.
 const RANGE: u8 = 2;
 
 const POOL: u8 = 13;
 
 const POOL_LENGTH: usize = 61_472;
 
-// Where record i begins.
-fn place(i: usize) -> usize
-    requires fact_1 { 1 ≤ i }
-    requires fact_2 { i ≤ 30 }
-    ensures { (result ≡ Pool.place i) × (result + 2048 ≤ 61472) }
+// As in `layout` and `record_pool`: each asks for room, and a `requires` does not cross a crate.
+#[tactic(auto, unfolding(layout::specs::Numbers::pasted))]
+fn put(out: &mut [u8], at: usize, bytes: &[u8; 4])
+    requires { at + 4 ≤ length out.old }
+    ensures { out.new ≡ Numbers.pasted out.old at bytes.now }
 {
-    32 + 2048 * (i - 1)
+    out[at..at + 4].copy_from_slice(bytes);
 }
 
-fn put4(out: &mut [u8], at: usize, n: u32)
+#[tactic(auto, using(layout::proofs::Words::four))]
+fn put_u32(out: &mut [u8], at: usize, n: u32)
     requires { at + 4 ≤ length out.old }
     ensures { out.new ≡ Numbers.pasted out.old at (Numbers.bytes4 n) }
 {
-    out[at] = (n % 0x100) as u8;
-    out[at + 1] = (n / 0x100 % 0x100) as u8;
-    out[at + 2] = (n / 0x1_0000 % 0x100) as u8;
-    out[at + 3] = (n / 0x100_0000 % 0x100) as u8;
+    put(out, at, &n.to_le_bytes());
+}
+
+#[tactic(auto, unfolding(record_pool::specs::Pool::place))]
+fn place(i: usize) -> usize
+    requires least { 1 ≤ i }
+    requires most { i ≤ 30 }
+    ensures { (result ≡ Pool.place i) × (result + 2048 ≤ 61472) }
+{
+    32 + 2048 * (i - 1)
 }
 
 fn put_header(pool: &mut [u8], header: Header)
     requires { length pool.old ≡ 61472 }
     ensures { pool.new ≡ Pool.with_header pool.old header.count header.used header.free }
 {
-    put4(pool, 0, header.count);
-    put4(pool, 4, header.used);
-    put4(pool, 8, header.free);
+    put_u32(pool, 0, header.count);
+    put_u32(pool, 4, header.used);
+    put_u32(pool, 8, header.free);
 }
 
 fn put_next(pool: &mut [u8], i: usize, next: u32)
-    requires fact_1 { length pool.old ≡ 61472 }
-    requires fact_2 { 1 ≤ i }
-    requires fact_3 { i ≤ 30 }
+    requires long { length pool.old ≡ 61472 }
+    requires least { 1 ≤ i }
+    requires most { i ≤ 30 }
     ensures { pool.new ≡ Pool.with_next pool.old i next }
 {
-    put4(pool, place(i), next);
+    put_u32(pool, place(i), next);
 }
 
 // A whole record: zeros behind its number.
 fn put_record(pool: &mut [u8], i: usize, link: Link)
-    requires fact_1 { length pool.old ≡ 61472 }
-    requires fact_2 { 1 ≤ i }
-    requires fact_3 { i ≤ 30 }
+    requires long { length pool.old ≡ 61472 }
+    requires least { 1 ≤ i }
+    requires most { i ≤ 30 }
     ensures { pool.new ≡ Pool.with_record pool.old i link.next link.number (replicate 2040 0) }
 {
     let at = place(i);
-    put4(pool, at, link.next);
-    put4(pool, at + 4, link.number);
+    put_u32(pool, at, link.next);
+    put_u32(pool, at + 4, link.number);
     let from = at + 8;
     let upto = at + 2048;
     layout::clear(&mut pool[from..upto]);
@@ -110,8 +117,8 @@ fn take_in(pool: &mut [u8], slot: Slot, drawer: u32)
 
 // A state put over the bytes from `at` on.
 fn put_state(pool: &mut [u8], at: usize, s: PredictorCorrector)
-    requires fact_1 { length pool.old ≡ 61472 }
-    requires fact_2 { at + state_length ≤ 61472 }
+    requires long { length pool.old ≡ 61472 }
+    requires room { at + state_length ≤ 61472 }
     ensures { pool.new ≡ Numbers.pasted pool.old at (encode_state_over (take state_length (drop at pool.old)) s) }
 {
     let upto = at + layout::STATE_LENGTH;
@@ -133,21 +140,8 @@ fn lay_records(pool: &mut [u8])
     requires { length pool.old ≡ 61472 }
     ensures { pool.new ≡ Drawers.laid_records 30 pool.old }
 {
-    let mut k = 0usize;
-    while k < 30 {
+    for k in 0..30 {
         put_next(pool, k + 1, after(k + 1));
-        k += 1;
-    }
-}
-
-fn put_numbers(out: &mut [u32], numbers: [u32; 30])
-    requires { length out.old ≡ 30 }
-    ensures { out.new ≡ numbers }
-{
-    let mut k = 0usize;
-    while k < 30 {
-        out[k] = numbers[k];
-        k += 1;
     }
 }
 
@@ -182,21 +176,20 @@ pub fn krcf_pool_open(
     ensures { left result pool.new ≡ Drawers.opening drawer discount auto_adjust base_dimension pool.old }
 {
     match record_pool::vacancy(pool, drawer) {
-        Located::At(slot) => {
-            let made = PredictorCorrector::new(discount, auto_adjust == 1, base_dimension);
-            let answer = made.answer;
-            let why = answer.number();
-            if why == 0 {
-                if auto_adjust <= 1 {
-                    take_in(pool, slot, drawer);
-                    put_state(pool, slot.state, made.state);
-                    return 0;
+        Ok(slot) => {
+            match PredictorCorrector::new(discount, auto_adjust == 1, base_dimension) {
+                Ok(s) => {
+                    if auto_adjust <= 1 {
+                        take_in(pool, slot, drawer);
+                        put_state(pool, slot.state, s);
+                        return 0;
+                    }
+                    RANGE
                 }
-                return RANGE;
+                Err(why) => why.number(),
             }
-            why
         }
-        Located::Refused(why) => why.number(),
+        Err(why) => why.number(),
     }
 }
 
@@ -204,11 +197,11 @@ pub fn krcf_pool_remove(pool: &mut [u8], drawer: u32) -> u8
     ensures { left result pool.new ≡ Drawers.remove drawer pool.old }
 {
     match record_pool::locate(pool, drawer) {
-        Located::At(slot) => {
+        Ok(slot) => {
             take_out(pool, slot);
             0
         }
-        Located::Refused(why) => why.number(),
+        Err(why) => why.number(),
     }
 }
 
@@ -217,12 +210,13 @@ pub fn krcf_pool_list(pool: &[u8], numbers: &mut [u32]) -> u8
     ensures { left result numbers.new ≡ Drawers.list pool.now numbers.old }
 {
     if numbers.len() == 30 {
-        let listed = record_pool::listing(pool);
-        if listed.sound {
-            let found = listed.numbers;
-            put_numbers(numbers, found);
-            return 0;
-        }
+        return match record_pool::listing(pool) {
+            Some(found) => {
+                numbers.copy_from_slice(&found);
+                0
+            }
+            None => POOL,
+        };
     }
     POOL
 }

@@ -1,4 +1,5 @@
 -- The call's two branches over plain variables. Assumes nothing.
+use Rattle.std.specs.Prelude.{Result, Ok, Err}
 use mathlib.Core.Path.{◌≡◌, refl, sym, ap, subst, ◌∙◌}
 use mathlib.Core.List.{List, ◌++◌}
 use Prim.Native.Nat.{ℕ, ◌+◌, ◌-◌, ◌≤◌}
@@ -14,14 +15,12 @@ use Rattle.layout.specs.Numbers.{pasted}
 use Rattle.c_judging.specs.Judging.{Answered}
 use Rattle.record_pool.specs.Pool.{locate, state_at, with_state}
 use Rattle.record_pool.specs.declared.Slot.{Slot}
-use Rattle.record_pool.specs.declared.Located.{Located}
-use Rattle.record_pool.specs.declared.Located.TheVariants.{At, Refused}
 use Rattle.record_pool.proofs.Locating.{Occupied, located}
 use Rattle.record_pool.proofs.Putting.{part_put}
 use Rattle.pool_judging.specs.Judging.{JudgedBy, Judged}
 
 -- ---- the part that is lent to the judge.
-module _ (xs : List ℕ) (d : ℕ) (l : Located) (el : l ≡ locate xs d) (s : Slot) (es : l ≡ At s) where
+module _ (xs : List ℕ) (d : ℕ) (l : Result Slot Refusal) (el : l ≡ locate xs d) (s : Slot) (es : l ≡ Ok s) where
   occupied_is : Occupied xs d s
   occupied_is = located xs d s (sym el ∙ es)
 
@@ -42,8 +41,8 @@ module _ (xs : List ℕ) (d : ℕ) (l : Located) (el : l ≡ locate xs d) (s : S
       let fits : n ≤ length (drop s.state xs) = omega (arith, judged_room.0, judged_room.1, length-drop s.state xs) in
       part_put xs ys s.state n (e ∙ length-take-le n (drop s.state xs) fits) ∙ ap (λ (a : ℕ). pasted xs a ys) occupied_is.place
 
-module _ (xs reading last : List ℕ) (b : Lent) (n : ℕ) (e h w : List Float) (v : List ℕ) (d : ℕ) (l : Located) (el : l ≡ locate xs d) where
-  pub judged_there : (s : Slot) → l ≡ At s → (ys : List ℕ) (e' h' w' : List Float) (v' : List ℕ)
+module _ (xs reading last : List ℕ) (b : Lent) (n : ℕ) (e h w : List Float) (v : List ℕ) (d : ℕ) (l : Result Slot Refusal) (el : l ≡ locate xs d) where
+  pub judged_there : (s : Slot) → l ≡ Ok s → (ys : List ℕ) (e' h' w' : List Float) (v' : List ℕ)
       → length ys ≡ length (take (s.state + state_length - s.state) (drop s.state xs))
       → Answered (take (s.state + state_length - s.state) (drop s.state xs)) reading last b n e h w v ys e' h' w' v'
       → Judged xs reading last b n e h w v (take s.state xs ++ (ys ++ drop (s.state + state_length - s.state) (drop s.state xs))) e' h' w' v' d
@@ -57,7 +56,7 @@ module _ (xs reading last : List ℕ) (b : Lent) (n : ℕ) (e h w : List Float) 
       })
 
   -- Refused ahead of judging.
-  pub judged_nowhere : (why : Refusal) → l ≡ Refused why → n ≡ number why → Judged xs reading last b n e h w v xs e h w v d
+  pub judged_nowhere : (why : Refusal) → l ≡ Err why → n ≡ number why → Judged xs reading last b n e h w v xs e h w v d
   judged_nowhere why es p =
       subst (JudgedBy xs reading last b n e h w v xs e h w v) (sym es ∙ el)
       (record { answer = p; bytes = refl; point = refl; highs = refl; lows = refl; verdict = refl })

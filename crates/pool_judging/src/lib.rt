@@ -4,8 +4,6 @@
 ghost use Rattle.descriptor.specs.Lent.{lent};
 ghost use Rattle.pool_judging.specs.Judging as Judging;
 
-use record_pool::Located;
-
 // The drawer's record is found, and its state's bytes are lent to `krcf_detect_and_modify`.
 pub fn krcf_pool_detect_and_modify(
     pool: &mut [u8],
@@ -36,7 +34,7 @@ pub fn krcf_pool_detect_and_modify(
         pool.new expected.new out_high.new out_low.new verdict.new drawer }
 {
     match record_pool::locate(pool, drawer) {
-        Located::At(slot) => {
+        Ok(slot) => {
             let from = slot.state;
             let upto = from + layout::STATE_LENGTH;
             c_judging::krcf_detect_and_modify(
@@ -61,6 +59,6 @@ pub fn krcf_pool_detect_and_modify(
                 verdict,
             )
         }
-        Located::Refused(why) => why.number(),
+        Err(why) => why.number(),
     }
 }

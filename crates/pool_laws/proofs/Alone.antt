@@ -1,4 +1,5 @@
 -- A drawer in a pool and its state's bytes alone: what is asked and told is the same. Assumes nothing.
+use Rattle.std.specs.Prelude.{Result, Ok, Err}
 use mathlib.Core.Path.{◌≡◌, refl, sym, ap, ap₂, ◌∙◌, subst}
 use mathlib.Core.Bool.{Bool, true, false, cond, ◌&&◌}
 use mathlib.Core.List.{List, [], ◌∷◌, ◌++◌}
@@ -12,9 +13,6 @@ use borrow.Author.Tests.{eqb-true, eqb-false, ne_eqb}
 use Rattle.types.specs.Refusals.{answered}
 use Rattle.types.specs.declared.Refusal.TheVariants as Refusals
 use Rattle.predictorcorrector.specs.declared.PredictorCorrector.{PredictorCorrector}
-use Rattle.predictorcorrector.specs.declared.Updated.{Updated}
-use Rattle.detection.specs.declared.Outcome.{Outcome}
-use Rattle.detection.specs.declared.Outcome.TheVariants as Outcomes
 use Rattle.verdict_bytes.specs.Bytes.{changes_state, stored, state_left}
 use Rattle.layout.specs.Places.{state_length}
 use Rattle.layout.specs.Numbers.{pasted}
@@ -23,8 +21,6 @@ use Rattle.layout.specs.Left.{Left, left}
 use Rattle.stored_state.proofs.Back.{state_length_lem}
 use Rattle.c_judging.specs.Judging.{Answered, outcome_over, state_over}
 use Rattle.record_pool.specs.Pool.{place, flags_at, state_at, state_of, rules_ok, record_of, front_of, slot, locate, with_state}
-use Rattle.record_pool.specs.declared.Located.{Located}
-use Rattle.record_pool.specs.declared.Located.TheVariants.{At, Refused}
 use Rattle.record_pool.proofs.Passing.{passes, passes_size, within_used}
 use Rattle.record_pool.proofs.Bytes.{place_high}
 use Rattle.record_pool.proofs.Writes.{flags_in}
@@ -38,6 +34,10 @@ use Rattle.pool_laws.specs.Calls.{Asked, Reply, Call, lays_out, opens, removes, 
 use Rattle.pool_laws.specs.Isolation.{Ask, setting, judgment, Tell, answer, judged, asks, tells, Stays, Alone, Holds}
 use Rattle.pool_laws.proofs.Frames.{Undisturbed, undisturbed_by, lay_out_kept, remove_kept, remove_leaves, stored_flags, which, open_kept, open_leaves, Wrote, nothing, state, wrote_kept, wrote_records, wrote_leaves}
 use Rattle.pool_laws.proofs.Frames as Frames
+use Rattle.detection.specs.declared.Verdict.{Verdict}
+use Rattle.record_pool.specs.declared.Slot.{Slot}
+use Rattle.types.specs.declared.Refusal.{Refusal}
+use Rattle.types.specs.declared.Updated.{Updated}
 
 -- ---- a state's bytes within the pool.
 module _ (xs : List ℕ) (i : ℕ) (size : length xs ≡ 61472) (low : 1 ≤ i) (high : i ≤ 30) where
@@ -76,11 +76,11 @@ module _ (xs : List ℕ) (d : ℕ) (h : Holds xs d) where
   its_flags : flags_in (state_at xs i) ≡ true
   its_flags = flags_of xs i its_size in_range.0 in_range.1 ∙ (passes xs h.sound).flagged i (its_used xs d h.sound h.there)
 
-  pub is_there : locate xs d ≡ At (slot xs (record_of xs d) (front_of xs d))
+  pub is_there : locate xs d ≡ Ok (slot xs (record_of xs d) (front_of xs d))
   unfolding locate
   is_there =
-      ap (λ (b : Bool). cond b (cond (eqb (record_of xs d) 0) (Refused Refusals.Drawer) (At (slot xs (record_of xs d) (front_of xs d)))) (Refused Refusals.Pool)) h.sound
-      ∙ ap (λ (b : Bool). cond b (Refused Refusals.Drawer) (At (slot xs (record_of xs d) (front_of xs d)))) (ne_eqb (record_of xs d) 0 (λ e. omega (arith, h.there)))
+      ap (λ (b : Bool). cond b (cond (eqb (record_of xs d) 0) (Err Refusals.Drawer) (Ok (slot xs (record_of xs d) (front_of xs d)))) (Err Refusals.Pool)) h.sound
+      ∙ ap (λ (b : Bool). cond b (Err Refusals.Drawer) (Ok (slot xs (record_of xs d) (front_of xs d)))) (ne_eqb (record_of xs d) 0 (λ e. omega (arith, h.there)))
 
   -- Bytes of a state put there.
   put_there : (ys out : List ℕ) → length ys ≡ state_length → flags_in ys ≡ true → out ≡ with_state xs i ys → Wrote xs d out × (state_of out d ≡ ys)
@@ -102,18 +102,18 @@ module _ (xs : List ℕ) (d : ℕ) (h : Holds xs d) where
   unfolding set_on
   set_fine c = go (changed c (decode_state (state_at xs i)))
     where
-      by : (u : Updated) (b : Bool) → (length (cond b (left 0 (stored_unless_same (state_at xs i) u.state)) (left (answered u.answer) (state_at xs i))).bytes ≡ state_length)
+      by : (u : Updated PredictorCorrector) (b : Bool) → (length (cond b (left 0 (stored_unless_same (state_at xs i) u.state)) (left (answered u.answer) (state_at xs i))).bytes ≡ state_length)
           × (flags_in (cond b (left 0 (stored_unless_same (state_at xs i) u.state)) (left (answered u.answer) (state_at xs i))).bytes ≡ true)
       by u true = stored_fine u.state
       by u false = (its_state_long, its_flags)
 
-      go : (u : Updated) → (length (stored_on u (state_at xs i)).bytes ≡ state_length) × (flags_in (stored_on u (state_at xs i)).bytes ≡ true)
+      go : (u : Updated PredictorCorrector) → (length (stored_on u (state_at xs i)).bytes ≡ state_length) × (flags_in (stored_on u (state_at xs i)).bytes ≡ true)
       go u = by u (eqb (answered u.answer) 0)
 
   module _ (c : Setting) (n : ℕ) (out : List ℕ) (e : left n out ≡ set c d xs) where
     pub set_is : left n out ≡ in_record xs i (set_on c (state_at xs i))
     unfolding set
-    set_is = e ∙ ap (λ (l : Located). set_by l c xs) is_there
+    set_is = e ∙ ap (λ (l : Result Slot Refusal). set_by l c xs) is_there
 
     pub set_there : Wrote xs d out × (left n (state_of out d) ≡ set_on c (state_of xs d))
     unfolding state_of
@@ -123,14 +123,14 @@ module _ (xs : List ℕ) (d : ℕ) (h : Holds xs d) where
         (w.0, λ t. left (set_is t).answer (w.1 t))
 
   -- ---- a judgment.
-  left_fine : (o : Outcome) (s : PredictorCorrector) → (length (state_left o (state_at xs i) s) ≡ state_length) × (flags_in (state_left o (state_at xs i) s) ≡ true)
+  left_fine : (o : Result Verdict Refusal) (s : PredictorCorrector) → (length (state_left o (state_at xs i) s) ≡ state_length) × (flags_in (state_left o (state_at xs i) s) ≡ true)
   unfolding state_left stored
-  left_fine (Outcomes.Accepted v) s = go (changes_state v)
+  left_fine (Ok v) s = go (changes_state v)
     where
       go : (b : Bool) → (length (cond b (encode_state_over (state_at xs i) s) (state_at xs i)) ≡ state_length) × (flags_in (cond b (encode_state_over (state_at xs i) s) (state_at xs i)) ≡ true)
       go false = (its_state_long, its_flags)
       go true = (state_length_lem (state_at xs i) s its_state_long, stored_flags (state_at xs i) s its_state_long)
-  left_fine (Outcomes.Refused why) s = (its_state_long, its_flags)
+  left_fine (Err why) s = (its_state_long, its_flags)
 
   -- What was told of the judgment a over the bytes zs, which it left as ys.
   abbrev pub AnsweredBy : List ℕ → Asked → Reply → List ℕ → Type 0
@@ -147,7 +147,7 @@ module _ (xs : List ℕ) (d : ℕ) (h : Holds xs d) where
   judged_there a t out c =
       let j = judged_in a t out c in
       let b = j.judged.bytes in
-      let o : Outcome = outcome_over (state_at xs i) a.reading a.last a.lent (length a.expected) (length a.high) (length a.low) (length a.verdict) in
+      let o : (Result Verdict Refusal) = outcome_over (state_at xs i) a.reading a.last a.lent (length a.expected) (length a.high) (length a.low) (length a.verdict) in
       let s : PredictorCorrector = state_over (state_at xs i) a.reading a.last a.lent o in
       let f = left_fine o s in
       let w = put_there j.state' out (ap length b ∙ f.0) (ap flags_in b ∙ f.1) j.bytes in
@@ -158,16 +158,16 @@ pub set_wrote : (xs : List ℕ) (d : ℕ) (c : Setting) (n : ℕ) (out : List �
 unfolding set
 set_wrote xs d c n out e = go (locate xs d) refl
   where
-    go : (l : Located) → locate xs d ≡ l → Wrote xs d out
-    go (At s) q = let t = located xs d s q in (set_there xs d (record { sound = t.ok; there = t.there }) c n out e).0
-    go (Refused why) q = nothing (ap (λ (l : Left). l.bytes) (e ∙ ap (λ (l : Located). set_by l c xs) q))
+    go : (l : Result Slot Refusal) → locate xs d ≡ l → Wrote xs d out
+    go (Ok s) q = let t = located xs d s q in (set_there xs d (record { sound = t.ok; there = t.there }) c n out e).0
+    go (Err why) q = nothing (ap (λ (l : Left). l.bytes) (e ∙ ap (λ (l : Result Slot Refusal). set_by l c xs) q))
 
 pub judged_wrote : (xs : List ℕ) (d : ℕ) (a : Asked) (t : Reply) (out : List ℕ) → Contract xs (judges d a t out) → Wrote xs d out
 judged_wrote xs d a t out c = go (locate xs d) refl
   where
-    go : (l : Located) → locate xs d ≡ l → Wrote xs d out
-    go (At s) q = let k = located xs d s q in (judged_there xs d (record { sound = k.ok; there = k.there }) a t out c).0
-    go (Refused why) q =
+    go : (l : Result Slot Refusal) → locate xs d ≡ l → Wrote xs d out
+    go (Ok s) q = let k = located xs d s q in (judged_there xs d (record { sound = k.ok; there = k.there }) a t out c).0
+    go (Err why) q =
         let u : Unjudged xs a.reading a.last a.lent t.answer a.expected a.high a.low a.verdict out t.expected t.high t.low t.verdict why =
         subst (JudgedBy xs a.reading a.last a.lent t.answer a.expected a.high a.low a.verdict out t.expected t.high t.low t.verdict) q c in
         nothing u.bytes

@@ -1,4 +1,5 @@
 -- Each call leaves a pool that passes 13 one that passes it, and no call on one drawer touches another. Assumes nothing.
+use Rattle.std.specs.Prelude.{Result, Ok, Err}
 use mathlib.Core.Path.{◌≡◌, refl, sym, ap, ap₂, ◌∙◌}
 use mathlib.Core.Logic.{◌≢◌}
 use mathlib.Core.Bool.{Bool, true, false, cond, ◌&&◌}
@@ -11,10 +12,10 @@ use lib.Ieee.{Float}
 use borrow.Author.Tests.{eqb-true, eqb-false, eq-eqb}
 use Rattle.types.specs.Refusals.{number}
 use Rattle.types.specs.declared.Refusal.{Refusal}
-use Rattle.types.specs.Refusals.{answered}
+use Rattle.types.specs.declared.Refusal.TheVariants as Refusals
+use Rattle.deviation.specs.Statistics.{is_discount}
 use Rattle.predictorcorrector.specs.declared.PredictorCorrector.{PredictorCorrector}
-use Rattle.predictorcorrector.specs.declared.Updated.{Updated}
-use Rattle.predictorcorrector.specs.State.{new}
+use Rattle.predictorcorrector.specs.State.{new, fresh_state}
 use Rattle.layout.specs.Places.{state_length}
 use Rattle.layout.specs.Numbers.{flag_byte, flag_bytes, f32_bytes, f64_bytes, i32_bytes, bytes4, bytes8}
 use Rattle.layout.specs.States.{joined, encode_thresholder, encode_deviation}
@@ -25,8 +26,6 @@ use Rattle.c_chain.specs.States.{chain_made}
 use Rattle.c_chain.proofs.Steps.{refused_number}
 use Rattle.record_pool.specs.Pool.{first_free, number_at, state_at, state_of, used_of, free_of, rules_ok, record_of, front_of, locate, vacancy, with_state, opened, removed}
 use Rattle.record_pool.specs.declared.Slot.{Slot}
-use Rattle.record_pool.specs.declared.Located.{Located}
-use Rattle.record_pool.specs.declared.Located.TheVariants.{At, Refused}
 use Rattle.record_pool.proofs.Writes.{flags_in}
 use Rattle.record_pool.proofs.Passing.{passes, passes_size, within_used}
 use Rattle.record_pool.proofs.Finding.{held}
@@ -67,36 +66,36 @@ lay_out_kept xs ok = ap (λ (b : Bool). rules_ok (cond b (left 0 laid_out) (left
 
 -- ---- removing.
 module _ (xs : List ℕ) (d : ℕ) where
-  removes_it : (s : Slot) → locate xs d ≡ At s → remove d xs ≡ left 0 (removed xs (front_of xs d) (record_of xs d))
+  removes_it : (s : Slot) → locate xs d ≡ Ok s → remove d xs ≡ left 0 (removed xs (front_of xs d) (record_of xs d))
   unfolding remove
-  removes_it s e = ap (λ (l : Located). remove_by l xs) e ∙ ap (λ (s : Slot). left 0 (removed xs s.front s.index)) (located xs d s e).same
+  removes_it s e = ap (λ (l : Result Slot Refusal). remove_by l xs) e ∙ ap (λ (s : Slot). left 0 (removed xs s.front s.index)) (located xs d s e).same
 
   pub removed_or_refused : (remove d xs).answer ≡ 0 → (0 < record_of xs d) × (rules_ok xs ≡ true) × (remove d xs ≡ left 0 (removed xs (front_of xs d) (record_of xs d)))
   unfolding remove
   removed_or_refused z = go (locate xs d) refl
     where
-      go : (l : Located) → locate xs d ≡ l → (0 < record_of xs d) × (rules_ok xs ≡ true) × (remove d xs ≡ left 0 (removed xs (front_of xs d) (record_of xs d)))
-      go (At s) e = let t = located xs d s e in (t.there, t.ok, removes_it s e)
-      go (Refused why) e = absurd (above why (sym (ap (λ (l : Located). (remove_by l xs).answer) e) ∙ z))
+      go : (l : Result Slot Refusal) → locate xs d ≡ l → (0 < record_of xs d) × (rules_ok xs ≡ true) × (remove d xs ≡ left 0 (removed xs (front_of xs d) (record_of xs d)))
+      go (Ok s) e = let t = located xs d s e in (t.there, t.ok, removes_it s e)
+      go (Err why) e = absurd (above why (sym (ap (λ (l : Result Slot Refusal). (remove_by l xs).answer) e) ∙ z))
 
   pub remove_kept : rules_ok xs ≡ true → rules_ok (remove d xs).bytes ≡ true
   unfolding remove
   remove_kept ok = go (locate xs d) refl
     where
-      go : (l : Located) → locate xs d ≡ l → rules_ok (remove_by (locate xs d) xs).bytes ≡ true
-      go (At s) e = let t = located xs d s e in ap (λ (l : Left). rules_ok l.bytes) (removes_it s e) ∙ removed_passes xs d ok t.there
-      go (Refused why) e = ap (λ (l : Located). rules_ok (remove_by l xs).bytes) e ∙ ok
+      go : (l : Result Slot Refusal) → locate xs d ≡ l → rules_ok (remove_by (locate xs d) xs).bytes ≡ true
+      go (Ok s) e = let t = located xs d s e in ap (λ (l : Left). rules_ok l.bytes) (removes_it s e) ∙ removed_passes xs d ok t.there
+      go (Err why) e = ap (λ (l : Result Slot Refusal). rules_ok (remove_by l xs).bytes) e ∙ ok
 
   pub remove_leaves : (e : ℕ) → e ≢ d → Undisturbed xs (remove d xs).bytes e
   unfolding remove
   remove_leaves e n = go (locate xs d) refl
     where
-      go : (l : Located) → locate xs d ≡ l → Undisturbed xs (remove_by (locate xs d) xs).bytes e
-      go (At s) q =
+      go : (l : Result Slot Refusal) → locate xs d ≡ l → Undisturbed xs (remove_by (locate xs d) xs).bytes e
+      go (Ok s) q =
           let t = located xs d s q in
           rw (removes_it s q) (from_records xs (removed xs (front_of xs d) (record_of xs d)) e (removed_others xs d t.ok t.there e n)
           (λ h. removed_states xs d t.ok t.there (record_of xs e) (its_used xs e t.ok h) (two_drawers xs d e t.there h n)))
-      go (Refused why) q = undisturbed_by xs (remove_by (locate xs d) xs).bytes e (ap (λ (l : Located). (remove_by l xs).bytes) q)
+      go (Err why) q = undisturbed_by xs (remove_by (locate xs d) xs).bytes e (ap (λ (l : Result Slot Refusal). (remove_by l xs).bytes) q)
 
 -- ---- the yes/no bytes of a state that was written.
 flag_small : (b : Bool) → leb (flag_byte b) 1 ≡ true
@@ -114,18 +113,26 @@ stored_flags ys s size =
     ap₂ (λ (a b : ℕ). leb a 1 && leb b 1) (w.at 124 (omega arith)) (w.at 149 (omega arith)) ∙ head_flags s
 
 -- ---- opening.
-made_is : (u : Updated) (adjust : ℕ) (out : List ℕ) → (chain_made u adjust out).answer ≡ 0 → (chain_made u adjust out).bytes ≡ encode_state_over (replicate (length out) 0) u.state
-unfolding chain_made
-made_is u adjust out z = go (eqb (answered u.answer) 0) (leb adjust 1) (eqb (length out) state_length) refl z
+-- A construction whose state was stored is one that `new` accepts.
+new_is : (d : Float) (auto : Bool) (base adjust : ℕ) (out : List ℕ) → (chain_made (new d auto base) adjust out).answer ≡ 0 → new d auto base ≡ Ok (fresh_state d auto base)
+unfolding chain_made new
+new_is d auto base adjust out = go (is_discount d) (leb 1 base && leb base 16)
   where
-    go : (a b c : Bool) → eqb (answered u.answer) 0 ≡ a
-        → (cond a (cond b (cond c (left 0 (encode_state_over (replicate (length out) 0) u.state)) (left 3 out)) (left 2 out)) (left (answered u.answer) out)).answer ≡ 0
-        → (cond a (cond b (cond c (left 0 (encode_state_over (replicate (length out) 0) u.state)) (left 3 out)) (left 2 out)) (left (answered u.answer) out)).bytes
-        ≡ encode_state_over (replicate (length out) 0) u.state
-    go false b c ea e = absurd (eqb-false (answered u.answer) 0 ea e)
-    go true false c ea e = absurd (omega arith)
-    go true true false ea e = absurd (omega arith)
-    go true true true ea e = refl
+    go : (b c : Bool) → (chain_made (cond b (cond c (Ok (fresh_state d auto base)) (Err Refusals.Range)) (Err Refusals.Discount)) adjust out).answer ≡ 0
+        → cond b (cond c (Ok (fresh_state d auto base)) (Err Refusals.Range)) (Err Refusals.Discount) ≡ Ok (fresh_state d auto base)
+    go true true z = refl
+    go true false z = absurd (omega arith)
+    go false c z = absurd (omega arith)
+
+made_is : (s : PredictorCorrector) (adjust : ℕ) (out : List ℕ) → (chain_made (Ok s) adjust out).answer ≡ 0 → (chain_made (Ok s) adjust out).bytes ≡ encode_state_over (replicate (length out) 0) s
+unfolding chain_made
+made_is s adjust out z = go (leb adjust 1) (eqb (length out) state_length) z
+  where
+    go : (b c : Bool) → (cond b (cond c (left 0 (encode_state_over (replicate (length out) 0) s)) (left 3 out)) (left 2 out)).answer ≡ 0
+        → (cond b (cond c (left 0 (encode_state_over (replicate (length out) 0) s)) (left 3 out)) (left 2 out)).bytes ≡ encode_state_over (replicate (length out) 0) s
+    go false c e = absurd (omega arith)
+    go true false e = absurd (omega arith)
+    go true true e = refl
 
 flags_front : (ys zs : List ℕ) → length ys ≡ state_length → flags_in ys ≡ true → flags_in (ys ++ zs) ≡ true
 unfolding flags_in
@@ -144,13 +151,19 @@ module _ (xs : List ℕ) (d : ℕ) (discount : Float) (adjust base : ℕ) where
     zeros_long : length (replicate {A = ℕ} state_length 0) ≡ state_length
     zeros_long = length-replicate {A = ℕ} state_length 0
 
-    pub made_bytes : made.bytes ≡ encode_state_over (replicate state_length 0) (new discount (eqb adjust 1) base).state
+    pub accepted : new discount (eqb adjust 1) base ≡ Ok (fresh_state discount (eqb adjust 1) base)
+    accepted = new_is discount (eqb adjust 1) base adjust (replicate state_length 0) z
+
+    pub made_bytes : made.bytes ≡ encode_state_over (replicate state_length 0) (fresh_state discount (eqb adjust 1) base)
     made_bytes =
-        made_is (new discount (eqb adjust 1) base) adjust (replicate state_length 0) z
-        ∙ ap (λ (n : ℕ). encode_state_over (replicate n 0) (new discount (eqb adjust 1) base).state) zeros_long
+        let by : made ≡ chain_made (Ok (fresh_state discount (eqb adjust 1) base)) adjust (replicate state_length 0) =
+        ap (λ (u : Result PredictorCorrector Refusal). chain_made u adjust (replicate state_length 0)) accepted in
+        ap (λ (l : Left). l.bytes) by
+        ∙ made_is (fresh_state discount (eqb adjust 1) base) adjust (replicate state_length 0) (sym (ap (λ (l : Left). l.answer) by) ∙ z)
+        ∙ ap (λ (n : ℕ). encode_state_over (replicate n 0) (fresh_state discount (eqb adjust 1) base)) zeros_long
 
     pub made_long : length made.bytes ≡ state_length
-    made_long = ap length made_bytes ∙ state_length_lem (replicate state_length 0) (new discount (eqb adjust 1) base).state zeros_long
+    made_long = ap length made_bytes ∙ state_length_lem (replicate state_length 0) (fresh_state discount (eqb adjust 1) base) zeros_long
 
     pub rest_long : length rest ≡ 2040
     rest_long = omega (arith, length-append made.bytes (replicate 730 0), length-replicate {A = ℕ} 730 0, made_long)
@@ -158,7 +171,7 @@ module _ (xs : List ℕ) (d : ℕ) (discount : Float) (adjust base : ℕ) where
     rest_flags : flags_in rest ≡ true
     rest_flags =
         flags_front made.bytes (replicate 730 0) made_long
-        (ap flags_in made_bytes ∙ stored_flags (replicate state_length 0) (new discount (eqb adjust 1) base).state zeros_long)
+        (ap flags_in made_bytes ∙ stored_flags (replicate state_length 0) (fresh_state discount (eqb adjust 1) base) zeros_long)
 
   -- Either nothing changed, or the drawer was opened.
   pub data Opening : Type 0 where
@@ -169,19 +182,19 @@ module _ (xs : List ℕ) (d : ℕ) (discount : Float) (adjust base : ℕ) where
   unfolding opening
   which = go (vacancy xs d) refl
     where
-      asked : (s : Slot) → vacancy xs d ≡ At s → (b : Bool) → eqb made.answer 0 ≡ b → Opening
+      asked : (s : Slot) → vacancy xs d ≡ Ok s → (b : Bool) → eqb made.answer 0 ≡ b → Opening
       asked s e true q =
           opens s (vacant xs d s e) (eqb-true made.answer 0 q)
-          (ap (λ (l : Located). open_by l made d xs) e ∙ ap (λ (b : Bool). cond b (left 0 (opened xs d rest)) (left made.answer xs)) q)
+          (ap (λ (l : Result Slot Refusal). open_by l made d xs) e ∙ ap (λ (b : Bool). cond b (left 0 (opened xs d rest)) (left made.answer xs)) q)
       asked s e false q =
           let is : open_by (vacancy xs d) made d xs ≡ left made.answer xs =
-          ap (λ (l : Located). open_by l made d xs) e ∙ ap (λ (b : Bool). cond b (left 0 (opened xs d rest)) (left made.answer xs)) q in
+          ap (λ (l : Result Slot Refusal). open_by l made d xs) e ∙ ap (λ (b : Bool). cond b (left 0 (opened xs d rest)) (left made.answer xs)) q in
           refused (ap (λ (l : Left). l.bytes) is) (λ z. eqb-false made.answer 0 q (sym (ap (λ (l : Left). l.answer) is) ∙ z))
 
-      go : (l : Located) → vacancy xs d ≡ l → Opening
-      go (At s) e = asked s e (eqb made.answer 0) refl
-      go (Refused why) e =
-          let is : open_by (vacancy xs d) made d xs ≡ left (number why) xs = ap (λ (l : Located). open_by l made d xs) e in
+      go : (l : Result Slot Refusal) → vacancy xs d ≡ l → Opening
+      go (Ok s) e = asked s e (eqb made.answer 0) refl
+      go (Err why) e =
+          let is : open_by (vacancy xs d) made d xs ≡ left (number why) xs = ap (λ (l : Result Slot Refusal). open_by l made d xs) e in
           refused (ap (λ (l : Left). l.bytes) is) (λ z. above why (sym (ap (λ (l : Left). l.answer) is) ∙ z))
 
   module _ (s : Slot) (v : Vacant xs d s) (z : made.answer ≡ 0) where

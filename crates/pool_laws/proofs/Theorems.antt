@@ -1,4 +1,5 @@
 -- Rule 13 and the chains, and isolation: the two statements. Assumes nothing.
+use Rattle.std.specs.Prelude.{Ok}
 use mathlib.Core.Path.{◌≡◌, refl, sym, ap, ◌∙◌}
 use mathlib.Core.Bool.{Bool, true, false, cond}
 use mathlib.Core.List.{List, [], ◌∷◌, ◌++◌, map}
@@ -11,7 +12,7 @@ use lib.Ieee.{Float}
 use Rattle.layout.specs.Places.{state_length}
 use Rattle.layout.specs.Chain.{encode_state_over}
 use Rattle.layout.specs.Left.{Left}
-use Rattle.predictorcorrector.specs.State.{new}
+use Rattle.predictorcorrector.specs.State.{new, fresh_state}
 use borrow.Author.Tests.{eqb-true, eqb-false, ltb-true, ltb-false, lt-ltb, le-ltb}
 use Rattle.record_pool.specs.Lists.{occ}
 use Rattle.record_pool.specs.Pool.{place, count_of, first_used, first_free, next_at, state_at, state_of, used_of, free_of, rules_ok, record_of, number_at, numbers_of, with_header, opened}
@@ -27,7 +28,7 @@ use Rattle.pool_laws.specs.Isolation.{Isolation}
 use Rattle.pool_laws.proofs.Removing.{removed_gone, removed_free, removed_used, removed_zeros}
 use Rattle.pool_laws.proofs.Settling.{settled_used, settled_free}
 use Rattle.pool_laws.proofs.LayingOut.{empty_passes, empty_used, empty_free}
-use Rattle.pool_laws.proofs.Frames.{made, made_bytes, made_long, rest, rest_long, which, refused, opens, opens_record, opens_used, opens_free, removed_or_refused, Wrote}
+use Rattle.pool_laws.proofs.Frames.{made, accepted, made_bytes, made_long, rest, rest_long, which, refused, opens, opens_record, opens_used, opens_free, removed_or_refused, Wrote}
 use Rattle.pool_laws.proofs.Frames as Frames
 use Rattle.pool_laws.proofs.Alone.{set_wrote, judged_wrote, alone, isolated}
 use Rattle.pool_laws.proofs.Answers.{kept, unchanged}
@@ -39,7 +40,7 @@ module _ (xs : List ℕ) (d : ℕ) (discount : Float) (adjust base : ℕ) where
 
   -- The new record's state is the new state.
   new_state : (s : Slot) → Vacant xs d s → (made xs d discount adjust base).answer ≡ 0
-      → state_at (opened xs d tail) (first_free xs) ≡ encode_state_over (replicate state_length 0) (new discount (eqb adjust 1) base).state
+      → state_at (opened xs d tail) (first_free xs) ≡ encode_state_over (replicate state_length 0) (fresh_state discount (eqb adjust 1) base)
   unfolding state_at opened
   new_state s v z =
       let i : s.index ≡ first_free xs = ap (λ (s : Slot). s.index) v.same in
@@ -52,7 +53,8 @@ module _ (xs : List ℕ) (d : ℕ) (discount : Float) (adjust base : ℕ) where
   abbrev Opened : Left → Type 0
   Opened o =
       (used_of o.bytes ≡ first_free xs ∷ used_of xs) × (free_of xs ≡ first_free xs ∷ free_of o.bytes) × (record_of o.bytes d ≡ first_free xs)
-      × (state_of o.bytes d ≡ encode_state_over (replicate state_length 0) (new discount (eqb adjust 1) base).state)
+      × (new discount (eqb adjust 1) base ≡ Ok (fresh_state discount (eqb adjust 1) base))
+      × (state_of o.bytes d ≡ encode_state_over (replicate state_length 0) (fresh_state discount (eqb adjust 1) base))
 
   opened_so : (opening d discount adjust base xs).answer ≡ 0 → Opened (opening d discount adjust base xs)
   unfolding state_of
@@ -62,7 +64,7 @@ module _ (xs : List ℕ) (d : ℕ) (discount : Float) (adjust base : ℕ) where
       go (refused q n) = absurd (n z)
       go (opens s v m q) =
           let r = opens_record xs d discount adjust base s v m in
-          rw q (opens_used xs d discount adjust base s v m, opens_free xs d discount adjust base s v m, r, ap (state_at (opened xs d tail)) r ∙ new_state s v m)
+          rw q (opens_used xs d discount adjust base s v m, opens_free xs d discount adjust base s v m, r, accepted xs d discount adjust base m, ap (state_at (opened xs d tail)) r ∙ new_state s v m)
 
 -- ---- removing.
 abbrev Removed : List ℕ → ℕ → Left → Type 0

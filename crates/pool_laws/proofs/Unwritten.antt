@@ -1,4 +1,5 @@
 -- A judgment writes the state unless it is the same: a refusal and a skipped reading leave it, and every other reading counts one more. Assumes nothing.
+use Rattle.std.specs.Prelude.{Result, Ok, Err}
 use mathlib.Core.Path.{◌≡◌, refl, sym, ap, ◌∙◌}
 use mathlib.Core.Bool.{Bool, true, false, cond, ◌&&◌, and-false, false≢true}
 use mathlib.Core.List.{List}
@@ -11,8 +12,6 @@ use lib.Ieee.{Float}
 use borrow.Author.Tests.{ne_eqb}
 use Rattle.types.specs.Codes.{is_height}
 use Rattle.types.specs.declared.Refusal.TheVariants.{Range, Length, NotFinite, ValuesSeen, Count}
-use Rattle.types.specs.declared.Answer.{Answer}
-use Rattle.types.specs.declared.Answer.TheVariants as Answers
 use Rattle.deviation.specs.Const.{count_limit}
 use Rattle.deviation.specs.Statistics.{countable, one_more}
 use Rattle.basicthresholder.specs.Updates.{update_primary, update, counts_ok}
@@ -31,8 +30,6 @@ use Rattle.detection.specs.Judging.{is_drift_mode, update_score, entered, candid
 use Rattle.detection.specs.Judged.{outcome, outcome_of, state_after}
 use Rattle.detection.specs.declared.Verdict.{Verdict}
 use Rattle.detection.specs.declared.Verdict.TheVariants.{Quiet, Corrected, Raised, Skipped}
-use Rattle.detection.specs.declared.Outcome.{Outcome}
-use Rattle.detection.specs.declared.Outcome.TheVariants.{Accepted, Refused}
 use Rattle.layout.specs.Chain.{decode_state, encode_state_over}
 use Rattle.layout.specs.Readings.{decode_reading, decode_last}
 use Rattle.layout.specs.Places.{verdict_length}
@@ -42,6 +39,8 @@ use Rattle.pool_settings.specs.Sameness.{same_whole, same_thresholder, same_stat
 use Rattle.pool_settings.specs.Settings.{stored_unless_same}
 use Rattle.pool_settings.proofs.Sameness.{state_same}
 use Rattle.pool_laws.specs.Unwritten.{Unwritten}
+use Rattle.types.specs.declared.Refusal.{Refusal}
+use Rattle.types.specs.Refusals.{Answer}
 
 -- ---- a count that is one more is another
 count_differs : (n : ℤ) → countable n ≡ true → same_whole n (one_more n) ≡ false
@@ -100,7 +99,7 @@ module _ (r : Reading) (l : LastDescriptor) (b : Lent) (s : PredictorCorrector) 
     unfolding update_score State.update_score
     score_counts x = go (is_height r.scoring_strategy)
       where
-        go : (h : Bool) → (cond h (update t r.score x (height_score l.scoring_strategy l.score)).thresholder (update_primary t r.score).thresholder).count ≡ one_more t.count
+        go : (h : Bool) → (cond h (update t r.score x (height_score l.scoring_strategy l.score)).state (update_primary t r.score).state).count ≡ one_more t.count
         go true = ap (λ (u : BasicThresholder). u.count) (capped_counted t counts r.score x (height_score l.scoring_strategy l.score)) ∙ both_count t _ _
         go false = ap (λ (u : BasicThresholder). u.count) (primary_counted_lem t counts r.score) ∙ primary_count t r.score
 
@@ -124,7 +123,7 @@ module _ (r : Reading) (l : LastDescriptor) (b : Lent) (s : PredictorCorrector) 
 
 -- ---- an accepted reading passed refusal 6
 done_passes : (a c d e f : Bool)
-    → cond a (cond c (cond d (cond e (cond f Answers.Done (Answers.Refused Count)) (Answers.Refused ValuesSeen)) (Answers.Refused NotFinite)) (Answers.Refused Length)) (Answers.Refused Range) ≡ Answers.Done
+    → cond {A = Answer} a (cond c (cond d (cond e (cond f (Ok tt) (Err Count)) (Err ValuesSeen)) (Err NotFinite)) (Err Length)) (Err Range) ≡ Ok tt
     → f ≡ true
 done_passes true true true true true q = refl
 done_passes true true true true false q = absurd (let z : ◌≡◌ {A = ℕ} 0 1 = cc in omega arith)
@@ -146,19 +145,19 @@ module _ (zs reading last : List ℕ) (b : Lent) (e h w v : ℕ) where
   abbrev asked : Answer
   asked = answer_of r l b e h w s.base_dimension (state_counts_ok s)
 
-  passes_six : asked ≡ Answers.Done → state_counts_ok s ≡ true
+  passes_six : asked ≡ Ok tt → state_counts_ok s ≡ true
   unfolding answer_of
   passes_six =
       done_passes (range_ok r.shingle_size r.base_dimension s.base_dimension) (lengths_ok r l (lengths_of b e h w)) (finite_ok r l b)
       (seen_ok r.values_seen l.has_anomaly l.anomaly.values_seen) (state_counts_ok s)
 
-  accepted_done : (x : Verdict) → outcome_over zs reading last b e h w v ≡ Accepted x → asked ≡ Answers.Done
+  accepted_done : (x : Verdict) → outcome_over zs reading last b e h w v ≡ Ok x → asked ≡ Ok tt
   unfolding outcome_over outcome outcome_of
   accepted_done x = go (codes_ok zs reading last) (slices_ok (length zs) (length reading) (length last) (eqb v verdict_length)) (sizes_fit zs reading) asked
     where
-      go : (p q f : Bool) (a : Answer) → cond p (cond q (outcome_of (verdict r l b s) a) (cond f (Refused Length) (Refused Range))) (Refused Range) ≡ Accepted x → a ≡ Answers.Done
-      go true true f Answers.Done i = refl
-      go true true f (Answers.Refused why) i = absurd (let z : ◌≡◌ {A = ℕ} 0 1 = cc in omega arith)
+      go : (p q f : Bool) (a : Answer) → cond p (cond q (outcome_of (verdict r l b s) a) (cond f (Err Length) (Err Range))) (Err Range) ≡ Ok x → a ≡ Ok tt
+      go true true f (Ok tt) i = refl
+      go true true f (Err why) i = absurd (let z : ◌≡◌ {A = ℕ} 0 1 = cc in omega arith)
       go true false true a i = absurd (let z : ◌≡◌ {A = ℕ} 0 1 = cc in omega arith)
       go true false false a i = absurd (let z : ◌≡◌ {A = ℕ} 0 1 = cc in omega arith)
       go false q f a i = absurd (let z : ◌≡◌ {A = ℕ} 0 1 = cc in omega arith)
@@ -168,16 +167,16 @@ module _ (zs reading last : List ℕ) (b : Lent) (e h w v : ℕ) where
   unfolding stored_unless_same
   by u c e = ap (λ (c : Bool). cond c zs (encode_state_over zs u)) (sym e)
 
-  changed_by : (x : Verdict) → changes_state x ≡ true → outcome_over zs reading last b e h w v ≡ Accepted x → encode_state_over zs (after r l b s x) ≡ stored_unless_same zs (after r l b s x)
+  changed_by : (x : Verdict) → changes_state x ≡ true → outcome_over zs reading last b e h w v ≡ Ok x → encode_state_over zs (after r l b s x) ≡ stored_unless_same zs (after r l b s x)
   changed_by x c i = by (after r l b s x) false (changed r l b s (passes_six (accepted_done x i)) x c)
 
-  unwritten : (o : Outcome) → outcome_over zs reading last b e h w v ≡ o → state_left o zs (state_over zs reading last b o) ≡ stored_unless_same zs (state_over zs reading last b o)
+  unwritten : (o : Result Verdict Refusal) → outcome_over zs reading last b e h w v ≡ o → state_left o zs (state_over zs reading last b o) ≡ stored_unless_same zs (state_over zs reading last b o)
   unfolding state_left stored changes_state state_over state_after after
-  unwritten (Refused why) i = by s true (state_same s)
-  unwritten (Accepted Skipped) i = by s true (state_same s)
-  unwritten (Accepted (Quiet t)) i = changed_by (Quiet t) refl i
-  unwritten (Accepted (Corrected t m)) i = changed_by (Corrected t m) refl i
-  unwritten (Accepted (Raised t g)) i = changed_by (Raised t g) refl i
+  unwritten (Err why) i = by s true (state_same s)
+  unwritten (Ok Skipped) i = by s true (state_same s)
+  unwritten (Ok (Quiet t)) i = changed_by (Quiet t) refl i
+  unwritten (Ok (Corrected t m)) i = changed_by (Corrected t m) refl i
+  unwritten (Ok (Raised t g)) i = changed_by (Raised t g) refl i
 
 pub pool_unwritten : Unwritten
 pool_unwritten = record {

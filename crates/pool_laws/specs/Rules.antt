@@ -1,8 +1,8 @@
 -- Rule 13, and what each call does to the two chains: what this crate proves. The quoted words are document 02's. Definitions only.
-use Rattle.std.specs.Prelude.{ℕ, zero, suc, ◌+◌, ◌≤◌, ◌<◌, ◌≡◌, ◌≢◌, true, cond, List, [], ◌∷◌, ◌++◌, eqb, ltb, length, get_or, replicate, Float}
+use Rattle.std.specs.Prelude.{ℕ, zero, suc, ◌+◌, ◌≤◌, ◌<◌, ◌≡◌, ◌≢◌, true, cond, List, [], ◌∷◌, ◌++◌, eqb, ltb, length, get_or, replicate, Float, Ok}
 use Rattle.layout.specs.Chain.{encode_state_over}
 use Rattle.layout.specs.Places.{state_length}
-use Rattle.predictorcorrector.specs.State.{new}
+use Rattle.predictorcorrector.specs.State.{new, fresh_state}
 use Rattle.record_pool.specs.Lists.{occ}
 use Rattle.record_pool.specs.Chains as Chains
 use Rattle.record_pool.specs.Pool.{pool_length, place, count_of, first_used, first_free, next_at, number_at, flags_at, state_of, used_of, free_of, rules_ok, record_of, numbers_of}
@@ -28,10 +28,11 @@ pub record PoolRules : Type 0 where
   -- "After every call that 13 doesn't refuse" the rules hold, and a refused call changes no byte: none of the pool, and none of the slices that it may write beside it.
   pub kept : (xs : List ℕ) (c : Call) → Contract xs c → answer_of c ≢ 13 → rules_ok (after xs c) ≡ true
   pub refused : (xs : List ℕ) (c : Call) → Contract xs c → answer_of c ≢ 0 → (after xs c ≡ xs) × SlicesStay c
-  -- An opening takes the first free record and makes it the first used, with a new state.
+  -- An opening takes the first free record and makes it the first used, with the state that `new` answers.
   pub opened : (xs : List ℕ) (d : ℕ) (discount : Float) (adjust base : ℕ) → let o = opening d discount adjust base xs in o.answer ≡ 0
       → (used_of o.bytes ≡ first_free xs ∷ used_of xs) × (free_of xs ≡ first_free xs ∷ free_of o.bytes) × (record_of o.bytes d ≡ first_free xs)
-      × (state_of o.bytes d ≡ encode_state_over (replicate state_length 0) (new discount (eqb adjust 1) base).state)
+      × (new discount (eqb adjust 1) base ≡ Ok (fresh_state discount (eqb adjust 1) base))
+      × (state_of o.bytes d ≡ encode_state_over (replicate state_length 0) (fresh_state discount (eqb adjust 1) base))
   -- A removed drawer is gone; its record becomes the first free, its other bytes zero, and the used chain is what it was without it.
   pub removed : (xs : List ℕ) (d : ℕ) → let o = remove d xs in o.answer ≡ 0
       → (record_of o.bytes d ≡ 0) × (free_of o.bytes ≡ record_of xs d ∷ free_of xs)

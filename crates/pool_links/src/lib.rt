@@ -28,12 +28,14 @@ pub struct Link {
     pub number: u32,
 }
 
+#[tactic(auto, unfolding(crate::specs::Numbers::is_number))]
 pub fn is_number(n: u32) -> bool
     ensures { result ≡ Numbers.is_number n }
 {
     (1 <= n) & (n <= LARGEST_NUMBER)
 }
 
+#[tactic(auto, unfolding(crate::specs::Links::counts_agree))]
 pub fn counts_agree(count: usize, used: usize, free: usize) -> bool
     ensures { result ≡ Links.counts_agree count used free }
 {
@@ -47,6 +49,7 @@ pub fn counts_agree(count: usize, used: usize, free: usize) -> bool
     false
 }
 
+#[tactic(auto, unfolding(crate::specs::Links::one_more))]
 fn one_more(count: u32) -> u32
     ensures { result ≡ Links.one_more count }
 {
@@ -66,15 +69,6 @@ pub fn opened(index: u32, next: u32, count: u32) -> Header
     }
 }
 
-fn one_less(count: u32) -> u32
-    ensures { result ≡ count - 1 }
-{
-    if 1 <= count {
-        return count - 1;
-    }
-    0
-}
-
 fn first_used(front: u32, next: u32, used: u32) -> u32
     ensures { result ≡ cond (eqb front 0) next used }
 {
@@ -88,7 +82,7 @@ pub fn removed(index: u32, front: u32, next: u32, count: u32, used: u32) -> Head
     ensures { result ≡ Links.removed index front next count used }
 {
     Header {
-        count: one_less(count),
+        count: count.saturating_sub(1),
         used: first_used(front, next, used),
         free: index,
     }

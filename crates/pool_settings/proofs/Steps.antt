@@ -1,4 +1,5 @@
 -- The calls' branches over plain variables. Assumes nothing.
+use Rattle.std.specs.Prelude.{Result, Ok, Err}
 use mathlib.Core.Path.{◌≡◌, refl, sym, ap, subst, ◌∙◌}
 use mathlib.Core.Bool.{Bool, true, false, cond}
 use mathlib.Core.List.{List, ◌++◌}
@@ -9,11 +10,8 @@ use lib.Ieee.{Float, of_bits, binary32}
 use Rattle.types.specs.Refusals.{number}
 use Rattle.types.specs.declared.Refusal.{Refusal}
 use Rattle.types.specs.declared.Refusal.TheVariants.{Horizon}
-use Rattle.types.specs.declared.Answer.TheVariants as Answers
-use Rattle.types.specs.declared.Answer.TheVariants.{Done}
 use Rattle.basicthresholder.specs.Updates.{is_horizon, set_score_differencing, with_score_differencing}
 use Rattle.predictorcorrector.specs.declared.PredictorCorrector.{PredictorCorrector}
-use Rattle.predictorcorrector.specs.declared.Updated.{Updated}
 use Rattle.predictorcorrector.specs.State.{updated, with_thresholder, set_horizon}
 use Rattle.layout.specs.Places.{state_length, score_differencing_at}
 use Rattle.layout.specs.Numbers.{le4, f32_at, pasted}
@@ -22,8 +20,6 @@ use Rattle.layout.specs.Left.{Left, left}
 use Rattle.c_chain.specs.States.{chain_refusal, chain_set, horizon_set_in}
 use Rattle.record_pool.specs.Pool.{locate, place, state_at, with_state}
 use Rattle.record_pool.specs.declared.Slot.{Slot}
-use Rattle.record_pool.specs.declared.Located.{Located}
-use Rattle.record_pool.specs.declared.Located.TheVariants as Places
 use Rattle.record_pool.proofs.Locating.{Occupied, located}
 use Rattle.record_pool.proofs.Putting.{part_put}
 use Rattle.pool_settings.specs.Sameness.{same_float, same_state}
@@ -33,39 +29,40 @@ use Rattle.pool_settings.specs.declared.Found.{Found}
 use Rattle.pool_settings.specs.declared.Found.TheVariants.{At, Same, Refused}
 use Rattle.pool_settings.proofs.Sameness.{horizon_compared}
 use Rattle.pool_settings.proofs.Stored.{state_single, state_long, state_kept, occupied_fits, occupied_ready}
+use Rattle.types.specs.declared.Updated.{Updated}
 
 -- ---- `find`.
 module _ (xs : List ℕ) (d k : ℕ) (x : Float) where
-  pub found_there : (s : Slot) (n : ℕ) (y : Float) (b c : Bool) → locate xs d ≡ Places.At s → n ≡ le4 xs (s.state + k) → y ≡ of_bits binary32 n → b ≡ same_float y x → b ≡ c
+  pub found_there : (s : Slot) (n : ℕ) (y : Float) (b c : Bool) → locate xs d ≡ Ok s → n ≡ le4 xs (s.state + k) → y ≡ of_bits binary32 n → b ≡ same_float y x → b ≡ c
       → cond c Same (At s.state) ≡ found xs d k x
   unfolding found f32_at
   found_there s n y b c e en ey eb ec =
       let tells : c ≡ same_float (of_bits binary32 (le4 xs (s.state + k))) x = sym ec ∙ eb ∙ ap (λ (z : Float). same_float z x) (ey ∙ ap (of_bits binary32) en) in
-      ap (λ (b : Bool). cond b Same (At s.state)) tells ∙ sym (ap (λ (l : Located). found_by l xs k x) e)
+      ap (λ (b : Bool). cond b Same (At s.state)) tells ∙ sym (ap (λ (l : Result Slot Refusal). found_by l xs k x) e)
 
-  pub found_refused : (why : Refusal) → locate xs d ≡ Places.Refused why → Refused why ≡ found xs d k x
+  pub found_refused : (why : Refusal) → locate xs d ≡ Err why → Refused why ≡ found xs d k x
   unfolding found
-  found_refused why e = sym (ap (λ (l : Located). found_by l xs k x) e)
+  found_refused why e = sym (ap (λ (l : Result Slot Refusal). found_by l xs k x) e)
 
   -- ---- what its answer tells: the drawer's record, and whether its number at place k is x.
   pub record Met (same : Bool) (from : ℕ) : Type 0 where
     pub slot : Slot
-    pub there : locate xs d ≡ Places.At slot
+    pub there : locate xs d ≡ Ok slot
     pub told : same_float (f32_at xs (slot.state + k)) x ≡ same
     pub start : from ≡ slot.state
 
   abbrev Tells : Found → Type 0
   Tells (At from) = Met false from
   Tells Same = (from : ℕ) × Met true from
-  Tells (Refused why) = locate xs d ≡ Places.Refused why
+  Tells (Refused why) = locate xs d ≡ Err why
 
-  by_located : (l : Located) → locate xs d ≡ l → Tells (found_by l xs k x)
-  by_located (Places.At s) e = go (same_float (f32_at xs (s.state + k)) x) refl
+  by_located : (l : Result Slot Refusal) → locate xs d ≡ l → Tells (found_by l xs k x)
+  by_located (Ok s) e = go (same_float (f32_at xs (s.state + k)) x) refl
     where
       go : (b : Bool) → same_float (f32_at xs (s.state + k)) x ≡ b → Tells (cond b Same (At s.state))
       go true q = (s.state, record { slot = s; there = e; told = q; start = refl })
       go false q = record { slot = s; there = e; told = q; start = refl }
-  by_located (Places.Refused why) e = e
+  by_located (Err why) e = e
 
   tells : (f : Found) → f ≡ found xs d k x → (g : Found) → f ≡ g → Tells g
   unfolding found
@@ -97,7 +94,7 @@ module _ (xs : List ℕ) (d k : ℕ) (x : Float) where
 
     set_is : (c : Setting) → set c d xs ≡ in_record xs index (stored_on (changed c (decode_state (state_at xs index))) (state_at xs index))
     unfolding set set_on
-    set_is c = ap (λ (l : Located). set_by l c xs) m.there
+    set_is c = ap (λ (l : Result Slot Refusal). set_by l c xs) m.there
 
     -- The part that is lent to the setter is the state, and the pool afterwards has its bytes in place of the state.
     part_is : take (from + state_length - from) (drop from xs) ≡ state_at xs index
@@ -119,10 +116,10 @@ module _ (xs : List ℕ) (d k : ℕ) (x : Float) where
 
   pub set_refused : (c : Setting) (g : Found) → g ≡ found xs d k x → (why : Refusal) (n : ℕ) → g ≡ Refused why → n ≡ number why → left n xs ≡ set c d xs
   unfolding set
-  set_refused c g e why n q p = ap (λ (n : ℕ). left n xs) p ∙ sym (ap (λ (l : Located). set_by l c xs) (tells g e (Refused why) q))
+  set_refused c g e why n q p = ap (λ (n : ℕ). left n xs) p ∙ sym (ap (λ (l : Result Slot Refusal). set_by l c xs) (tells g e (Refused why) q))
 
   -- ---- a setting that no value is refused of, f being what it makes of a state.
-  module _ (small : k + 4 ≤ state_length) (c : Setting) (f : PredictorCorrector → PredictorCorrector) (plain : (s : PredictorCorrector) → changed c s ≡ updated Done (f s))
+  module _ (small : k + 4 ≤ state_length) (c : Setting) (f : PredictorCorrector → PredictorCorrector) (plain : (s : PredictorCorrector) → changed c s ≡ updated (Ok tt) (f s))
       (compared : (ys : List ℕ) → same_state (decode_state ys) (f (decode_state ys)) ≡ same_float (f32_at ys k) x) where
     stored : (same : Bool) (from : ℕ) (m : Met same from) → set c d xs
         ≡ left 0 (with_state xs m.slot.index (cond same (state_at xs m.slot.index) (encode_state_over (state_at xs m.slot.index) (f (decode_state (state_at xs m.slot.index))))))
@@ -130,7 +127,7 @@ module _ (xs : List ℕ) (d k : ℕ) (x : Float) where
     stored same from m =
         let i = m.slot.index in
         let ys = state_at xs i in
-        set_is same from m c ∙ ap (λ (u : Updated). in_record xs i (stored_on u ys)) (plain (decode_state ys))
+        set_is same from m c ∙ ap (λ (u : Updated PredictorCorrector). in_record xs i (stored_on u ys)) (plain (decode_state ys))
         ∙ ap (λ (b : Bool). left 0 (with_state xs i (cond b ys (encode_state_over ys (f (decode_state ys)))))) (compared ys ∙ number_is same from m small)
 
     pub set_same : (g : Found) → g ≡ found xs d k x → g ≡ Same → left 0 xs ≡ set c d xs
@@ -152,11 +149,11 @@ abbrev with_horizon : Float → PredictorCorrector → PredictorCorrector
 with_horizon x s = with_thresholder s (with_score_differencing s.basic_thresholder x)
 
 module _ (x : Float) where
-  valid : is_horizon x ≡ true → (s : PredictorCorrector) → set_horizon s x ≡ updated Done (with_horizon x s)
+  valid : is_horizon x ≡ true → (s : PredictorCorrector) → set_horizon s x ≡ updated (Ok tt) (with_horizon x s)
   unfolding set_horizon set_score_differencing
   valid h s = rw h
 
-  invalid : is_horizon x ≡ false → (s : PredictorCorrector) → set_horizon s x ≡ updated (Answers.Refused Horizon) s
+  invalid : is_horizon x ≡ false → (s : PredictorCorrector) → set_horizon s x ≡ updated (Err Horizon) s
   unfolding set_horizon set_score_differencing
   invalid h s = rw h
 
@@ -176,7 +173,7 @@ module _ (xs : List ℕ) (d : ℕ) (x : Float) where
   kept : is_horizon x ≡ false → (same : Bool) (from : ℕ) → Met xs d at x same from → left 7 xs ≡ set (horizon x) d xs
   kept h same from m =
       let i = m.slot.index in
-      sym (set_is xs d at x same from m (horizon x) ∙ ap (λ (u : Updated). in_record xs i (stored_on u (state_at xs i))) (invalid x h (decode_state (state_at xs i)))
+      sym (set_is xs d at x same from m (horizon x) ∙ ap (λ (u : Updated PredictorCorrector). in_record xs i (stored_on u (state_at xs i))) (invalid x h (decode_state (state_at xs i)))
       ∙ ap (left 7) (state_kept xs i (fits xs d at x same from m)))
 
   module _ (g : Found) (e : g ≡ found xs d at x) where

@@ -2,7 +2,7 @@
 // that leaves the state the same as it was.
 #![tactic(auto)]
 
-ghost use Rattle.std.specs.Prelude.{◌≡◌, ◌+◌, ◌≤◌, ◌<◌, length};
+ghost use Rattle.std.specs.Prelude.{◌≡◌, ◌+◌, ◌≤◌, length};
 ghost use Rattle.layout.specs.Left.{left};
 ghost use Rattle.layout.specs.Numbers as Numbers;
 ghost use Rattle.layout.specs.Places.{state_length};
@@ -10,7 +10,6 @@ ghost use Rattle.pool_settings.specs.Sameness.{same_float};
 ghost use Rattle.pool_settings.specs.Settings as Settings;
 ghost use Rattle.pool_settings.specs.Steps as Steps;
 
-use record_pool::Located;
 use types::Refusal;
 
 // Where in a state the four numbers stand that are set.
@@ -22,7 +21,7 @@ const INITIAL_THRESHOLD_AT: usize = 141;
 
 const Z_FACTOR_AT: usize = 145;
 
-// Document 01's refusal of a horizon.
+// Document 01's refusal of a horizon: a number, as C is told it.
 const HORIZON: u8 = 7;
 
 // What a setting finds: where the state begins that it changes, or that the state has this number already.
@@ -31,23 +30,6 @@ enum Found {
     At(usize),
     Same,
     Refused(Refusal),
-}
-
-fn wide(b: u8) -> u32
-    ensures { (result ≡ b) × (result < 0x100) }
-{
-    b as u32
-}
-
-fn read4(bytes: &[u8], at: usize) -> u32
-    requires { at + 4 ≤ length bytes.now }
-    ensures { result ≡ Numbers.le4 bytes.now at }
-{
-    let a = wide(bytes[at]);
-    let b = wide(bytes[at + 1]);
-    let c = wide(bytes[at + 2]);
-    let d = wide(bytes[at + 3]);
-    a + 0x100 * b + 0x1_0000 * c + 0x100_0000 * d
 }
 
 // A NaN is the same as a NaN.
@@ -63,20 +45,31 @@ fn same(a: f32, b: f32) -> bool
     false
 }
 
+// As in `layout`: it asks for room, and a `requires` does not cross a crate.
+#[tactic(auto, using(layout::proofs::Words::four_at))]
+fn u32_at(bytes: &[u8], at: usize) -> u32
+    requires { at + 4 ≤ length bytes.now }
+    ensures { result ≡ Numbers.le4 bytes.now at }
+{
+    let mut four = [0u8; 4];
+    four.copy_from_slice(&bytes[at..at + 4]);
+    u32::from_le_bytes(four)
+}
+
 // The number at place `at` of the drawer's state against the new one.
 fn find(pool: &[u8], drawer: u32, at: usize, x: f32) -> Found
     requires { at + 4 ≤ state_length }
     ensures { result ≡ Steps.found pool.now drawer at x }
 {
     match record_pool::locate(pool, drawer) {
-        Located::At(slot) => {
+        Ok(slot) => {
             let from = slot.state;
-            if same(ieee::f32_from_bits(read4(pool, from + at)), x) {
+            if same(ieee::f32_from_bits(u32_at(pool, from + at)), x) {
                 return Found::Same;
             }
             Found::At(from)
         }
-        Located::Refused(why) => Found::Refused(why),
+        Err(why) => Found::Refused(why),
     }
 }
 

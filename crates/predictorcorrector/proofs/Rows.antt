@@ -1,7 +1,8 @@
 -- One step more of `stepped` and `changed`, as a loop takes it: a store at the next place. Lengths stay, and each element is changed on its own. What a row that fits
 -- gives. Assumes nothing.
-use Rattle.std.proofs.Common.{◌≡◌, ℕ, zero, suc, ◌+◌, ◌-◌, ◌<◌, ◌≤◌, Bool, true, false, cond, ◌&&◌, leb, List, [], ◌∷◌, length, get_or, drop, set, sym, refl, ap, ◌∙◌, ap₂, true≢false, zero-le, le_of_suc-le-suc, not-suc-le-zero, add-one, arith, drop-cons, le-leb, leb-true}
+use Rattle.std.proofs.Common.{◌≡◌, ℕ, zero, suc, ◌+◌, ◌-◌, ◌<◌, ◌≤◌, Bool, true, false, cond, ◌&&◌, leb, List, [], ◌∷◌, ◌++◌, length, get_or, take, drop, set, replicate, sym, refl, ap, ◌∙◌, ap₂, true≢false, le_of_suc-le-suc, not-suc-le-zero, add-one, arith, drop-cons, le-leb, leb-true}
 use lib.Ieee.{Float}
+use Rattle.std.specs.List.{list_all}
 use Rattle.deviation.specs.Const.{count_limit}
 use Rattle.deviation.specs.Statistics.{countable}
 use Rattle.deviation.specs.declared.Deviation.{Deviation}
@@ -64,12 +65,31 @@ module _ {A : Type 0} (f : A → A) where
   changed_at d₀ (suc n) zero (d ∷ ds) h k = refl
   changed_at d₀ (suc n) (suc i) (d ∷ ds) h k = changed_at d₀ n i ds (le_of_suc-le-suc h) (le_of_suc-le-suc k)
 
+  pub changed_front : (n : ℕ) (ds : List A) → changed f n (take n ds) ++ drop n ds ≡ changed f n ds
+  unfolding changed
+  changed_front zero ds = refl
+  changed_front (suc n) [] = refl
+  changed_front (suc n) (d ∷ ds) = ap (λ (l : List A). f d ∷ l) (changed_front n ds)
+
   pub changed_more : (i : ℕ) (ds out : List A) (d₀ r : A) → out ≡ changed f i ds → r ≡ f (get_or out i d₀) → i < length ds → set out i r ≡ changed f (i + 1) ds
   changed_more i ds out d₀ r eo er h =
       ap (set out i) er
       ∙ ap (λ (l : List A). set l i (f (get_or l i d₀))) eo
       ∙ changed_next i ds d₀ h
       ∙ ap (λ (n : ℕ). changed f n ds) (sym (add-one i))
+
+-- The first n elements x, before the rest.
+pub changed_to : {A : Type 0} (x : A) (n : ℕ) (ds : List A) → n ≤ length ds → replicate n x ++ drop n ds ≡ changed (λ (old : A). x) n ds
+unfolding changed
+changed_to x zero ds h = refl
+changed_to x (suc n) [] h = absurd (not-suc-le-zero h)
+changed_to x (suc n) (d ∷ ds) h = ap (λ (l : List _). x ∷ l) (changed_to x n ds (le_of_suc-le-suc h))
+
+pub first_all : (n : ℕ) (ds : List Deviation) → list_all (λ (d : Deviation). countable d.count) (take n ds) ≡ first_countable n ds
+unfolding first_countable
+first_all zero ds = refl
+first_all (suc n) [] = refl
+first_all (suc n) (d ∷ ds) = ap (λ (b : Bool). countable d.count && b) (first_all n ds)
 
 one_less : (n i : ℕ) → i < n → n - i ≡ suc (n - (i + 1))
 one_less n i h = let e : n - i ≡ n - (i + 1) + 1 = omega arith in e ∙ add-one (n - (i + 1))
@@ -84,19 +104,11 @@ pub countable_end : (n i : ℕ) (ds : List Deviation) → n ≤ i → first_coun
 unfolding first_countable
 countable_end n i ds h = let e : n - i ≡ 0 = omega arith in ap (λ (m : ℕ). first_countable m (drop i ds)) e
 
-pub existing_most : (auto : Bool) (base : ℕ) → base ≤ 16 → existing auto base ≤ 16
-existing_most true base h = h
-existing_most false base h = zero-le
-
 pub both : (a b : Bool) → (a && b) ≡ true → (a ≡ true) × (b ≡ true)
 both true b e = (refl, e)
 both false b e = absurd (true≢false (sym e))
 
 -- Three tests of which the code joins the first two.
-pub third_left : (a b c : Bool) → (a && b) ≡ true → c ≡ (a && (b && c))
-third_left true b c e = ap (λ (x : Bool). x && c) (sym e)
-third_left false b c e = absurd (true≢false (sym e))
-
 pub none_left : (a b c : Bool) → (a && b) ≡ false → false ≡ (a && (b && c))
 none_left true b c e = ap (λ (x : Bool). x && c) (sym e)
 none_left false b c e = refl

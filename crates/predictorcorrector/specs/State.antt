@@ -1,8 +1,6 @@
 -- predictorcorrector.rs: the state, its construction and setters, and what a reading does to it. One definition for each, in the Rust's shape.
-use Rattle.std.specs.Prelude.{ℕ, ◌+◌, ◌-◌, Bool, false, cond, ◌&&◌, List, replicate, nat_le, nat_lt, slice_index_or, Float}
+use Rattle.std.specs.Prelude.{ℕ, ◌+◌, ◌-◌, Bool, false, cond, ◌&&◌, List, replicate, nat_le, nat_lt, slice_index_or, Float, Ok, Err, Result}
 use Rattle.types.specs.declared.Refusal.TheVariants.{Discount, Range}
-use Rattle.types.specs.declared.Answer.{Answer}
-use Rattle.types.specs.declared.Answer.TheVariants.{Done, Refused}
 use Rattle.types.specs.declared.ScoringStrategy.{ScoringStrategy}
 use Rattle.types.specs.Codes.{is_height}
 use Rattle.deviation.specs.Const.{zero64, count_limit}
@@ -13,8 +11,10 @@ use Rattle.basicthresholder.specs.Updates.{fresh_thresholder, counts_ok, update_
 use Rattle.basicthresholder.specs.declared.BasicThresholder.{BasicThresholder}
 use Rattle.predictorcorrector.specs.Lists.{changed, stepped, row_fits, list_countable}
 use Rattle.predictorcorrector.specs.declared.PredictorCorrector.{PredictorCorrector}
-use Rattle.predictorcorrector.specs.declared.Updated.{Updated}
 use Rattle.predictorcorrector.specs.declared.Standing.{Standing}
+use Rattle.types.specs.declared.Updated.{Updated}
+use Rattle.types.specs.Refusals.{Answer}
+use Rattle.types.specs.declared.Refusal.{Refusal}
 
 -- The state by its parts.
 abbrev pub state : BasicThresholder → Bool → ℕ → ℕ → List Deviation → List Deviation → PredictorCorrector
@@ -28,7 +28,7 @@ state t auto run base actual expected = record {
 }
 
 -- A call's answer beside the state.
-abbrev pub updated : Answer → PredictorCorrector → Updated
+abbrev pub updated : Answer → PredictorCorrector → Updated PredictorCorrector
 updated a s = record { answer = a; state = s }
 
 -- The state with another thresholder.
@@ -52,16 +52,12 @@ fresh_state discount auto base =
     let row = fresh_list discount (existing auto base) in
     state (fresh_thresholder discount false) auto 0 base row row
 
--- What stands beside a refused construction's answer: the new state of discount 0, base 1, without auto adjust. No call hands it on.
-unfoldable pub refused_new : Answer → Updated
-refused_new why = updated why (fresh_state zero64 false 1)
-
 -- Refusal 1, then refusal 2 for a base outside 1 to 16.
-unfoldable pub new : Float → Bool → ℕ → Updated
+unfoldable pub new : Float → Bool → ℕ → Result PredictorCorrector Refusal
 new discount auto base =
     cond (is_discount discount)
-    (cond (nat_le 1 base && nat_le base 16) (updated Done (fresh_state discount auto base)) (refused_new (Refused Range)))
-    (refused_new (Refused Discount))
+    (cond (nat_le 1 base && nat_le base 16) (Ok (fresh_state discount auto base)) (Err Range))
+    (Err Discount)
 
 -- ---- setters
 abbrev pub z_factor_set : PredictorCorrector → Float → PredictorCorrector
@@ -75,10 +71,10 @@ abbrev pub initial_threshold_set : PredictorCorrector → Float → PredictorCor
 initial_threshold_set s x = with_thresholder s (with_initial_threshold s.basic_thresholder x)
 
 -- Refusal 7 outside [0, 1].
-unfoldable pub set_horizon : PredictorCorrector → Float → Updated
+unfoldable pub set_horizon : PredictorCorrector → Float → Updated PredictorCorrector
 set_horizon s x =
     let u = set_score_differencing s.basic_thresholder x in
-    updated u.answer (with_thresholder s u.thresholder)
+    updated u.answer (with_thresholder s u.state)
 
 -- ---- refusal 6: run length, the thresholder's counts, and with auto adjust those of the entries that exist
 unfoldable pub state_counts_ok : PredictorCorrector → Bool
@@ -142,5 +138,5 @@ height_score strategy score = cond (is_height strategy) score zero32
 unfoldable pub update_score : BasicThresholder → ScoringStrategy → Float → Float → ScoringStrategy → Float → BasicThresholder
 update_score t strategy score corrected_score last_strategy last_score =
     cond (is_height strategy)
-    (update t score corrected_score (height_score last_strategy last_score)).thresholder
-    (update_primary t score).thresholder
+    (update t score corrected_score (height_score last_strategy last_score)).state
+    (update_primary t score).state

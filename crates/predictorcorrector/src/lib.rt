@@ -4,16 +4,15 @@
 ghost use Rattle.std.specs.Prelude.{◌≡◌, ◌≤◌, false, length};
 ghost use Rattle.deviation.specs.Const.{zero64};
 ghost use Rattle.deviation.specs.Statistics as Statistics;
-ghost use Rattle.types.specs.declared.Answer.TheVariants.{Refused};
 ghost use Rattle.basicthresholder.specs.Updates as Updates;
 ghost use Rattle.predictorcorrector.specs.Lists as Lists;
 ghost use Rattle.predictorcorrector.specs.State as State;
 
-use basicthresholder::{BasicThresholder, Made};
+use basicthresholder::BasicThresholder;
 use deviation::Deviation;
-use types::{Answer, Refusal, ScoringStrategy};
+use types::{Refusal, ScoringStrategy, Updated};
 
-// The lists have room for 16; the first `base_dimension` entries exist with auto adjust, and none without it.
+// The lists have room for 16 in memory of a fixed size; the first `base_dimension` entries exist with auto adjust, and none without it.
 #[derive(Clone, Copy)]
 pub struct PredictorCorrector {
     pub basic_thresholder: BasicThresholder,
@@ -22,13 +21,6 @@ pub struct PredictorCorrector {
     pub base_dimension: u32,
     pub deviations_actual: [Deviation; 16],
     pub deviations_expected: [Deviation; 16],
-}
-
-// A call's answer beside the state, which a refusal hands back as it came.
-#[derive(Clone, Copy)]
-pub struct Updated {
-    pub answer: Answer,
-    pub state: PredictorCorrector,
 }
 
 // How a state stands: all that judging looks at. Of the two lists the last entries alone decide; `counts_ok` is refusal 6's test, which the state's owner makes.
@@ -46,39 +38,26 @@ pub struct Standing {
 // The longest run that refusal 6 lets pass.
 const RUN_LIMIT: u32 = 16777215;
 
-fn count_row(list: [Deviation; 16], row: &[f32], n: usize) -> [Deviation; 16]
-    requires fact_1 { n ≤ 16 }
-    requires fact_2 { n ≤ length row.now }
+fn count_row(mut list: [Deviation; 16], row: &[f32], n: usize) -> [Deviation; 16]
+    requires few { n ≤ 16 }
+    requires wide { n ≤ length row.now }
     ensures { result ≡ Lists.stepped Statistics.counted n list row.now }
 {
-    let mut out = list;
-    let mut i = 0usize;
-    while i < n {
-        let d = out[i];
-        out[i] = d.counted(std::num::f32_to_f64_with_nan(row[i]));
-        i += 1;
+    for i in 0..n {
+        let d = list[i];
+        list[i] = d.counted(std::num::f32_to_f64_with_nan(row[i]));
     }
-    out
+    list
 }
 
-fn reset_row(list: [Deviation; 16], n: usize) -> [Deviation; 16]
+fn reset_row(mut list: [Deviation; 16], n: usize) -> [Deviation; 16]
     requires { n ≤ 16 }
     ensures { result ≡ Lists.changed Statistics.reset n list }
 {
-    let mut out = list;
-    let mut i = 0usize;
-    while i < n {
-        let d = out[i];
-        out[i] = d.reset();
-        i += 1;
+    for d in list[..n].iter_mut() {
+        *d = d.reset();
     }
-    out
-}
-
-fn takes_update(d: Deviation) -> bool
-    ensures { result ≡ Statistics.countable d.count }
-{
-    deviation::countable(d.count)
+    list
 }
 
 // The counts of the first n statistics take an update.
@@ -86,18 +65,11 @@ fn first_countable(list: [Deviation; 16], n: usize) -> bool
     requires { n ≤ 16 }
     ensures { result ≡ Lists.first_countable n list }
 {
-    let mut i = 0usize;
-    while i < n {
-        if takes_update(list[i]) {
-            i += 1;
-        } else {
-            return false;
-        }
-    }
-    true
+    list[..n].iter().all(|d| deviation::countable(d.count))
 }
 
 // The first n statistics can count a row.
+#[tactic(auto, unfolding(crate::specs::Lists::row_fits))]
 fn row_fits(list: [Deviation; 16], row: &[f32], n: usize) -> bool
     ensures { result ≡ Lists.row_fits n list row.now }
 {
@@ -107,13 +79,11 @@ fn row_fits(list: [Deviation; 16], row: &[f32], n: usize) -> bool
     false
 }
 
+#[tactic(auto, unfolding(crate::specs::Lists::list_countable))]
 fn list_countable(list: [Deviation; 16], n: usize) -> bool
     ensures { result ≡ Lists.list_countable n list }
 {
-    if n <= 16 {
-        return first_countable(list, n);
-    }
-    first_countable(list, 16)
+    first_countable(list, n.min(16))
 }
 
 // How many entries of the lists exist.
@@ -130,17 +100,13 @@ fn fresh_row(discount: f64, n: usize) -> [Deviation; 16]
     requires { n ≤ 16 }
     ensures { result ≡ State.fresh_list discount n }
 {
-    let d = Deviation::create(discount, 0.0, 0.0, 0.0, 0);
     let mut out = [Deviation::default(); 16];
-    let mut i = 0usize;
-    while i < n {
-        out[i] = d;
-        i += 1;
-    }
+    out[..n].fill(Deviation::create(discount, 0.0, 0.0, 0.0, 0));
     out
 }
 
 // One more; a run that refusal 6 is of stays.
+#[tactic(auto, unfolding(crate::specs::State::longer_run))]
 pub fn longer_run(n: u32) -> u32
     ensures { result ≡ State.longer_run n }
 {
@@ -151,6 +117,7 @@ pub fn longer_run(n: u32) -> u32
 }
 
 // The score where it is a height, else 0.
+#[tactic(auto, unfolding(crate::specs::State::height_score))]
 pub fn height_score(strategy: ScoringStrategy, score: f32) -> f32
     ensures { result ≡ State.height_score strategy score }
 {
@@ -161,6 +128,7 @@ pub fn height_score(strategy: ScoringStrategy, score: f32) -> f32
 }
 
 // Every accepted reading with a score enters the statistics once. A step of the judge, on the thresholder alone: it is left alone, whole, where refusal 6 applies.
+#[tactic(auto, unfolding(crate::specs::State::update_score))]
 pub fn update_score(
     t: BasicThresholder,
     strategy: ScoringStrategy,
@@ -177,14 +145,14 @@ pub fn update_score(
             corrected_score,
             height_score(last_strategy, last_score),
         );
-        return height.thresholder;
+        return height.state;
     }
     let distance = t.update_primary(std::num::f32_to_f64_with_nan(score));
-    distance.thresholder
+    distance.state
 }
 
 // What `set_horizon` answers of any state.
-fn horizon_answer(horizon: f32) -> Answer
+fn horizon_answer(horizon: f32) -> Result<(), Refusal>
     ensures { result ≡ (Updates.set_score_differencing (Updates.fresh_thresholder zero64 false) horizon).answer }
 {
     let u = BasicThresholder::default().set_score_differencing(horizon);
@@ -193,14 +161,15 @@ fn horizon_answer(horizon: f32) -> Answer
 
 impl PredictorCorrector {
     // The new state, by the thresholder that `BasicThresholder::new` built.
+    #[tactic(auto, unfolding(crate::specs::State::fresh_state))]
     fn fresh(
         t: BasicThresholder,
         discount: f64,
         auto_adjust: bool,
         base_dimension: u32,
     ) -> PredictorCorrector
-        requires fact_1 { t ≡ Updates.fresh_thresholder discount false }
-        requires fact_2 { base_dimension ≤ 16 }
+        requires fresh { t ≡ Updates.fresh_thresholder discount false }
+        requires few { base_dimension ≤ 16 }
         ensures { result ≡ State.fresh_state discount auto_adjust base_dimension }
     {
         let n = existing(auto_adjust, base_dimension);
@@ -215,37 +184,19 @@ impl PredictorCorrector {
         }
     }
 
-    fn refused(why: Refusal) -> Updated
-        ensures { result ≡ State.refused_new (Refused why) }
-    {
-        let t = BasicThresholder::default();
-        Updated {
-            answer: Answer::Refused(why),
-            state: PredictorCorrector::fresh(t, 0.0, false, 1),
-        }
-    }
-
-    // An enum that held the state would be no covered form, so the answer stands beside it; beside a refusal stands a state that means nothing.
-    pub fn new(discount: f64, auto_adjust: bool, base_dimension: usize) -> Updated
+    // Refusal 1 of the discount, then 2 of the base.
+    pub fn new(
+        discount: f64,
+        auto_adjust: bool,
+        base_dimension: usize,
+    ) -> Result<PredictorCorrector, Refusal>
         ensures { result ≡ State.new discount auto_adjust base_dimension }
     {
-        match BasicThresholder::new(discount) {
-            Made::Ready(t) => {
-                if (1 <= base_dimension) & (base_dimension <= 16) {
-                    return Updated {
-                        answer: Answer::Done,
-                        state: PredictorCorrector::fresh(
-                            t,
-                            discount,
-                            auto_adjust,
-                            base_dimension as u32,
-                        ),
-                    };
-                }
-                PredictorCorrector::refused(Refusal::Range)
-            }
-            Made::Refused(why) => PredictorCorrector::refused(why),
+        let t = BasicThresholder::new(discount)?;
+        if (1 <= base_dimension) & (base_dimension <= 16) {
+            return Ok(PredictorCorrector::fresh(t, discount, auto_adjust, base_dimension as u32));
         }
+        Err(Refusal::Range)
     }
 
     // The setters by value; `set_z_factor` and its like below change a lent state.
@@ -271,14 +222,15 @@ impl PredictorCorrector {
     }
 
     // Refusal 7 hands the state back as it came.
-    pub fn with_horizon(self, horizon: f32) -> Updated
+    #[tactic(auto, unfolding(crate::specs::State::set_horizon))]
+    pub fn with_horizon(self, horizon: f32) -> Updated<PredictorCorrector>
         ensures { result ≡ State.set_horizon self horizon }
     {
         let u = self.basic_thresholder.set_score_differencing(horizon);
         let answer = u.answer;
         Updated {
             answer,
-            state: self.with_thresholder(u.thresholder),
+            state: self.with_thresholder(u.state),
         }
     }
 
@@ -308,7 +260,7 @@ impl PredictorCorrector {
     }
 
     // Refusal 7 leaves the state as it was.
-    pub fn set_horizon(&mut self, horizon: f32) -> Answer
+    pub fn set_horizon(&mut self, horizon: f32) -> Result<(), Refusal>
         ensures { State.updated result self.new ≡ State.set_horizon self.old horizon }
     {
         *self = (*self).horizon_set(horizon);
@@ -324,6 +276,7 @@ impl PredictorCorrector {
     }
 
     // Refusal 6's test.
+    #[tactic(auto, unfolding(crate::specs::State::state_counts_ok))]
     pub fn counts_ok(self) -> bool
         ensures { result ≡ State.state_counts_ok self }
     {
@@ -337,6 +290,7 @@ impl PredictorCorrector {
 
     // The steps of the judge, which refuses first. What they cannot change whole they leave alone, whole.
     // Opening grade 0: with auto adjust the run ends, and both lists are reset. A base over 16 leaves the state alone.
+    #[tactic(auto, unfolding(crate::specs::State::run_ended))]
     pub fn run_ended(self) -> PredictorCorrector
         ensures { result ≡ State.run_ended self }
     {
@@ -357,6 +311,7 @@ impl PredictorCorrector {
 
     // What `update_auto_adjust` leaves: within a run the oldest row is counted, and the run is one longer. A row that does not fit, and a run or an entry that
     // refusal 6 is of, leave the state alone; `calls::update_auto_adjust` refuses.
+    #[tactic(auto, using(crate::proofs::Rows::fits_within), unfolding(crate::specs::State::auto_adjusted))]
     pub fn auto_adjusted(self, point: &[f32]) -> PredictorCorrector
         ensures { result ≡ State.auto_adjusted self point.now }
     {
@@ -376,6 +331,7 @@ impl PredictorCorrector {
 
     // The candidate branch: the newest rows of the point and of the expected point are counted, both or neither. A row that does not fit, and an entry that
     // refusal 6 is of, leave the state alone.
+    #[tactic(auto, using(crate::proofs::Rows::fits_within), unfolding(crate::specs::State::candidate_counted))]
     pub fn candidate_counted(self, newest: &[f32], expected: &[f32]) -> PredictorCorrector
         ensures { result ≡ State.candidate_counted self newest.now expected.now }
     {
@@ -394,6 +350,7 @@ impl PredictorCorrector {
     }
 
     // A raised reading is one more of the run; a run that refusal 6 is of stays.
+    #[tactic(auto, unfolding(crate::specs::State::run_grown))]
     pub fn run_grown(self) -> PredictorCorrector
         ensures { result ≡ State.run_grown self }
     {

@@ -1,7 +1,8 @@
 -- Numbers held once. Assumes nothing.
 use mathlib.Core.Path.{◌≡◌, refl, sym, ap, ◌∙◌}
 use mathlib.Core.Logic.{◌≢◌}
-use mathlib.Core.Bool.{Bool, true, false, cond, not}
+use mathlib.Core.Bool.{Bool, true, false, cond, not, ◌||◌}
+use Rattle.std.specs.List.{list_any}
 use mathlib.Core.List.{List, [], ◌∷◌}
 use Prim.Native.Nat.{ℕ, zero, suc, ◌+◌, ◌%◌, ◌≤◌, ◌<◌}
 use native.Mathlib.Nat.{mod-lt, le_antisymm}
@@ -13,7 +14,7 @@ use lib.Seq.{take-suc, get_or-set_same, get_or-set_other}
 use borrow.Author.Tests.{eqb-true, eq-eqb, ne_eqb}
 use Rattle.record_pool.specs.Lists.{same, occ, distinct}
 use Rattle.record_pool.specs.Steps.{is_before, is_taken}
-use Rattle.record_pool.proofs.Occ.{Either, equal, other, either, same_refl, same_other, occ_append, distinct_once, once_distinct}
+use Rattle.record_pool.proofs.Occ.{Either, equal, other, either, same_refl, occ_append, distinct_once, once_distinct}
 use Rattle.record_pool.proofs.Walking.{refuted, not_both}
 
 pub occ_take_le : (j k n : ℕ) (l : List ℕ) → k ≤ n → occ j (take k l) ≤ occ j (take n l)
@@ -27,27 +28,14 @@ occ_take_next j k l h =
     rw add-one (ap (occ j) (take-suc l k 0 h)) ∙ occ_append j (take k l) (get_or l k 0 ∷ []) ∙ omega arith
 
 -- ---- is_before.
-pub found_before : (l : List ℕ) (j k n : ℕ) → j < k → k ≤ 30 → length l ≡ 30 → get_or l j 0 ≡ n → true ≡ is_before l k n
-unfolding is_before
-found_before l j k n h m s e =
-    sym (ap not (ne_eqb (occ n (take k l)) 0
-    (λ z. omega (arith, occ_take_next n j l (omega arith), occ_take_le n (j + 1) k l (omega arith), ap (λ (m : ℕ). same m n) e, same_refl n))))
-
-pub not_yet : (l : List ℕ) (j k n : ℕ) → j < k → k ≤ 30 → length l ≡ 30 → occ n (take j l) ≡ 0 → (get_or l j 0 ≡ n → ⊥) → occ n (take (j + 1) l) ≡ 0
-not_yet l j k n h m s z ne = omega (arith, occ_take_next n j l (omega arith), same_other (get_or l j 0) n ne)
-
-pub none_before : (l : List ℕ) (j k n : ℕ) → j ≤ k → k ≤ j → occ n (take j l) ≡ 0 → false ≡ is_before l k n
-unfolding is_before
-none_before l j k n a b z = sym (ap not (eq-eqb (occ n (take k l)) 0 (ap (λ (m : ℕ). occ n (take m l)) (le_antisymm b a) ∙ z)))
-
--- ---- is_taken.
-pub not_taken : (mark : ℕ) (l : List ℕ) (k n : ℕ) → mark ≡ 0 → false ≡ is_taken mark l k n
-unfolding is_taken
-not_taken mark l k n z = sym (ap (λ (b : Bool). cond b false (is_before l k n)) (eq-eqb mark 0 z))
-
-pub maybe_taken : (mark : ℕ) (l : List ℕ) (k n : ℕ) (b : Bool) → (mark ≡ 0 → ⊥) → b ≡ is_before l k n → b ≡ is_taken mark l k n
-unfolding is_taken
-maybe_taken mark l k n b z e = e ∙ sym (ap (λ (b : Bool). cond b false (is_before l k n)) (ne_eqb mark 0 z))
+pub any_same : (n : ℕ) (l : List ℕ) → list_any (λ (y : ℕ). eqb y n) l ≡ not (eqb (occ n l) 0)
+unfolding same
+any_same n [] = refl
+any_same n (x ∷ l) = go (eqb x n) refl (any_same n l)
+  where
+    go : (b : Bool) → eqb x n ≡ b → list_any (λ (y : ℕ). eqb y n) l ≡ not (eqb (occ n l) 0) → (b || list_any (λ (y : ℕ). eqb y n) l) ≡ not (eqb (same x n + occ n l) 0)
+    go true e less = rw e (sym (ap not (ne_eqb (1 + occ n l) 0 (λ z. omega arith))))
+    go false e less = let none : occ n l ≡ 0 + occ n l = omega arith in rw e (less ∙ ap (λ (m : ℕ). not (eqb m 0)) none)
 
 -- ---- is_distinct. The places of all numbers so far are taken.
 pub record SoFar (taken l : List ℕ) (k : ℕ) : Type 0 where

@@ -1,4 +1,5 @@
 -- The listing of a pool: what the walks gathered. Assumes nothing.
+use Rattle.std.specs.Prelude.{Some, None}
 use mathlib.Core.Path.{◌≡◌, refl, sym, ap, ◌∙◌}
 use mathlib.Core.Bool.{Bool, true, false, cond}
 use mathlib.Core.List.{List, [], ◌∷◌, ◌++◌, map}
@@ -20,17 +21,16 @@ zeros_behind (suc n) k [] l z = absurd (omega arith)
 zeros_behind (suc n) k (x ∷ xs) l z = ap (λ (r : List ℕ). x ∷ r) (zeros_behind n k xs (omega arith) (λ j i. z (suc j) (omega arith)))
 
 module _ (xs : List ℕ) (b : Bool) (e : b ≡ rules_ok xs) where
-  pub listing_broken : (numbers : List ℕ) → b ≡ false → numbers ≡ replicate 30 0 → record { sound = false; numbers = numbers } ≡ listing xs
+  pub listing_broken : b ≡ false → None ≡ listing xs
   unfolding listing
-  listing_broken numbers f z =
-      (λ t. record { sound = false; numbers = z t }) ∙ sym (ap (λ (c : Bool). cond c (record { sound = true; numbers = numbers_of xs }) (record { sound = false; numbers = replicate 30 0 })) (sym e ∙ f))
+  listing_broken f = sym (ap (λ (c : Bool). cond c (Some (numbers_of xs)) None) (sym e ∙ f))
 
   found : (fine : Bool) (used free : ℕ) (numbers : List ℕ) → b ≡ true → WalksTell xs fine used free numbers → Both xs used free numbers
   found true used free numbers t w = w.0 refl
   found false used free numbers t w = absurd (let f = w.1 refl in let q : ◌≡◌ {A = ℕ} 0 1 = cc in omega arith)
 
   pub listing_sound : (fine : Bool) (used free : ℕ) (numbers : List ℕ) → b ≡ true → length numbers ≡ 30 → WalksTell xs fine used free numbers
-      → record { sound = true; numbers = numbers } ≡ listing xs
+      → Some numbers ≡ listing xs
   unfolding listing numbers_of
   listing_sound fine used free numbers t l w =
       let both = found fine used free numbers t w in
@@ -40,5 +40,5 @@ module _ (xs : List ℕ) (b : Bool) (e : b ≡ rules_ok xs) where
       let n : numbers ≡ map (number_at xs) (used_of xs) ++ replicate (30 - length (used_of xs)) 0 =
       zeros_behind used (30 - used) numbers (omega (arith, short_used xs (sym e ∙ t), long)) f.rest ∙ ap (λ (r : List ℕ). r ++ replicate (30 - used) 0) (f.images ∙ ap (map (number_at xs)) (sym us))
       ∙ ap (λ (n : ℕ). map (number_at xs) (used_of xs) ++ replicate (30 - n) 0) (sym long) in
-      (λ t. record { sound = true; numbers = n t })
-      ∙ sym (ap (λ (c : Bool). cond c (record { sound = true; numbers = map (number_at xs) (used_of xs) ++ replicate (30 - length (used_of xs)) 0 }) (record { sound = false; numbers = replicate 30 0 })) (sym e ∙ t))
+      ap Some n
+      ∙ sym (ap (λ (c : Bool). cond c (Some (map (number_at xs) (used_of xs) ++ replicate (30 - length (used_of xs)) 0)) None) (sym e ∙ t))

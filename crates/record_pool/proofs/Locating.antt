@@ -1,4 +1,5 @@
 -- Where a drawer is, and what is so of the record that was found. Assumes nothing.
+use Rattle.std.specs.Prelude.{Result, Ok, Err}
 use mathlib.Core.Path.{◌≡◌, refl, sym, ap, ap₂, ◌∙◌}
 use mathlib.Core.Bool.{Bool, true, false, cond, ◌&&◌}
 use mathlib.Core.List.{List, [], ◌∷◌, ◌++◌}
@@ -14,8 +15,6 @@ use Rattle.record_pool.specs.Lists.{occ}
 use Rattle.record_pool.specs.Chains.{is_number}
 use Rattle.record_pool.specs.Pool.{place, count_of, first_used, first_free, used_of, free_of, next_at, number_at, rules_ok, record_of, front_of, slot, locate, vacancy}
 use Rattle.record_pool.specs.declared.Slot.{Slot}
-use Rattle.record_pool.specs.declared.Located.{Located}
-use Rattle.record_pool.specs.declared.Located.TheVariants.{At, Refused}
 use Rattle.record_pool.proofs.Occ.{same_le, occ_append}
 use Rattle.record_pool.proofs.Chaining.{last_or, last_in}
 use Rattle.record_pool.proofs.Bytes.{place_high}
@@ -31,59 +30,59 @@ slot_is xs i front at next count used free ep en ec eu ef =
     λ t. record { index = i; state = ep t + 8; front = front; next = (en ∙ ap (le4 xs) ep) t; count = ec t; used = eu t; free = ef t }
 
 module _ (xs : List ℕ) (d : ℕ) (b : Bool) (e : b ≡ rules_ok xs) where
-  abbrev there : Located
-  there = At (slot xs (record_of xs d) (front_of xs d))
+  abbrev there : Result Slot Refusal
+  there = Ok (slot xs (record_of xs d) (front_of xs d))
 
-  pub locate_broken : b ≡ false → Refused Refusals.Pool ≡ locate xs d
+  pub locate_broken : b ≡ false → Err Refusals.Pool ≡ locate xs d
   unfolding locate
-  locate_broken f = sym (ap (λ (c : Bool). cond c (cond (eqb (record_of xs d) 0) (Refused Refusals.Drawer) there) (Refused Refusals.Pool)) (sym e ∙ f))
+  locate_broken f = sym (ap (λ (c : Bool). cond c (cond (eqb (record_of xs d) 0) (Err Refusals.Drawer) there) (Err Refusals.Pool)) (sym e ∙ f))
 
-  searched : (z : Bool) → b ≡ true → eqb (record_of xs d) 0 ≡ z → locate xs d ≡ cond z (Refused Refusals.Drawer) there
+  searched : (z : Bool) → b ≡ true → eqb (record_of xs d) 0 ≡ z → locate xs d ≡ cond z (Err Refusals.Drawer) there
   unfolding locate
   searched z t q =
-      ap (λ (c : Bool). cond c (cond (eqb (record_of xs d) 0) (Refused Refusals.Drawer) there) (Refused Refusals.Pool)) (sym e ∙ t)
-      ∙ ap (λ (c : Bool). cond c (Refused Refusals.Drawer) there) q
+      ap (λ (c : Bool). cond c (cond (eqb (record_of xs d) 0) (Err Refusals.Drawer) there) (Err Refusals.Pool)) (sym e ∙ t)
+      ∙ ap (λ (c : Bool). cond c (Err Refusals.Drawer) there) q
 
-  pub locate_absent : (i front : ℕ) → b ≡ true → (i ≡ record_of xs d) × (front ≡ front_of xs d) → i ≡ 0 → Refused Refusals.Drawer ≡ locate xs d
+  pub locate_absent : (i front : ℕ) → b ≡ true → (i ≡ record_of xs d) × (front ≡ front_of xs d) → i ≡ 0 → Err Refusals.Drawer ≡ locate xs d
   locate_absent i front t s z = sym (searched true t (eq-eqb (record_of xs d) 0 (sym s.0 ∙ z)))
 
-  pub locate_there : (i front : ℕ) (r : Slot) → b ≡ true → (i ≡ record_of xs d) × (front ≡ front_of xs d) → (i ≡ 0 → ⊥) → r ≡ slot xs i front → At r ≡ locate xs d
+  pub locate_there : (i front : ℕ) (r : Slot) → b ≡ true → (i ≡ record_of xs d) × (front ≡ front_of xs d) → (i ≡ 0 → ⊥) → r ≡ slot xs i front → Ok r ≡ locate xs d
   locate_there i front r t s n q =
-      ap At (q ∙ ap₂ (slot xs) s.0 s.1) ∙ sym (searched false t (ne_eqb (record_of xs d) 0 (λ z. n (s.0 ∙ z))))
+      ap Ok (q ∙ ap₂ (slot xs) s.0 s.1) ∙ sym (searched false t (ne_eqb (record_of xs d) 0 (λ z. n (s.0 ∙ z))))
 
-  abbrev spare : Located
-  spare = At (slot xs (first_free xs) 0)
+  abbrev spare : Result Slot Refusal
+  spare = Ok (slot xs (first_free xs) 0)
 
-  pub vacancy_broken : b ≡ false → Refused Refusals.Pool ≡ vacancy xs d
+  pub vacancy_broken : b ≡ false → Err Refusals.Pool ≡ vacancy xs d
   unfolding vacancy
   vacancy_broken f =
-      sym (ap (λ (c : Bool). cond c (cond (is_number d && eqb (record_of xs d) 0) (cond (eqb (first_free xs) 0) (Refused Refusals.Full) spare) (Refused Refusals.Drawer)) (Refused Refusals.Pool))
+      sym (ap (λ (c : Bool). cond c (cond (is_number d && eqb (record_of xs d) 0) (cond (eqb (first_free xs) 0) (Err Refusals.Full) spare) (Err Refusals.Drawer)) (Err Refusals.Pool))
       (sym e ∙ f))
 
-  asked : (n z : Bool) → b ≡ true → is_number d ≡ n → eqb (record_of xs d) 0 ≡ z → vacancy xs d ≡ cond (n && z) (cond (eqb (first_free xs) 0) (Refused Refusals.Full) spare) (Refused Refusals.Drawer)
+  asked : (n z : Bool) → b ≡ true → is_number d ≡ n → eqb (record_of xs d) 0 ≡ z → vacancy xs d ≡ cond (n && z) (cond (eqb (first_free xs) 0) (Err Refusals.Full) spare) (Err Refusals.Drawer)
   unfolding vacancy
   asked n z t en ez =
-      ap (λ (c : Bool). cond c (cond (is_number d && eqb (record_of xs d) 0) (cond (eqb (first_free xs) 0) (Refused Refusals.Full) spare) (Refused Refusals.Drawer)) (Refused Refusals.Pool))
+      ap (λ (c : Bool). cond c (cond (is_number d && eqb (record_of xs d) 0) (cond (eqb (first_free xs) 0) (Err Refusals.Full) spare) (Err Refusals.Drawer)) (Err Refusals.Pool))
       (sym e ∙ t)
-      ∙ ap₂ (λ (n z : Bool). cond (n && z) (cond (eqb (first_free xs) 0) (Refused Refusals.Full) spare) (Refused Refusals.Drawer)) en ez
+      ∙ ap₂ (λ (n z : Bool). cond (n && z) (cond (eqb (first_free xs) 0) (Err Refusals.Full) spare) (Err Refusals.Drawer)) en ez
 
-  pub vacancy_unnumbered : (n : Bool) → b ≡ true → n ≡ is_number d → n ≡ false → Refused Refusals.Drawer ≡ vacancy xs d
+  pub vacancy_unnumbered : (n : Bool) → b ≡ true → n ≡ is_number d → n ≡ false → Err Refusals.Drawer ≡ vacancy xs d
   vacancy_unnumbered n t en f = sym (asked false (eqb (record_of xs d) 0) t (sym en ∙ f) refl)
 
   pub vacancy_taken : (n : Bool) (i front : ℕ) → b ≡ true → n ≡ is_number d → n ≡ true → (i ≡ record_of xs d) × (front ≡ front_of xs d) → (i ≡ 0 → ⊥)
-      → Refused Refusals.Drawer ≡ vacancy xs d
+      → Err Refusals.Drawer ≡ vacancy xs d
   vacancy_taken n i front t en f s k = sym (asked true false t (sym en ∙ f) (ne_eqb (record_of xs d) 0 (λ q. k (s.0 ∙ q))))
 
   module _ (n : Bool) (i front j : ℕ) (t : b ≡ true) (en : n ≡ is_number d) (f : n ≡ true) (s : (i ≡ record_of xs d) × (front ≡ front_of xs d)) (z : i ≡ 0) (ej : j ≡ first_free xs) where
-    absent : (full : Bool) → eqb (first_free xs) 0 ≡ full → vacancy xs d ≡ cond full (Refused Refusals.Full) spare
+    absent : (full : Bool) → eqb (first_free xs) 0 ≡ full → vacancy xs d ≡ cond full (Err Refusals.Full) spare
     absent full q =
-        asked true true t (sym en ∙ f) (eq-eqb (record_of xs d) 0 (sym s.0 ∙ z)) ∙ ap (λ (c : Bool). cond c (Refused Refusals.Full) spare) q
+        asked true true t (sym en ∙ f) (eq-eqb (record_of xs d) 0 (sym s.0 ∙ z)) ∙ ap (λ (c : Bool). cond c (Err Refusals.Full) spare) q
 
-    pub vacancy_full : j ≡ 0 → Refused Refusals.Full ≡ vacancy xs d
+    pub vacancy_full : j ≡ 0 → Err Refusals.Full ≡ vacancy xs d
     vacancy_full q = sym (absent true (eq-eqb (first_free xs) 0 (sym ej ∙ q)))
 
-    pub vacancy_there : (r : Slot) → (j ≡ 0 → ⊥) → r ≡ slot xs j 0 → At r ≡ vacancy xs d
-    vacancy_there r k q = ap At (q ∙ ap (λ (m : ℕ). slot xs m 0) ej) ∙ sym (absent false (ne_eqb (first_free xs) 0 (λ p. k (ej ∙ p))))
+    pub vacancy_there : (r : Slot) → (j ≡ 0 → ⊥) → r ≡ slot xs j 0 → Ok r ≡ vacancy xs d
+    vacancy_there r k q = ap Ok (q ∙ ap (λ (m : ℕ). slot xs m 0) ej) ∙ sym (absent false (ne_eqb (first_free xs) 0 (λ p. k (ej ∙ p))))
 
 -- ---- what is so of a record that was found.
 -- A drawer that is there.
@@ -113,7 +112,7 @@ pub record Vacant (xs : List ℕ) (d : ℕ) (s : Slot) : Type 0 where
   pub high : s.index ≤ 30
   pub fewer : s.count ≤ 29
 
-none : (s : Slot) (why : Refusal) → Refused why ≡ At s → ⊥
+none : (s : Slot) (why : Refusal) → Err why ≡ Ok s → ⊥
 none s why e = let z : ◌≡◌ {A = ℕ} 0 1 = cc in omega arith
 
 occ_length : (j : ℕ) (l : List ℕ) → occ j l ≤ length l
@@ -160,12 +159,12 @@ module _ (xs : List ℕ) (d : ℕ) (ok : rules_ok xs ≡ true) (there : 0 < reco
         few = omega (arith, count_small r);
       }
 
-pub located : (xs : List ℕ) (d : ℕ) (s : Slot) → locate xs d ≡ At s → Occupied xs d s
+pub located : (xs : List ℕ) (d : ℕ) (s : Slot) → locate xs d ≡ Ok s → Occupied xs d s
 unfolding locate
 located xs d s h = go (rules_ok xs) (eqb (record_of xs d) 0) refl refl h
   where
     go : (b z : Bool) → rules_ok xs ≡ b → eqb (record_of xs d) 0 ≡ z
-        → cond b (cond z (Refused Refusals.Drawer) (At (slot xs (record_of xs d) (front_of xs d)))) (Refused Refusals.Pool) ≡ At s → Occupied xs d s
+        → cond b (cond z (Err Refusals.Drawer) (Ok (slot xs (record_of xs d) (front_of xs d)))) (Err Refusals.Pool) ≡ Ok s → Occupied xs d s
     go false z eb ez e = absurd (none s Refusals.Pool e)
     go true true eb ez e = absurd (none s Refusals.Drawer e)
     go true false eb ez e =
@@ -173,12 +172,12 @@ located xs d s h = go (rules_ok xs) (eqb (record_of xs d) 0) refl refl h
         let same : s ≡ slot xs (record_of xs d) (front_of xs d) = cc in
         occupied xs d eb (omega arith) s same
 
-pub vacant : (xs : List ℕ) (d : ℕ) (s : Slot) → vacancy xs d ≡ At s → Vacant xs d s
+pub vacant : (xs : List ℕ) (d : ℕ) (s : Slot) → vacancy xs d ≡ Ok s → Vacant xs d s
 unfolding vacancy
 vacant xs d s h = go (rules_ok xs) (is_number d) (eqb (record_of xs d) 0) (eqb (first_free xs) 0) refl refl refl refl h
   where
     go : (b n z f : Bool) → rules_ok xs ≡ b → is_number d ≡ n → eqb (record_of xs d) 0 ≡ z → eqb (first_free xs) 0 ≡ f
-        → cond b (cond (n && z) (cond f (Refused Refusals.Full) (At (slot xs (first_free xs) 0))) (Refused Refusals.Drawer)) (Refused Refusals.Pool) ≡ At s → Vacant xs d s
+        → cond b (cond (n && z) (cond f (Err Refusals.Full) (Ok (slot xs (first_free xs) 0))) (Err Refusals.Drawer)) (Err Refusals.Pool) ≡ Ok s → Vacant xs d s
     go false n z f eb en ez ef e = absurd (none s Refusals.Pool e)
     go true false z f eb en ez ef e = absurd (none s Refusals.Drawer e)
     go true true false f eb en ez ef e = absurd (none s Refusals.Drawer e)

@@ -1,14 +1,12 @@
 -- A pool of thirty records of equal size in one lent buffer, which document 02 calls the chest: what stands where in its bytes, the chains of used and of free
 -- records, rule 13, and where a drawer is. A header of 32 bytes, then records 1 to 30 of 2,048 bytes each; whole numbers in 4 bytes, the lowest first.
-use Rattle.std.specs.Prelude.{ℕ, ◌+◌, ◌-◌, ◌*◌, Bool, true, false, cond, ◌&&◌, List, ◌++◌, map, eqb, leb, length, get_or, take, drop, replicate}
+use Rattle.std.specs.Prelude.{ℕ, ◌+◌, ◌-◌, ◌*◌, Bool, true, false, cond, ◌&&◌, List, ◌++◌, map, eqb, leb, length, get_or, take, drop, replicate, Result, Ok, Err, Option, Some, None}
 use Rattle.types.specs.declared.Refusal.TheVariants as Refusals
 use Rattle.layout.specs.Places.{state_length, auto_threshold_at, auto_adjust_at}
 use Rattle.layout.specs.Numbers.{le4, bytes4, pasted}
 use Rattle.record_pool.specs.Chains.{chain, is_number, rules_hold, holder, in_front}
 use Rattle.record_pool.specs.declared.Slot.{Slot}
-use Rattle.record_pool.specs.declared.Listed.{Listed}
-use Rattle.record_pool.specs.declared.Located.{Located}
-use Rattle.record_pool.specs.declared.Located.TheVariants.{At, Refused}
+use Rattle.types.specs.declared.Refusal.{Refusal}
 
 -- ---- the layout
 abbrev pub pool_length : ℕ
@@ -71,23 +69,23 @@ abbrev pub slot : List ℕ → ℕ → ℕ → Slot
 slot xs i p = record { index = i; state = place i + 8; front = p; next = next_at xs i; count = count_of xs; used = first_used xs; free = first_free xs }
 
 -- A drawer that is there: 13, then 11.
-unfoldable pub locate : List ℕ → ℕ → Located
+unfoldable pub locate : List ℕ → ℕ → Result Slot Refusal
 locate xs d =
-    cond (rules_ok xs) (cond (eqb (record_of xs d) 0) (Refused Refusals.Drawer) (At (slot xs (record_of xs d) (front_of xs d)))) (Refused Refusals.Pool)
+    cond (rules_ok xs) (cond (eqb (record_of xs d) 0) (Err Refusals.Drawer) (Ok (slot xs (record_of xs d) (front_of xs d)))) (Err Refusals.Pool)
 
 -- The record for a drawer that is to be opened: 13, then 11 for a number that is not 1 to 65,535 or is there already, then 12.
-unfoldable pub vacancy : List ℕ → ℕ → Located
+unfoldable pub vacancy : List ℕ → ℕ → Result Slot Refusal
 vacancy xs d =
     cond (rules_ok xs)
-    (cond (is_number d && eqb (record_of xs d) 0) (cond (eqb (first_free xs) 0) (Refused Refusals.Full) (At (slot xs (first_free xs) 0))) (Refused Refusals.Drawer))
-    (Refused Refusals.Pool)
+    (cond (is_number d && eqb (record_of xs d) 0) (cond (eqb (first_free xs) 0) (Err Refusals.Full) (Ok (slot xs (first_free xs) 0))) (Err Refusals.Drawer))
+    (Err Refusals.Pool)
 
 -- The drawers' numbers in the used chain's order, then zeros: thirty in all.
 unfoldable pub numbers_of : List ℕ → List ℕ
 numbers_of xs = map (number_at xs) (used_of xs) ++ replicate (30 - length (used_of xs)) 0
 
-unfoldable pub listing : List ℕ → Listed
-listing xs = cond (rules_ok xs) (record { sound = true; numbers = numbers_of xs }) (record { sound = false; numbers = replicate 30 0 })
+unfoldable pub listing : List ℕ → Option (List ℕ)
+listing xs = cond (rules_ok xs) (Some (numbers_of xs)) None
 
 -- ---- writes
 unfoldable pub with_header : List ℕ → (count used free : ℕ) → List ℕ

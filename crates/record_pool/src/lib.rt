@@ -30,19 +30,6 @@ pub struct Slot {
     pub free: u32,
 }
 
-#[derive(Clone, Copy)]
-pub enum Located {
-    At(Slot),
-    Refused(Refusal),
-}
-
-// Thirty numbers; whether the pool is one that 13 does not refuse.
-#[derive(Clone, Copy)]
-pub struct Listed {
-    pub sound: bool,
-    pub numbers: [u32; 30],
-}
-
 // What the two walks of a pool found: whether both came to their ends, how many records each met, and the drawer numbers of the used chain.
 #[derive(Drop)]
 struct Walked {
@@ -59,62 +46,60 @@ struct Position {
     front: usize,
 }
 
-fn wide(b: u8) -> u32
-    ensures { (result ≡ b) × (result < 0x100) }
-{
-    b as u32
-}
-
-fn read4(bytes: &[u8], at: usize) -> u32
-    requires { at + 4 ≤ length bytes.now }
-    ensures { result ≡ Numbers.le4 bytes.now at }
-{
-    let a = wide(bytes[at]);
-    let b = wide(bytes[at + 1]);
-    let c = wide(bytes[at + 2]);
-    let d = wide(bytes[at + 3]);
-    a + 0x100 * b + 0x1_0000 * c + 0x100_0000 * d
-}
-
 fn index_at(bytes: &[u8], at: usize) -> usize
     requires { at + 4 ≤ length bytes.now }
     ensures { result ≡ Numbers.le4 bytes.now at }
 {
-    read4(bytes, at) as usize
+    u32_at(bytes, at) as usize
+}
+
+// As in `layout`: it asks for room, and a `requires` does not cross a crate.
+#[tactic(auto, using(layout::proofs::Words::four_at))]
+fn u32_at(bytes: &[u8], at: usize) -> u32
+    requires { at + 4 ≤ length bytes.now }
+    ensures { result ≡ Numbers.le4 bytes.now at }
+{
+    let mut four = [0u8; 4];
+    four.copy_from_slice(&bytes[at..at + 4]);
+    u32::from_le_bytes(four)
 }
 
 // Where record i begins.
+#[tactic(auto, unfolding(crate::specs::Pool::place))]
 fn place(i: usize) -> usize
-    requires fact_1 { 1 ≤ i }
-    requires fact_2 { i ≤ 30 }
+    requires least { 1 ≤ i }
+    requires most { i ≤ 30 }
     ensures { (result ≡ Pool.place i) × (result + 2048 ≤ 61472) }
 {
     32 + 2048 * (i - 1)
 }
 
+#[tactic(auto, unfolding(crate::specs::Pool::next_at))]
 fn next_at(pool: &[u8], i: usize) -> usize
-    requires fact_1 { length pool.now ≡ 61472 }
-    requires fact_2 { 1 ≤ i }
-    requires fact_3 { i ≤ 30 }
+    requires long { length pool.now ≡ 61472 }
+    requires least { 1 ≤ i }
+    requires most { i ≤ 30 }
     ensures { result ≡ Pool.next_at pool.now i }
 {
     index_at(pool, place(i))
 }
 
+#[tactic(auto, unfolding(crate::specs::Pool::number_at))]
 fn number_at(pool: &[u8], i: usize) -> u32
-    requires fact_1 { length pool.now ≡ 61472 }
-    requires fact_2 { 1 ≤ i }
-    requires fact_3 { i ≤ 30 }
+    requires long { length pool.now ≡ 61472 }
+    requires least { 1 ≤ i }
+    requires most { i ≤ 30 }
     ensures { result ≡ Pool.number_at pool.now i }
 {
-    read4(pool, place(i) + 4)
+    u32_at(pool, place(i) + 4)
 }
 
 // Both yes/no bytes of record i are 0 or 1.
+#[tactic(auto, unfolding(crate::specs::Pool::flags_at))]
 fn flags_at(pool: &[u8], i: usize) -> bool
-    requires fact_1 { length pool.now ≡ 61472 }
-    requires fact_2 { 1 ≤ i }
-    requires fact_3 { i ≤ 30 }
+    requires long { length pool.now ≡ 61472 }
+    requires least { 1 ≤ i }
+    requires most { i ≤ 30 }
     ensures { result ≡ Pool.flags_at pool.now i }
 {
     let at = place(i);
@@ -124,10 +109,11 @@ fn flags_at(pool: &[u8], i: usize) -> bool
     false
 }
 
+#[tactic(auto, unfolding(crate::specs::Steps::is_sound))]
 fn is_sound(pool: &[u8], i: usize) -> bool
-    requires fact_1 { length pool.now ≡ 61472 }
-    requires fact_2 { 1 ≤ i }
-    requires fact_3 { i ≤ 30 }
+    requires long { length pool.now ≡ 61472 }
+    requires least { 1 ≤ i }
+    requires most { i ≤ 30 }
     ensures { result ≡ is_sound pool.now i }
 {
     if pool_links::is_number(number_at(pool, i)) {
@@ -137,6 +123,7 @@ fn is_sound(pool: &[u8], i: usize) -> bool
 }
 
 // Where the mark of a record stands; 0 for what is no record.
+#[tactic(auto, unfolding(crate::specs::Steps::mark_place))]
 fn mark_place(at: usize) -> usize
     ensures { (result ≡ mark_place at) × (result ≤ 30) }
 {
@@ -147,6 +134,7 @@ fn mark_place(at: usize) -> usize
 }
 
 // Whether a walk that has met n records may go on to `at`, which is not 0: n below 30, `at` not above 30, and its mark not set.
+#[tactic(auto, unfolding(crate::specs::Steps::is_unmarked))]
 fn is_unmarked(mark: u8, at: usize, n: usize) -> bool
     ensures { result ≡ is_unmarked mark at n }
 {
@@ -230,16 +218,10 @@ fn is_before(numbers: [u32; 30], k: usize, n: u32) -> bool
     requires { k ≤ 30 }
     ensures { result ≡ is_before numbers k n }
 {
-    let mut j = 0usize;
-    while j < k {
-        if numbers[j] == n {
-            return true;
-        }
-        j += 1;
-    }
-    false
+    numbers[..k].contains(&n)
 }
 
+#[tactic(auto, unfolding(crate::specs::Steps::is_taken))]
 fn is_taken(mark: u8, numbers: [u32; 30], k: usize, n: u32) -> bool
     requires { k ≤ 30 }
     ensures { result ≡ is_taken mark numbers k n }
@@ -256,14 +238,12 @@ fn is_distinct(numbers: [u32; 30], n: usize) -> bool
     ensures { result ≡ Lists.distinct (take n numbers) }
 {
     let mut taken = no_places();
-    let mut k = 0usize;
-    while k < n {
+    for k in 0..n {
         let number = numbers[k];
         if is_taken(taken[(number % 64) as usize], numbers, k, number) {
             return false;
         }
         taken[(number % 64) as usize] = 1;
-        k += 1;
     }
     true
 }
@@ -286,8 +266,8 @@ fn rules_ok(pool: &[u8]) -> bool
 }
 
 fn find(pool: &[u8], drawer: u32) -> Position
-    requires fact_1 { Pool.rules_ok pool.now ≡ true }
-    requires fact_2 { length pool.now ≡ 61472 }
+    requires sound { Pool.rules_ok pool.now ≡ true }
+    requires long { length pool.now ≡ 61472 }
     ensures { (result.record ≡ Pool.record_of pool.now drawer) × (result.front ≡ Pool.front_of pool.now drawer) }
 {
     let mut at = index_at(pool, 4);
@@ -303,9 +283,9 @@ fn find(pool: &[u8], drawer: u32) -> Position
 }
 
 fn slot_of(pool: &[u8], index: usize, front: usize) -> Slot
-    requires fact_1 { length pool.now ≡ 61472 }
-    requires fact_2 { 1 ≤ index }
-    requires fact_3 { index ≤ 30 }
+    requires long { length pool.now ≡ 61472 }
+    requires least { 1 ≤ index }
+    requires most { index ≤ 30 }
     ensures { result ≡ Pool.slot pool.now index front }
 {
     let at = place(index);
@@ -313,29 +293,29 @@ fn slot_of(pool: &[u8], index: usize, front: usize) -> Slot
         index,
         state: at + 8,
         front,
-        next: read4(pool, at),
-        count: read4(pool, 0),
-        used: read4(pool, 4),
-        free: read4(pool, 8),
+        next: u32_at(pool, at),
+        count: u32_at(pool, 0),
+        used: u32_at(pool, 4),
+        free: u32_at(pool, 8),
     }
 }
 
 // Where a drawer is: 13, then 11.
-pub fn locate(pool: &[u8], drawer: u32) -> Located
+pub fn locate(pool: &[u8], drawer: u32) -> Result<Slot, Refusal>
     ensures { result ≡ Pool.locate pool.now drawer }
 {
     if rules_ok(pool) {
         let position = find(pool, drawer);
         if position.record == 0 {
-            return Located::Refused(Refusal::Drawer);
+            return Err(Refusal::Drawer);
         }
-        return Located::At(slot_of(pool, position.record, position.front));
+        return Ok(slot_of(pool, position.record, position.front));
     }
-    Located::Refused(Refusal::Pool)
+    Err(Refusal::Pool)
 }
 
 // The record that a new drawer takes: 13, then 11, then 12.
-pub fn vacancy(pool: &[u8], drawer: u32) -> Located
+pub fn vacancy(pool: &[u8], drawer: u32) -> Result<Slot, Refusal>
     ensures { result ≡ Pool.vacancy pool.now drawer }
 {
     if rules_ok(pool) {
@@ -344,30 +324,23 @@ pub fn vacancy(pool: &[u8], drawer: u32) -> Located
             if position.record == 0 {
                 let index = index_at(pool, 8);
                 if index == 0 {
-                    return Located::Refused(Refusal::Full);
+                    return Err(Refusal::Full);
                 }
-                return Located::At(slot_of(pool, index, 0));
+                return Ok(slot_of(pool, index, 0));
             }
         }
-        return Located::Refused(Refusal::Drawer);
+        return Err(Refusal::Drawer);
     }
-    Located::Refused(Refusal::Pool)
+    Err(Refusal::Pool)
 }
 
-// The drawers' numbers in the used chain's order.
-pub fn listing(pool: &[u8]) -> Listed
+// The drawers' numbers in the used chain's order, zeros behind them; none of a pool that 13 refuses.
+pub fn listing(pool: &[u8]) -> Option<[u32; 30]>
     ensures { result ≡ Pool.listing pool.now }
 {
     if rules_ok(pool) {
         let found = walks(pool);
-        let numbers = found.numbers;
-        return Listed {
-            sound: true,
-            numbers,
-        };
+        return Some(found.numbers);
     }
-    Listed {
-        sound: false,
-        numbers: no_numbers(),
-    }
+    None
 }

@@ -1,12 +1,12 @@
 // A case: 48 bytes, then for a call on a state that state's bytes and the bytes it is to have afterwards.
 ghost use Rattle.std.specs.Io.{ReadsAtMost};
-ghost use Rattle.std.specs.Prelude.{◌+◌, ◌<◌, ◌≤◌, length};
+ghost use Rattle.std.specs.Prelude.{◌+◌, ◌≤◌, length};
 
 use std::io;
 use std::io::Read;
 
 // Byte 0 is the operation, byte 1 the number that the call answers; from byte 8 on four arguments and the result, of eight bytes each, the
-// lowest first. What a call does not have is 0.
+// lowest first. What a call does not have is 0. Operations are numbers here and in the other replays, since the files that they read have them so.
 #[derive(Clone, Copy)]
 pub(crate) struct Case {
     pub operation: u8,
@@ -18,25 +18,13 @@ pub(crate) struct Case {
     pub result: u64,
 }
 
-pub(crate) fn wide(b: u8) -> u64
-    ensures { result < 0x100 }
-{
-    b as u64
-}
-
-fn four(a: u8, b: u8, c: u8, d: u8) -> u64
-    ensures { result < 0x1_0000_0000 }
-{
-    wide(a) + 0x100 * wide(b) + 0x1_0000 * wide(c) + 0x100_0000 * wide(d)
-}
-
 // The eight bytes from `at` on, the lowest first.
 pub(crate) fn word_at(b: &[u8], at: usize) -> u64
     requires { at + 8 ≤ length b.now }
 {
-    let low = four(b[at], b[at + 1], b[at + 2], b[at + 3]);
-    let high = four(b[at + 4], b[at + 5], b[at + 6], b[at + 7]);
-    low + 0x1_0000_0000 * high
+    let mut word = [0u8; 8];
+    word.copy_from_slice(&b[at..at + 8]);
+    u64::from_le_bytes(word)
 }
 
 // Reads until `out` is full or the input ends, and tells how many bytes there were.
@@ -87,26 +75,8 @@ pub(crate) fn size(w: u64) -> usize {
     w as usize
 }
 
-// Two's complement.
 pub(crate) fn signed(n: u32) -> i32 {
-    if n < 0x8000_0000 {
-        return n as i32;
-    }
-    -1 - ((0xffff_ffff - n) as i32)
-}
-
-pub(crate) fn is_equal(a: &[u8], b: &[u8]) -> bool {
-    if a.len() != b.len() {
-        return false;
-    }
-    let mut i = 0usize;
-    while i < a.len() {
-        if a[i] != b[i] {
-            return false;
-        }
-        i += 1;
-    }
-    true
+    n.cast_signed()
 }
 
 // What a call answered: its number, and its result, 0 where it has none.
@@ -117,15 +87,9 @@ pub(crate) struct Answer {
 }
 
 pub(crate) fn only(number: u8) -> Answer {
-    Answer {
-        number: number,
-        result: 0,
-    }
+    Answer { number, result: 0 }
 }
 
 pub(crate) fn is_answer(case: Case, answer: Answer) -> bool {
-    if case.number == answer.number {
-        return case.result == answer.result;
-    }
-    false
+    case.number == answer.number && case.result == answer.result
 }

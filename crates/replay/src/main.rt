@@ -7,8 +7,6 @@ mod numbers;
 mod statistics;
 mod thresholds;
 
-ghost use Rattle.std.specs.Prelude.{◌+◌, ◌<◌, ◌≤◌};
-
 use input::Case;
 use std::io;
 use std::io::Read;
@@ -27,27 +25,14 @@ fn is_same(from: &mut impl Read, case: Case) -> io::Result<bool> {
     thresholds::is_same(from, case)
 }
 
-// What a turn found.
-const END: u8 = 0;
-
-const SAME: u8 = 1;
-
-const DIFFERS: u8 = 2;
-
-// A case that is cut off counts as one that differs.
-fn turn(from: &mut impl Read) -> io::Result<u8> {
+// Whether the next case is answered so, or none at the end of the input. A case that is cut off counts as one that differs.
+fn turn(from: &mut impl Read) -> io::Result<Option<bool>> {
     let mut bytes = [0u8; 48];
-    let n = input::read_full(from, &mut bytes)?;
-    if n == 0 {
-        return Ok(END);
+    match input::read_full(from, &mut bytes)? {
+        0 => Ok(None),
+        48 => Ok(Some(is_same(from, input::read(&bytes))?)),
+        _ => Ok(Some(false)),
     }
-    if n != 48 {
-        return Ok(DIFFERS);
-    }
-    if is_same(from, input::read(&bytes))? {
-        return Ok(SAME);
-    }
-    Ok(DIFFERS)
 }
 
 #[derive(Clone, Copy)]
@@ -56,33 +41,20 @@ struct Count {
     differ: u64,
 }
 
-// n, or one more.
-fn more(n: u64, is_more: bool) -> u64
-    requires { n < 0x1_0000_0000 }
-    ensures { result ≤ n + 1 }
-{
-    if is_more {
-        return n + 1;
-    }
-    n
-}
-
 // Reads to the end of the input, at most MOST cases.
 fn all(from: &mut impl Read) -> io::Result<Count> {
-    let mut cases = 0u64;
-    let mut differ = 0u64;
-    while cases < MOST {
-        let t = turn(from)?;
-        if t == END {
+    let mut count = Count {
+        cases: 0,
+        differ: 0,
+    };
+    for _ in 0..MOST {
+        let Some(is_same) = turn(from)? else {
             break;
-        }
-        differ = more(differ, t == DIFFERS);
-        cases += 1;
+        };
+        count.cases = count.cases.saturating_add(1);
+        count.differ = count.differ.saturating_add(u64::from(!is_same));
     }
-    Ok(Count {
-        cases: cases,
-        differ: differ,
-    })
+    Ok(count)
 }
 
 fn main(rt: HostRuntime) -> io::Result<()> {

@@ -2,7 +2,7 @@
 use crate::input::{Case, double, half, signed, single, size};
 
 fn bits32(x: f32) -> u64 {
-    c_interface::krcf_f32_to_bits(x) as u64
+    u64::from(c_interface::krcf_f32_to_bits(x))
 }
 
 fn bits64(x: f64) -> u64 {

@@ -1,7 +1,5 @@
 // The calls on a stored statistic.
-use crate::input::{
-    Answer, Case, byte, double, is_answer, is_equal, only, read_full, wide, word_at,
-};
+use crate::input::{Answer, Case, byte, double, is_answer, only, read_full, word_at};
 use std::io;
 use std::io::Read;
 
@@ -13,7 +11,7 @@ const BEFORE: u8 = 0xa5;
 fn told(case: Case, number: u8, out: &[u8; 9]) -> Answer {
     if out[0] == byte(case.a) {
         return Answer {
-            number: number,
+            number,
             result: word_at(out, 1),
         };
     }
@@ -36,8 +34,8 @@ fn is_empty(state: &[u8]) -> Answer {
     let mut out = [BEFORE; 1];
     let number = c_interface::krcf_deviation_is_empty(state, &mut out);
     Answer {
-        number: number,
-        result: wide(out[0]),
+        number,
+        result: u64::from(out[0]),
     }
 }
 
@@ -64,8 +62,5 @@ pub(crate) fn is_same(from: &mut impl Read, case: Case) -> io::Result<bool> {
     if read_full(from, &mut after)? != 36 {
         return Ok(false);
     }
-    if is_answer(case, call(case, &mut state)) {
-        return Ok(is_equal(&state, &after));
-    }
-    Ok(false)
+    Ok(is_answer(case, call(case, &mut state)) && state == after)
 }

@@ -1,9 +1,7 @@
 // The calls on a stored thresholder.
 ghost use Rattle.std.specs.Prelude.{◌≡◌, length};
 
-use crate::input::{
-    Answer, Case, byte, double, is_answer, is_equal, only, read_full, single, size, word_at,
-};
+use crate::input::{Answer, Case, byte, double, is_answer, only, read_full, single, size, word_at};
 use std::io;
 use std::io::Read;
 
@@ -39,7 +37,7 @@ fn asked(case: Case, state: &[u8]) -> Answer {
     let mut out = [0u8; 8];
     let number = question(case, state, &mut out);
     Answer {
-        number: number,
+        number,
         result: word_at(&out, 0),
     }
 }
@@ -90,8 +88,5 @@ pub(crate) fn is_same(from: &mut impl Read, case: Case) -> io::Result<bool> {
     if read_full(from, &mut after)? != 149 {
         return Ok(false);
     }
-    if is_answer(case, call(case, &mut state)) {
-        return Ok(is_equal(&state, &after));
-    }
-    Ok(false)
+    Ok(is_answer(case, call(case, &mut state)) && state == after)
 }

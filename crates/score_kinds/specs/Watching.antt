@@ -31,4 +31,4 @@ kind_of s x = cond (Ieee.eq x zero32) Skipped (by_grade (primary_threshold_and_g
 
 -- The statistics with the score; a zero score is not counted.
 unfoldable pub counted : BasicThresholder → Float → BasicThresholder
-counted s x = cond (Ieee.eq x zero32) s (update_primary s x).thresholder
+counted s x = cond (Ieee.eq x zero32) s (update_primary s x).state

@@ -49,6 +49,7 @@ pub fn kind_of(thresholder: BasicThresholder, score: f32) -> Kind
 }
 
 // The statistics with the score; a zero score is not counted.
+#[tactic(auto, unfolding(crate::specs::Watching::counted))]
 pub fn counted(thresholder: BasicThresholder, x: f32) -> BasicThresholder
     ensures { result ≡ Watching.counted thresholder x }
 {
@@ -56,10 +57,11 @@ pub fn counted(thresholder: BasicThresholder, x: f32) -> BasicThresholder
         return thresholder;
     }
     let after = thresholder.update_primary(ieee::widen(x));
-    after.thresholder
+    after.state
 }
 
 // The counts before the first line.
+#[tactic(auto, unfolding(crate::specs::Counting::no_lines))]
 pub fn no_lines() -> Counts
     ensures { result ≡ Counting.no_lines }
 {
@@ -72,8 +74,8 @@ pub fn no_lines() -> Counts
 
 // The lines judged or skipped.
 pub fn lines(counts: Counts) -> u64
-    ensures fact_1 { result ≡ Counting.lines counts }
-    ensures fact_2 { result < 2 ^ 34 }
+    ensures count { result ≡ Counting.lines counts }
+    ensures bound { result < 2 ^ 34 }
 {
     counts.quiet as u64 + counts.raised as u64 + counts.skipped as u64
 }

@@ -9,7 +9,7 @@ use lib.Dec.{leb, ltb, eqb}
 use lib.ListN.{length}
 use lib.Ieee.{of_bits, binary32}
 use borrow.Author.Tests.{lt-ltb, le-ltb, le-leb, lt-leb, ne_eqb, ltb-true, ltb-false, eqb-true, eqb-false}
-use Rattle.score_lines.specs.declared.Line.TheVariants.{Fault}
+use Rattle.std.specs.Prelude.{None}
 use Rattle.score_lines.specs.Output.{digit_of, is_digit, all_digits, number, finite_only, read_line}
 use Rattle.score_lines.specs.Feeding.{line_of, pushed}
 use Rattle.score_lines.proofs.Numbers.{Good, Faulty, long, odd, and_no, number_snoc, below}
@@ -54,19 +54,19 @@ module _ (line : List ℕ) (good : Good 16 8 line) where
   read m = rw (few_lines m (ltb m 65536) refl) (by_length (eqb (length line) 8) refl)
     where
       by_length : (t : Bool) → eqb (length line) 8 ≡ t
-          → cond (ltb m 65536 && (eqb (length line) 8 && all_digits 16 line)) (finite_only (of_bits binary32 (number 16 0 line))) Fault
-          ≡ cond (ltb m 65536 && (leb 0x1_0000_0000 (number 16 1 line) && ltb (number 16 1 line) 0x2_0000_0000)) (finite_only (of_bits binary32 (number 16 1 line - 0x1_0000_0000))) Fault
+          → cond (ltb m 65536 && (eqb (length line) 8 && all_digits 16 line)) (finite_only (of_bits binary32 (number 16 0 line))) None
+          ≡ cond (ltb m 65536 && (leb 0x1_0000_0000 (number 16 1 line) && ltb (number 16 1 line) 0x2_0000_0000)) (finite_only (of_bits binary32 (number 16 1 line - 0x1_0000_0000))) None
       by_length true e =
           let f = part_full (eqb-true (length line) 8 e) in
           simp (e, good.digits, le-leb 0x1_0000_0000 (number 16 1 line) (omega (arith, f)), lt-ltb (number 16 1 line) 0x2_0000_0000 (omega (arith, f)))
-          (ap (λ (k : ℕ). cond (ltb m 65536 && true) (finite_only (of_bits binary32 k)) Fault) (omega (arith, f)))
+          (ap (λ (k : ℕ). cond (ltb m 65536 && true) (finite_only (of_bits binary32 k)) None) (omega (arith, f)))
       by_length false e =
           let h = eqb-false (length line) 8 e in
           let l : length line < 8 = lt_of_not-le (λ le. h (le_antisymm good.short le)) in
           simp (e, lt-leb 0x1_0000_0000 (number 16 1 line) (part_room l), and_no (ltb m 65536))
 
 -- A faulty line is none that holds a score.
-pub read_faulty : (n : ℕ) (line : List ℕ) → Faulty 16 8 line → read_line n line ≡ Fault
+pub read_faulty : (n : ℕ) (line : List ℕ) → Faulty 16 8 line → read_line n line ≡ None
 unfolding read_line
 read_faulty n line (long h) = simp (ne_eqb (length line) 8 (λ e. omega arith), and_no (leb n 65536))
 read_faulty n line (odd e) = simp (e, and_no (eqb (length line) 8), and_no (leb n 65536))

@@ -6,11 +6,11 @@ use Prim.Native.Nat.{ℕ, ◌≤◌}
 use native.Mathlib.Nat.{le_refl, zero-add}
 use native.Mathlib.Omega.{arith}
 use lib.Dec.{eqb}
+use lib.Ieee.{Float}
 use lib.ListN.{length, drop, length-append}
 use lib.Seq.{take_all}
 use borrow.Author.Tests.{eq-eqb, ne_eqb}
-use Rattle.score_lines.specs.declared.Line.{Line}
-use Rattle.score_lines.specs.declared.Line.TheVariants.{Score, Fault}
+use Rattle.std.specs.Prelude.{Option, Some, None}
 use Rattle.score_lines.specs.declared.Run.{Run}
 use Rattle.score_lines.specs.declared.Fed.{Fed}
 use Rattle.score_kinds.specs.Counting.{lines}
@@ -30,10 +30,10 @@ module _ (run : Run) (over : run.over ≡ true) where
   over_said b = simp over
 
 -- What a line, a byte and the end of the input print is short.
-said_by_length : (run : Run) (l : Line) → length (said_by run l) ≤ longest
+said_by_length : (run : Run) (l : Option Float) → length (said_by run l) ≤ longest
 unfolding said_by
-said_by_length run Fault = bad_line_length (line_number run)
-said_by_length run (Score x) = row_length (line_number run) _
+said_by_length run None = bad_line_length (line_number run)
+said_by_length run (Some x) = row_length (line_number run) _
 
 pub line_said_length : (run : Run) → length (line_said run) ≤ longest
 unfolding line_said

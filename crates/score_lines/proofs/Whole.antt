@@ -2,14 +2,14 @@
 use mathlib.Core.Path.{◌≡◌, refl, sym, ap, ap₂, ◌∙◌}
 use mathlib.Core.Bool.{Bool, true, false, cond}
 use mathlib.Core.List.{List, [], ◌∷◌, ◌++◌, append-nil}
+use lib.Ieee.{Float}
 use Prim.Native.Nat.{ℕ, suc, ◌+◌, ◌≤◌}
 use native.Mathlib.Omega.{arith}
 use lib.Dec.{eqb}
 use lib.ListN.{length}
 use borrow.Author.Tests.{ne_eqb, eqb-true, eqb-false}
 use Rattle.basicthresholder.specs.declared.BasicThresholder.{BasicThresholder}
-use Rattle.score_lines.specs.declared.Line.{Line}
-use Rattle.score_lines.specs.declared.Line.TheVariants.{Score, Fault}
+use Rattle.std.specs.Prelude.{Option, Some, None}
 use Rattle.score_lines.specs.declared.Run.{Run}
 use Rattle.score_kinds.specs.declared.Counts.{Counts}
 use Rattle.score_kinds.specs.Watching.{settings, kind_of, counted}
@@ -43,7 +43,7 @@ abbrev due : ℕ → BasicThresholder → Counts → List (List ℕ) → List �
 due n s c ls = behind s c (sheet_from n ls)
 
 -- By what a line holds.
-abbrev due_by : Line → ℕ → BasicThresholder → Counts → List (List ℕ) → List ℕ
+abbrev due_by : Option Float → ℕ → BasicThresholder → Counts → List (List ℕ) → List ℕ
 due_by l n s c rest = behind s c (by_line l (ends (Bad n)) (λ x. first n x (sheet_from (n + 1) rest)))
 
 -- Lines that are still to come, from a run between two lines.
@@ -51,13 +51,13 @@ abbrev Between : List ℕ → Type 0
 Between bs = (s : BasicThresholder) (c : Counts) → coming (run_of s c 1 false) bs ≡ due (lines c + 1) s c (lines_from [] bs)
 
 module _ (bs : List ℕ) (later : Between bs) where
-  by_line_lem : (s : BasicThresholder) (c : Counts) (part : ℕ) (l : Line)
+  by_line_lem : (s : BasicThresholder) (c : Counts) (part : ℕ) (l : Option Float)
       → said_by (run_of s c part false) l ++ coming (ended_by (run_of s c part false) l) bs ≡ due_by l (lines c + 1) s c (lines_from [] bs)
   unfolding said_by ended_by by_line with_score last_line
-  by_line_lem s c part Fault =
+  by_line_lem s c part None =
       ap (λ (l : List ℕ). bad_line (lines c + 1) ++ l) (coming_over (run_of s c part false) bs)
       ∙ append-nil (bad_line (lines c + 1)) ∙ sym (behind_ends s c (Bad (lines c + 1)))
-  by_line_lem s c part (Score x) =
+  by_line_lem s c part (Some x) =
       let k = kind_of s x in
       ap (λ (l : List ℕ). row (lines c + 1) k ++ l)
       (later (counted s x) (one_more c k) ∙ ap (λ (n : ℕ). due (n + 1) (counted s x) (one_more c k) (lines_from [] bs)) (one_line_more c k))
@@ -69,13 +69,13 @@ module _ (bs : List ℕ) (later : Between bs) where
   unfolding line_said line_ended sheet_from
   whole_line line s c good =
       by_line_lem s c (number 16 1 line) (line_of (lines c) (number 16 1 line))
-      ∙ ap (λ (l : Line). due_by l (lines c + 1) s c (lines_from [] bs)) (sym (read line good (lines c)))
+      ∙ ap (λ (l : Option Float). due_by l (lines c + 1) s c (lines_from [] bs)) (sym (read line good (lines c)))
 
 -- The end of the input.
-last_total : (s : BasicThresholder) (c : Counts) (part : ℕ) (l : Line) → total_said (ended_by (run_of s c part false) l) ≡ coming (ended_by (run_of s c part false) l) []
+last_total : (s : BasicThresholder) (c : Counts) (part : ℕ) (l : Option Float) → total_said (ended_by (run_of s c part false) l) ≡ coming (ended_by (run_of s c part false) l) []
 unfolding ended_by with_score ended total_said Feeds.coming closing Feeding.fed Feeding.printed
-last_total s c part Fault = refl
-last_total s c part (Score x) = refl
+last_total s c part None = refl
+last_total s c part (Some x) = refl
 
 nothing_left : Between []
 unfolding Feeds.coming closing total_said Feeding.fed Feeding.printed lines_from sheet_from last_line
@@ -102,7 +102,7 @@ either f false x y z e h = h
 
 bad_line_lem : (s : BasicThresholder) (c : Counts) (n : ℕ) (line : List ℕ) (rest : List (List ℕ)) → Faulty 16 8 line → due n s c (line ∷ rest) ≡ bad_line n
 unfolding sheet_from by_line last_line
-bad_line_lem s c n line rest f = ap (λ (l : Line). due_by l n s c rest) (read_faulty n line f) ∙ behind_ends s c (Bad n)
+bad_line_lem s c n line rest f = ap (λ (l : Option Float). due_by l n s c rest) (read_faulty n line f) ∙ behind_ends s c (Bad n)
 
 faulty_line : (bs : List ℕ) (a : ℕ) (line : List ℕ) (n : ℕ) (s : BasicThresholder) (c : Counts) → Faulty 16 8 (a ∷ line) → due n s c (lines_from (a ∷ line) bs) ≡ bad_line n
 unfolding lines_from
@@ -175,11 +175,11 @@ unfolding sheet_from by_line
 all_lines [] n e = refl
 all_lines (line ∷ rest) n e = go (read_line n line) (λ h. all_lines rest (n + 1) h) e
   where
-    go : (l : Line) → ((sheet_from (n + 1) rest).end ≡ AllRead → length (sheet_from (n + 1) rest).readings ≡ length rest)
+    go : (l : Option Float) → ((sheet_from (n + 1) rest).end ≡ AllRead → length (sheet_from (n + 1) rest).readings ≡ length rest)
         → (by_line l (ends (Bad n)) (λ x. first n x (sheet_from (n + 1) rest))).end ≡ AllRead
         → length (by_line l (ends (Bad n)) (λ x. first n x (sheet_from (n + 1) rest))).readings ≡ suc (length rest)
-    go Fault later e = absurd (let z : ◌≡◌ {A = ℕ} 0 1 = cc in omega arith)
-    go (Score x) later e = ap suc (later e)
+    go None later e = absurd (let z : ◌≡◌ {A = ℕ} 0 1 = cc in omega arith)
+    go (Some x) later e = ap suc (later e)
 
 pub add_up : AddUp
 unfolding sheet

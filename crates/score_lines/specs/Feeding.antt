@@ -4,8 +4,7 @@ use Prim.Native.Char.{code}
 use Rattle.std.specs.Float.Ieee.{of_bits}
 use Rattle.std.specs.Float.{binary32}
 use Rattle.basicthresholder.specs.declared.BasicThresholder.{BasicThresholder}
-use Rattle.score_lines.specs.declared.Line.{Line}
-use Rattle.score_lines.specs.declared.Line.TheVariants.{Score, Fault}
+use Rattle.std.specs.Prelude.{Option, Some, None}
 use Rattle.score_lines.specs.declared.Run.{Run}
 use Rattle.score_lines.specs.declared.Fed.{Fed}
 use Rattle.score_kinds.specs.declared.Counts.{Counts}
@@ -32,9 +31,9 @@ unfoldable pub pushed : ℕ → ℕ → ℕ
 pushed part b = cond (ltb part 0x1_0000_0000 && ltb (digit_of b) 16) (part * 16 + digit_of b) 0
 
 -- What a line with these digits behind a leading 1 holds, with so many lines before it.
-unfoldable pub line_of : ℕ → ℕ → Line
+unfoldable pub line_of : ℕ → ℕ → Option Float
 line_of before part =
-    cond (ltb before 65536 && (leb 0x1_0000_0000 part && ltb part 0x2_0000_0000)) (finite_only (of_bits binary32 (part - 0x1_0000_0000))) Fault
+    cond (ltb before 65536 && (leb 0x1_0000_0000 part && ltb part 0x2_0000_0000)) (finite_only (of_bits binary32 (part - 0x1_0000_0000))) None
 
 -- The run after a sound line, and after a bad one.
 unfoldable pub with_score : Run → Float → Run
@@ -44,13 +43,13 @@ unfoldable pub ended : Run → Run
 ended run = run_of run.thresholder run.counts run.part true
 
 -- The end of the line under way: the run after it and what it prints.
-unfoldable pub ended_by : Run → Line → Run
-ended_by run Fault = ended run
-ended_by run (Score x) = with_score run x
+unfoldable pub ended_by : Run → Option Float → Run
+ended_by run None = ended run
+ended_by run (Some x) = with_score run x
 
-unfoldable pub said_by : Run → Line → List ℕ
-said_by run Fault = bad_line (line_number run)
-said_by run (Score x) = row (line_number run) (kind_of run.thresholder x)
+unfoldable pub said_by : Run → Option Float → List ℕ
+said_by run None = bad_line (line_number run)
+said_by run (Some x) = row (line_number run) (kind_of run.thresholder x)
 
 unfoldable pub line_ended : Run → Run
 line_ended run = ended_by run (line_of (lines run.counts) run.part)

@@ -5,8 +5,7 @@ use Rattle.std.specs.Float.Ieee.{of_bits}
 use Rattle.std.specs.Float.{binary32}
 use Rattle.std.specs.Float.Ieee.Scale.{finite}
 use Rattle.score_rows.specs.Sheet.{Sheet, AllRead, Bad, ends, first, text}
-use Rattle.score_lines.specs.declared.Line.{Line}
-use Rattle.score_lines.specs.declared.Line.TheVariants.{Score, Fault}
+use Rattle.std.specs.Prelude.{Option, Some, None}
 
 -- The value of a hexadecimal digit of either case; 16 for any other byte.
 unfoldable pub digit_of : ℕ → ℕ
@@ -27,14 +26,14 @@ unfoldable pub number : ℕ → ℕ → List ℕ → ℕ
 number base n [] = n
 number base n (b ∷ bs) = number base (n * base + digit_of b) bs
 
--- A finite score; anything else is a fault.
-unfoldable pub finite_only : Float → Line
-finite_only x = cond (finite x) (Score x) Fault
+-- A finite score; anything else is a fault, which is none.
+unfoldable pub finite_only : Float → Option Float
+finite_only x = cond (finite x) (Some x) None
 
 -- What the line with the number n holds: eight digits are the bits of a score. From line 65,537 on every line is a fault.
-unfoldable pub read_line : ℕ → List ℕ → Line
+unfoldable pub read_line : ℕ → List ℕ → Option Float
 read_line n line =
-    cond (leb n 65536 && (eqb (length line) 8 && all_digits 16 line)) (finite_only (of_bits binary32 (number 16 0 line))) Fault
+    cond (leb n 65536 && (eqb (length line) 8 && all_digits 16 line)) (finite_only (of_bits binary32 (number 16 0 line))) None
 
 -- The lines of what follows the bytes `line` of a line. A line ends at a line end; the last one may lack that, and a line end that ends the input starts none.
 unfoldable pub lines_from : List ℕ → List ℕ → List (List ℕ)
@@ -43,9 +42,9 @@ lines_from (a ∷ line) [] = (a ∷ line) ∷ []
 lines_from line (b ∷ bs) = cond (eqb b (code "\n")) (line ∷ lines_from [] bs) (lines_from (line ++ (b ∷ [])) bs)
 
 -- By what a line holds: the one for a fault, or the one for its score.
-unfoldable pub by_line : {A : Type 0} → Line → A → (Float → A) → A
-by_line Fault bad good = bad
-by_line (Score x) bad good = good x
+unfoldable pub by_line : {A : Type 0} → Option Float → A → (Float → A) → A
+by_line None bad good = bad
+by_line (Some x) bad good = good x
 
 -- The lines from number n on: a row for each, up to a bad one, which ends the run without counts.
 unfoldable pub sheet_from : ℕ → List (List ℕ) → Sheet

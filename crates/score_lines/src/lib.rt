@@ -15,13 +15,6 @@ const LINE_END: u8 = b'\n';
 
 const MOST_LINES: u64 = 65536;
 
-// What a line holds.
-#[derive(Clone, Copy)]
-pub enum Line {
-    Score(f32),
-    Fault,
-}
-
 // A run between two bytes of its input. `part` is the line under way: its digits behind a leading 1, so that 1 alone is a line with no byte yet.
 // A run is over once it has met a bad line.
 #[derive(Clone, Copy)]
@@ -39,33 +32,22 @@ pub struct Fed {
     pub written: usize,
 }
 
-// The value of a hexadecimal digit of either case; 16 for any other byte.
+// The value of a hexadecimal digit of either case; 16 for any other byte, so that one comparison serves every base (`char::to_digit` takes the base).
+#[tactic(auto, unfolding(crate::specs::Output::digit_of))]
 pub fn digit(b: u8) -> u64
-    ensures fact_1 { result ≡ Output.digit_of b }
-    ensures fact_2 { result ≤ 16 }
+    ensures value { result ≡ Output.digit_of b }
+    ensures bound { result ≤ 16 }
 {
-    if b < 48 {
-        return 16;
+    match b {
+        b'0'..=b'9' => (b - b'0') as u64,
+        b'A'..=b'F' => (b - (b'A' - 10)) as u64,
+        b'a'..=b'f' => (b - (b'a' - 10)) as u64,
+        _ => 16,
     }
-    if b <= 57 {
-        return (b - 48) as u64;
-    }
-    if b < 65 {
-        return 16;
-    }
-    if b <= 70 {
-        return (b - 55) as u64;
-    }
-    if b < 97 {
-        return 16;
-    }
-    if b <= 102 {
-        return (b - 87) as u64;
-    }
-    16
 }
 
 // The line under way with one more byte; 0 where that makes it malformed.
+#[tactic(auto, unfolding(crate::specs::Feeding::pushed))]
 fn pushed(part: u64, b: u8) -> u64
     ensures { result ≡ Feeding.pushed part b }
 {
@@ -79,32 +61,26 @@ fn pushed(part: u64, b: u8) -> u64
     0
 }
 
-// What the line holds that `part` has the digits of, with so many lines before it.
-fn line_of(before: u64, part: u64) -> Line
+// The score of the line that `part` has the digits of, with so many lines before it; none where it is bad.
+#[tactic(auto, unfolding(crate::specs::Feeding::line_of))]
+fn line_of(before: u64, part: u64) -> Option<f32>
     ensures { result ≡ Feeding.line_of before part }
 {
-    if before < MOST_LINES {
-        if 0x1_0000_0000 <= part {
-            if part < 0x2_0000_0000 {
-                return finite_only(ieee::f32_from_bits((part - 0x1_0000_0000) as u32));
-            }
-            return Line::Fault;
-        }
-        return Line::Fault;
+    if before < MOST_LINES && 0x1_0000_0000 <= part && part < 0x2_0000_0000 {
+        return finite_only(ieee::f32_from_bits((part - 0x1_0000_0000) as u32));
     }
-    Line::Fault
+    None
 }
 
-fn finite_only(score: f32) -> Line
+#[tactic(auto, unfolding(crate::specs::Output::finite_only))]
+fn finite_only(score: f32) -> Option<f32>
     ensures { result ≡ Output.finite_only score }
 {
-    if ieee::is_finite(score) {
-        return Line::Score(score);
-    }
-    Line::Fault
+    ieee::is_finite(score).then_some(score)
 }
 
 // The run after a bad line.
+#[tactic(auto, unfolding(crate::specs::Feeding::ended))]
 fn ended(run: Run) -> Run
     ensures { result ≡ Feeding.ended run }
 {
@@ -116,13 +92,12 @@ fn ended(run: Run) -> Run
 // The end of the line under way: its row, or that it is bad.
 fn end_line(run: Run, out: &mut [u8], at: usize) -> Fed
     requires { at + 84 ≤ length out.old }
-    ensures fact_1 { result.run ≡ Feeding.line_ended run }
-    ensures fact_2 { Steps.Put out.old at (Feeding.line_said run) result.written out.new }
+    ensures run { result.run ≡ Feeding.line_ended run }
+    ensures printed { Steps.Put out.old at (Feeding.line_said run) result.written out.new }
 {
     let before = score_kinds::lines(run.counts);
-    let line = line_of(before, run.part);
-    match line {
-        Line::Score(score) => {
+    match line_of(before, run.part) {
+        Some(score) => {
             let thresholder = score_kinds::counted(run.thresholder, score);
             let kind = score_kinds::kind_of(run.thresholder, score);
             let end = score_rows::write_row(out, at, before + 1, kind);
@@ -136,7 +111,7 @@ fn end_line(run: Run, out: &mut [u8], at: usize) -> Fed
                 written: end,
             }
         }
-        Line::Fault => {
+        None => {
             let end = score_rows::write_bad_line(out, at, before + 1);
             Fed {
                 run: ended(run),
@@ -149,8 +124,8 @@ fn end_line(run: Run, out: &mut [u8], at: usize) -> Fed
 // The counts, unless the run is over.
 fn total(run: Run, out: &mut [u8], at: usize) -> Fed
     requires { at + 84 ≤ length out.old }
-    ensures fact_1 { result.run ≡ Feeding.total_run run }
-    ensures fact_2 { Steps.Put out.old at (Feeding.total_said run) result.written out.new }
+    ensures run { result.run ≡ Feeding.total_run run }
+    ensures printed { Steps.Put out.old at (Feeding.total_said run) result.written out.new }
 {
     if run.over {
         return Fed { run, written: at };
@@ -165,28 +140,25 @@ fn total(run: Run, out: &mut [u8], at: usize) -> Fed
 // The bytes of a part of the input, one by one.
 fn read(run: Run, input: &[u8], out: &mut [u8]) -> Fed
     requires { 84 * length input.now ≤ length out.old }
-    ensures fact_1 { result.run ≡ Feeding.fed run input.now }
-    ensures fact_2 { Steps.Put out.old 0 (Feeding.printed run input.now) result.written out.new }
+    ensures run { result.run ≡ Feeding.fed run input.now }
+    ensures printed { Steps.Put out.old 0 (Feeding.printed run input.now) result.written out.new }
 {
     let mut state = run;
-    let mut i = 0usize;
     let mut to = 0usize;
-    while i < input.len() {
+    for b in input {
         if state.over {
             return Fed {
                 run: state,
                 written: to,
             };
         }
-        let b = input[i];
-        if b == LINE_END {
+        if *b == LINE_END {
             let after = end_line(state, out, to);
             state = after.run;
             to = after.written;
-            i += 1;
             continue;
         }
-        let part = pushed(state.part, b);
+        let part = pushed(state.part, *b);
         if part == 0 {
             let end = score_rows::write_bad_line(out, to, score_kinds::lines(state.counts) + 1);
             return Fed {
@@ -195,7 +167,6 @@ fn read(run: Run, input: &[u8], out: &mut [u8]) -> Fed
             };
         }
         state.part = part;
-        i += 1;
     }
     Fed {
         run: state,
@@ -206,8 +177,8 @@ fn read(run: Run, input: &[u8], out: &mut [u8]) -> Fed
 // The end of the input: a last line without a line end is judged, then the counts.
 fn close(run: Run, out: &mut [u8]) -> Fed
     requires { 168 ≤ length out.old }
-    ensures fact_1 { result.run ≡ Feeding.closed run }
-    ensures fact_2 { Steps.Put out.old 0 (Feeding.closing run) result.written out.new }
+    ensures run { result.run ≡ Feeding.closed run }
+    ensures printed { Steps.Put out.old 0 (Feeding.closing run) result.written out.new }
 {
     if run.over {
         return Fed { run, written: 0 };
@@ -220,6 +191,7 @@ fn close(run: Run, out: &mut [u8]) -> Fed
 }
 
 // A run that has read nothing.
+#[tactic(auto, unfolding(crate::specs::Feeding::begin))]
 pub fn begin() -> Run
     ensures { result ≡ Feeding.begin }
 {
@@ -231,7 +203,7 @@ pub fn begin() -> Run
     }
 }
 
-// Reads the first n bytes of a part of the input, or all where n is more.
+// Reads the first n bytes of a part of the input, or all where n is more. The arrays' types say that what is printed has room; slices would need a `requires`.
 pub fn feed(run: Run, input: &[u8; PART], n: usize, out: &mut [u8; ROOM]) -> Fed
     ensures { Feeding.Prints (Feeding.fed run (take n input.now)) (Feeding.printed run (take n input.now)) out.old result out.new }
 {
@@ -252,6 +224,6 @@ pub fn finish(run: Run, out: &mut [u8; ROOM]) -> Fed
 // However the input is cut, the header and what `feed` and `finish` print are together the output of the whole input, whose counts add up to its lines. Nothing
 // calls it: the check asks for its proof.
 fn whole_run()
-    ensures fact_1 { Feeding.Whole }
-    ensures fact_2 { Feeding.AddUp }
+    ensures whole { Feeding.Whole }
+    ensures add_up { Feeding.AddUp }
 {}

@@ -8,9 +8,10 @@ use native.Mathlib.Numerals.{add-one}
 use native.Mathlib.Omega.{arith}
 use lib.Dec.{leb, ltb}
 use lib.Ieee.{Float}
-use lib.ListN.{length, take, drop, set, get_or, length-append}
-use lib.Seq.{paste, paste-zero, length-paste, take-paste, drop-paste, take-suc, take_all, drop-drop, set_split, length-take-le}
+use lib.ListN.{length, take, drop, set, length-append}
+use lib.Seq.{paste, paste-zero, length-paste, set_split}
 use borrow.Author.Tests.{lt-ltb, le-ltb, le-leb, lt-leb, leb-true, leb-false}
+use Rattle.std.proofs.lemmas.List.Edits.{paste-paste}
 use Rattle.io.specs.Digits.{hex_digit_ascii, last_digits, IsDigitCount}
 use Rattle.types.specs.Refusals as Refusals
 use Rattle.types.specs.declared.Refusal.{Refusal}
@@ -21,23 +22,11 @@ use Rattle.score_kinds.specs.declared.Counts.{Counts}
 use Rattle.score_rows.specs.Text.{decimal_by, decimal, bits, graded, shown, row, bad, bad_line, bad_row, counts, longest, has_room, Written}
 use Rattle.score_rows.specs.Steps.{Put}
 
--- all of ys over xs from the place `at`, and then zs behind them
-all_of : (ys : List ℕ) → take (length ys) ys ≡ ys
-all_of ys = take_all (length ys) ys (le_refl (length ys))
-
+-- ys over xs from the place `at`, and then zs behind them
 paste_then : (xs : List ℕ) (at : ℕ) (ys zs : List ℕ) → at + (length ys + length zs) ≤ length xs
     → paste (paste xs at ys (length ys)) (at + length ys) zs (length zs) ≡ paste xs at (ys ++ zs) (length (ys ++ zs))
 paste_then xs at ys zs h =
-    let P = paste xs at ys (length ys) in
-    let left : take (at + length ys) P ≡ take at xs ++ ys = take-paste xs at ys (length ys) (omega arith) (le_refl (length ys)) ∙ ap (λ (l : List ℕ). take at xs ++ l) (all_of ys) in
-    let right : drop (at + length ys + length zs) P ≡ drop (at + length (ys ++ zs)) xs =
-    sym (drop-drop (length zs) (at + length ys) P)
-    ∙ ap (drop (length zs)) (drop-paste xs at ys (length ys) (omega arith) (le_refl (length ys)))
-    ∙ drop-drop (length zs) (at + length ys) xs
-    ∙ ap (λ (k : ℕ). drop k xs) (add_assoc at (length ys) (length zs) ∙ ap (λ (k : ℕ). at + k) (sym (length-append ys zs))) in
-    ap₂ (λ (a b : List ℕ). a ++ take (length zs) zs ++ b) left right
-    ∙ ap (λ (l : List ℕ). take at xs ++ ys ++ l ++ drop (at + length (ys ++ zs)) xs) (all_of zs)
-    ∙ ap (λ (l : List ℕ). l ++ drop (at + length (ys ++ zs)) xs) (append_assoc (take at xs) ys zs ∙ ap (λ (l : List ℕ). take at xs ++ l) (sym (all_of (ys ++ zs))))
+    paste-paste xs at ys zs (length ys) (length zs) refl refl (omega arith) ∙ ap (paste xs at (ys ++ zs)) (sym (length-append ys zs))
 
 pub put_length : {xs ys after : List ℕ} {at end : ℕ} → Put xs at ys end after → at + length ys ≤ length xs → length after ≡ length xs
 put_length {xs} {ys} {after} {at} p h = ap length p.bytes ∙ length-paste xs at ys (length ys) h (le_refl (length ys))
@@ -109,18 +98,9 @@ pub bits_length : (x : Float) → length (bits x) ≡ 8
 unfolding bits
 bits_length x = refl
 
--- A copy: nothing yet, one byte more, all.
+-- Nothing written.
 pub put_none : (xs : List ℕ) (at : ℕ) (bytes : List ℕ) → Put xs at (take 0 bytes) at xs
 put_none xs at bytes = record { place = omega arith; bytes = paste-zero xs at bytes }
-
-pub put_next : (xs bytes out : List ℕ) (at i to : ℕ) → Put xs at (take i bytes) to out → i < length bytes → at + length bytes ≤ length xs
-    → Put xs at (take (i + 1) bytes) (to + 1) (set out to (get_or bytes i 0))
-put_next xs bytes out at i to p h fits =
-    rw (add-one i, take-suc bytes i 0)
-    (put_then p (put_one out to (get_or bytes i 0) (omega (arith, p.place, put_length p (omega (arith, length-take-le i bytes (omega arith))), length-take-le i bytes (omega arith)))) (omega (arith, length-take-le i bytes (omega arith))))
-
-pub put_last : (bytes : List ℕ) (i : ℕ) {xs out : List ℕ} {at to : ℕ} → Put xs at (take i bytes) to out → length bytes ≤ i → Put xs at bytes to out
-put_last bytes i p h = rw (take_all i bytes h) at p
 
 -- Room for b bytes behind the place a.
 pub same_room : (a b n : ℕ) → a ≤ n → leb b (n - a) ≡ leb (a + b) n

@@ -20,6 +20,7 @@ const LONGEST: usize = 84;
 const LINE_END: u8 = b'\n';
 
 // "line threshold grade" and a line end: what a run prints first.
+#[tactic(auto, unfolding(crate::specs::Text::header))]
 pub fn header() -> [u8; 21]
     ensures { result ≡ Text.header }
 {
@@ -39,14 +40,9 @@ fn put_all(out: &mut [u8], at: usize, bytes: &[u8]) -> usize
     requires { at + length bytes.now ≤ length out.old }
     ensures { Steps.Put out.old at bytes.now result out.new }
 {
-    let mut i = 0usize;
-    let mut to = at;
-    while i < bytes.len() {
-        out[to] = bytes[i];
-        to += 1;
-        i += 1;
-    }
-    to
+    let end = at + bytes.len();
+    out[at..end].copy_from_slice(bytes);
+    end
 }
 
 fn put_decimal(out: &mut [u8], at: usize, n: u64) -> usize

@@ -1,5 +1,5 @@
 -- What a reading's scores count for, and the block that its attribution names.
-use Rattle.std.specs.Prelude.{◌≡◌, ℕ, ◌-◌, Bool, cond, not, ◌&&◌, List, length, nat_le, nat_lt, Float}
+use Rattle.std.specs.Prelude.{◌≡◌, ℕ, ◌-◌, Bool, cond, not, ◌&&◌, List, length, nat_le, nat_lt, Float, Result, Ok, Err}
 use Rattle.std.specs.Float.Ieee as Ieee
 use Rattle.types.specs.Codes.{is_height}
 use Rattle.basicthresholder.specs.Const.{zero32}
@@ -9,13 +9,12 @@ use Rattle.basicthresholder.specs.declared.Graded.{Graded}
 use Rattle.uncertainty_box.specs.Box.{explained_by_conditional_field}
 use Rattle.corrector.specs.Corrector.{write_row, trigger}
 use Rattle.divector.specs.DiVector.{all_alike, normalized, max_gap_contribution}
-use Rattle.divector.specs.declared.Block.{Block}
-use Rattle.divector.specs.declared.Block.TheVariants as Blocks
 use Rattle.descriptor.specs.declared.Reading.{Reading}
 use Rattle.descriptor.specs.declared.LastDescriptor.{LastDescriptor}
 use Rattle.predictorcorrector.specs.State as State
 use Rattle.predictorcorrector.specs.State.{with_thresholder}
 use Rattle.predictorcorrector.specs.declared.PredictorCorrector.{PredictorCorrector}
+use Rattle.types.specs.declared.Refusal.{Refusal}
 
 -- Readings since the last anomaly; without one, since the start.
 unfoldable pub gap_of : ℕ → Bool → ℕ → ℕ
@@ -63,9 +62,9 @@ unfoldable pub entered : PredictorCorrector → Reading → LastDescriptor → F
 entered s r l corrected = with_thresholder s (update_score s.basic_thresholder r l corrected)
 
 -- The block that a search answers, 0 where it is refused; it is not for the attribution of an accepted reading.
-unfoldable pub block_of : Block → ℕ
-block_of (Blocks.At k) = k
-block_of (Blocks.Refused why) = 0
+unfoldable pub block_of : Result ℕ Refusal → ℕ
+block_of (Ok k) = k
+block_of (Err why) = 0
 
 -- The block that contributes most.
 abbrev pub anomaly_block : Reading → LastDescriptor → (high low : List Float) → ℕ

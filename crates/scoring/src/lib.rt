@@ -7,18 +7,16 @@ ghost use Rattle.scoring.specs.Scores as Scores;
 
 use basicthresholder::{BasicThresholder, Graded};
 use descriptor::{LastDescriptor, Reading};
-use divector::Block;
 use predictorcorrector::PredictorCorrector;
+use types::Refusal;
 
 // Readings since the last anomaly; without one, since the start.
+#[tactic(auto, unfolding(crate::specs::Scores::gap_of))]
 fn gap_of(values_seen: usize, has_anomaly: bool, last_seen: usize) -> usize
     ensures { result ≡ Scores.gap_of values_seen has_anomaly last_seen }
 {
     if has_anomaly {
-        if last_seen <= values_seen {
-            return values_seen - last_seen;
-        }
-        return 0;
+        return values_seen.saturating_sub(last_seen);
     }
     values_seen
 }
@@ -32,6 +30,7 @@ pub fn gap(r: Reading, l: LastDescriptor) -> usize
 }
 
 // The last anomaly is at most a shingle of readings back: in the shingle, or just out of it.
+#[tactic(auto, unfolding(crate::specs::Scores::is_recent))]
 pub fn is_recent(has_anomaly: bool, gap: usize, shingle_size: usize) -> bool
     ensures { result ≡ Scores.is_recent has_anomaly gap shingle_size }
 {
@@ -56,6 +55,7 @@ pub fn is_skipped(score: f32) -> bool
 }
 
 // Threshold and grade of a score, by the reading's strategy. Of the reading's own score: the opening grade.
+#[tactic(auto, unfolding(crate::specs::Scores::opening))]
 pub fn opening(t: BasicThresholder, r: Reading, score: f32) -> Graded
     ensures { result ≡ Scores.opening t r score }
 {
@@ -67,6 +67,7 @@ pub fn opening(t: BasicThresholder, r: Reading, score: f32) -> Graded
     t.primary_threshold_and_grade(score)
 }
 
+#[tactic(auto, unfolding(crate::specs::Scores::used_score))]
 fn used_score(recent: bool, r: Reading) -> f32
     ensures { result ≡ Scores.used_score recent r }
 {
@@ -77,6 +78,7 @@ fn used_score(recent: bool, r: Reading) -> f32
 }
 
 // The score that counts as corrected.
+#[tactic(auto, unfolding(crate::specs::Scores::corrected_score))]
 pub fn corrected_score(r: Reading, l: LastDescriptor) -> f32
     ensures { result ≡ Scores.corrected_score r l }
 {
@@ -84,6 +86,7 @@ pub fn corrected_score(r: Reading, l: LastDescriptor) -> f32
 }
 
 // `update_score` of a reading.
+#[tactic(auto, unfolding(crate::specs::Scores::update_score))]
 pub fn update_score(
     t: BasicThresholder,
     r: Reading,
@@ -140,12 +143,12 @@ pub fn corrected_quiet(t: BasicThresholder, r: Reading, l: LastDescriptor) -> bo
     false
 }
 
-fn block_of(block: Block) -> usize
+fn block_of(block: Result<usize, Refusal>) -> usize
     ensures { result ≡ Scores.block_of block }
 {
     match block {
-        Block::At(k) => k,
-        Block::Refused(_) => 0,
+        Ok(k) => k,
+        Err(_) => 0,
     }
 }
 
@@ -227,7 +230,8 @@ pub fn write_raised(
         out_high.old out_low.old expected.new out_high.new out_low.new }
 {
     corrector::write_row(point, start, r.base_dimension, row, expected);
-    divector::normalize_into(
+    // Refused only where the lengths do not fit, which leaves both slices alone.
+    let _ = divector::normalize_into(
         high,
         low,
         std::num::f32_to_f64_with_nan(r.score),

@@ -14,10 +14,9 @@ use lib.Ieee.{Float, nan, inf, fin, binary32, binary64, of_bits, to_bits, is_nan
 use lib.Ieee.Bits.{to_bits-of_bits, nan_bits_is}
 use borrow.Author.Tests.{lt-ltb, le-ltb, lt-leb, ne_eqb}
 use Rattle.layout.specs.Numbers.{le4, le8, bytes4, bytes8, signed, unsigned, f32_at, f64_at, i32_at, flag_at, flag_byte, f32_bytes, f64_bytes, i32_bytes, flag_bytes, pasted}
-use Rattle.layout.proofs.Pasting.{pasted_length, pasted_next, deviation_pasted}
+use Rattle.layout.proofs.Pasting.{pasted_length, deviation_pasted}
 use Rattle.deviation.specs.declared.Deviation.{Deviation}
 use Rattle.layout.specs.States.{deviation_at, encode_deviation}
-use Rattle.layout.specs.Parts.{doubles}
 use Rattle.stored_state.specs.Canonical.{canonical4, canonical8, canonical_flag, canonical_statistic}
 use Rattle.stored_state.proofs.Windows.{Alike, part, front, then, first, le4_alike, le8_alike, put, before, behind}
 
@@ -258,23 +257,9 @@ module _ (xs : List ℕ) (b : (i : ℕ) → get_or xs i 0 < 256) (cur : List ℕ
       let m = put_on xs c3 (p + 24) (f64_bytes (f64_at xs (p + 24))) (p + 32) 4 (omega (arith, double_long (f64_at xs (p + 24)))) (omega (arith, l3.0)) (later l3.1 8 4 (p + 32) (omega arith) (omega arith)) in
       (m.0 ∙ l3.0, m.1)
 
-  c2_is : c2 ≡ pasted cur p (doubles d.discount d.weight)
-  unfolding doubles deviation_at
-  c2_is =
-      let l = double_long (f64_at xs p) in
-      ap (λ (q : ℕ). pasted c1 q (f64_bytes (f64_at xs (p + 8)))) (omega (arith, l)) ∙ pasted_next cur p (f64_bytes (f64_at xs p)) (f64_bytes (f64_at xs (p + 8))) (omega arith)
-
-  c4_is : c4 ≡ pasted c2 (p + 16) (doubles d.sum_squared d.sum)
-  unfolding doubles deviation_at
-  c4_is =
-      let l = double_long (f64_at xs (p + 16)) in
-      ap (λ (q : ℕ). pasted c3 q (f64_bytes (f64_at xs (p + 24)))) (omega (arith, l)) ∙ pasted_next c2 (p + 16) (f64_bytes (f64_at xs (p + 16))) (f64_bytes (f64_at xs (p + 24))) (omega (arith, l2.0))
-
   whole_is : pasted c4 (p + 32) (i32_bytes (i32_at xs (p + 32))) ≡ pasted cur p (encode_deviation d)
   unfolding deviation_at
-  whole_is =
-      ap (λ (l : List ℕ). pasted l (p + 32) (i32_bytes (i32_at xs (p + 32)))) (c4_is ∙ ap (λ (l : List ℕ). pasted l (p + 16) (doubles d.sum_squared d.sum)) c2_is)
-      ∙ deviation_pasted cur p d h
+  whole_is = deviation_pasted cur p d h
 
   written_out : c4 ≡ canonical_statistic cur p
   written_out =

@@ -12,7 +12,7 @@ use lib.Ieee.Scale.{finite}
 use borrow.Author.Tests.{lt-ltb, le-leb, lt-leb, ne_eqb, ltb-true, ltb-false}
 use Rattle.io.specs.Digits.{hex_digit_ascii, last_digits}
 use Rattle.score_rows.specs.Text.{bits}
-use Rattle.score_lines.specs.declared.Line.TheVariants.{Score}
+use Rattle.std.specs.Prelude.{Some}
 use Rattle.score_lines.specs.Output.{digit_of, is_digit, all_digits, number, finite_only, read_line, lines_from}
 use Rattle.score_lines.proofs.Numbers.{number_snoc}
 use Rattle.training_lines.specs.Output.{score_line}
@@ -56,7 +56,7 @@ number_back (suc k) n h =
     ∙ div-add-mod' n 16
 
 -- ---- a line
-pub read : (x : Float) → Sound x → (n : ℕ) → n ≤ 65536 → read_line n (bits x) ≡ Score x
+pub read : (x : Float) → Sound x → (n : ℕ) → n ≤ 65536 → read_line n (bits x) ≡ Some x
 unfolding read_line finite_only bits
 read x s n h =
     simp (le-leb n 65536 h, all_digits_lem x, number_back 8 (to_bits binary32 x) (to_bits-lt binary32 x s.held), of_bits-to_bits binary32 x s.held, is_true (finite x) s.finite)

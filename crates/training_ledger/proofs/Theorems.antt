@@ -34,5 +34,5 @@ training_ledger = record {
   sizes = λ state h. sizes state (omega arith);
   in_bounds = λ seed count h. in_bounds seed count (omega arith);
   of_score_watch = λ seed count h. of_score_watch seed count (omega arith);
-  of_calls = λ seed count h d auto base r cs k e above most. Calls.demand_3 d auto base r cs k (in_bounds seed count (omega arith) (z_of cs) above most (told_of r.state cs) e);
+  of_calls = λ seed count h d auto base s cs k e above most. Calls.demand_3 d auto base s cs k (in_bounds seed count (omega arith) (z_of cs) above most (told_of s cs) e);
 }

@@ -6,7 +6,6 @@ use Rattle.std.specs.Float.{binary64}
 use Rattle.basicthresholder.specs.Const.{zero32, sixteen32}
 use Rattle.ledger.specs.Fractions.{over, unit, Le, Lt, fraction_of, plus_zero}
 use Rattle.ledger.specs.Statement.{Told, most_readings, Sized, InBounds, Demand3}
-use Rattle.predictorcorrector.specs.declared.Updated.{Updated}
 use Rattle.demand3.specs.Calls.{Call, new, InTurn, z_of, told_of, shown_of}
 use Rattle.score_kinds.specs.Watching.{settings, three32}
 use Rattle.score_kinds.specs.Counting.{tally, lines}
@@ -16,6 +15,7 @@ use Rattle.score_lines.specs.Output as ScoreWatch
 use Rattle.watch_ledger.specs.Statement as Watch
 use Rattle.training_scores.specs.Recurrence.{score, scores}
 use Rattle.training_lines.specs.Output.{load, output}
+use Rattle.predictorcorrector.specs.declared.PredictorCorrector.{PredictorCorrector}
 
 -- A score that is not zero: at least 2 ^ -24, below 1, and so of the ledger's sizes.
 pub record Positive (x : Float) : Type 0 where
@@ -59,6 +59,6 @@ pub record TrainingLedger : Type 0 where
   pub of_score_watch : (seed count : ℕ) → count ≤ most_readings → OfScoreWatch seed count
   -- A drawer whose readings bring the load's scores, by calls of the watch's functions (`crates/demand3`).
   pub of_calls : (seed count : ℕ) → count ≤ most_readings
-      → (d : Float) (auto : Bool) (base : ℕ) (r : Updated) (cs : List Call) → InTurn (new d auto base r ∷ cs)
-      → scores_told (told_of r.state cs) ≡ scores seed count → T (lt zero32 (z_of cs)) → T (le (z_of cs) sixteen32)
-      → Demand3 d (z_of cs) (told_of r.state cs) (shown_of r.state cs)
+      → (d : Float) (auto : Bool) (base : ℕ) (s : PredictorCorrector) (cs : List Call) → InTurn (new d auto base s ∷ cs)
+      → scores_told (told_of s cs) ≡ scores seed count → T (lt zero32 (z_of cs)) → T (le (z_of cs) sixteen32)
+      → Demand3 d (z_of cs) (told_of s cs) (shown_of s cs)

@@ -60,6 +60,7 @@ fn push_seed(seed: u64, digits: u32, b: u8) -> Run
 }
 
 // A byte of the second line.
+#[tactic(auto, unfolding(crate::specs::Feeding::count_step, score_lines::specs::Output::is_digit))]
 fn push_count(seed: u64, count: u64, digits: u32, b: u8) -> Run
     ensures { result ≡ Feeding.count_step seed count digits b }
 {
@@ -79,7 +80,7 @@ fn push_count(seed: u64, count: u64, digits: u32, b: u8) -> Run
     Run::Bad(2)
 }
 
-// The digit's character, in lower case.
+// The digit's character, in lower case (`char::from_digit` would answer an option of a `char`).
 fn glyph(d: u64) -> u8
     requires { d < 16 }
     ensures { result ≡ Digits·glyph d }
@@ -120,15 +121,9 @@ fn put_score(out: &mut [u8], at: usize, x: f32) -> usize
     requires { at + 9 ≤ length out.old }
     ensures { Steps.Put out.old at (Output.score_line x) result out.new }
 {
-    let line = score_line(x);
-    let mut i = 0usize;
-    let mut to = at;
-    while i < 9 {
-        out[to] = line[i];
-        to += 1;
-        i += 1;
-    }
-    to
+    let end = at + 9;
+    out[at..end].copy_from_slice(&score_line(x));
+    end
 }
 
 // Writes the scores of a seed, as many as the count, and answers the place behind them.
@@ -137,13 +132,11 @@ fn put_load(seed: u64, count: usize, out: &mut [u8]) -> usize
     ensures { Steps.Put out.old 0 (Output.load seed count) result out.new }
 {
     let mut state = seed;
-    let mut i = 0usize;
     let mut at = 0usize;
-    while i < count {
+    for i in 0..count {
         let after = training_scores::step(state);
         at = put_score(out, at, after.score);
         state = after.state;
-        i += 1;
     }
     at
 }
@@ -160,6 +153,7 @@ fn put_asked(seed: u64, count: u64, out: &mut [u8]) -> usize
 }
 
 // A run that has read nothing.
+#[tactic(auto, unfolding(crate::specs::Feeding::begin))]
 pub fn begin() -> Run
     ensures { result ≡ Feeding.begin }
 {
@@ -167,6 +161,7 @@ pub fn begin() -> Run
 }
 
 // The run behind one more byte of its input.
+#[tactic(auto, unfolding(crate::specs::Feeding::step))]
 pub fn push(run: Run, b: u8) -> Run
     ensures { result ≡ Feeding.step run b }
 {

@@ -4,83 +4,50 @@
 
 ghost use Rattle.std.specs.Prelude.{◌≡◌, true};
 ghost use Rattle.training_lines.specs.Feeding.{is_over};
-ghost use Rattle.training_load.specs.declared.Lines.TheVariants as Variants;
 
 use std::io::Read;
 use training_lines::{MOST_BYTES, ROOM, Run};
 
-// What a read came to.
-#[derive(Drop)]
-enum Turn {
-    Byte(u8),
-    End,
-    Failed,
-}
-
-// What was read of the two lines, unless a read failed.
-#[derive(Drop)]
-enum Lines {
-    Read(Run),
-    Failed,
-}
-
-fn read_byte(rt: &(impl Input + Eprint)) -> Turn {
+// None at the end of the input.
+fn read_byte(rt: &impl Input) -> Result<Option<u8>, &'static str> {
     let mut input = [0u8; 1];
-    let Ok(n) = rt.reader().read(&mut input) else {
-        let _ = eprintln!(rt; "training_load: a read failed");
-        return Turn::Failed;
-    };
-    if n == 0 {
-        return Turn::End;
-    }
-    Turn::Byte(input[0])
+    let n = rt.reader().read(&mut input).map_err(|_| "a read failed")?;
+    Ok((n == 1).then_some(input[0]))
 }
 
 // A run that needs no more.
-fn settled(run: Run) -> Lines
+fn settled(run: Run) -> Run
     requires { is_over run ≡ true }
-    ensures { result ≡ Variants.Read run }
+    ensures { result ≡ run }
 {
-    Lines::Read(run)
+    run
 }
 
 // The bytes up to the one with which the run is over, or the end of the input. With `MOST_BYTES` of them it is over: `settled` asks for that.
-fn read_lines(rt: &(impl Input + Eprint)) -> Lines {
+fn read_lines(rt: &impl Input) -> Result<Run, &'static str> {
     let mut run = training_lines::begin();
-    let mut left = MOST_BYTES;
-    while left > 0 {
+    for taken in 0..MOST_BYTES {
         if training_lines::is_over(run) {
-            return settled(run);
+            return Ok(settled(run));
         }
-        let turn = read_byte(rt);
-        match turn {
-            Turn::Byte(b) => {
-                run = training_lines::push(run, b);
-            }
-            Turn::End => {
-                return Lines::Read(run);
-            }
-            Turn::Failed => {
-                return Lines::Failed;
-            }
-        }
-        left -= 1;
+        let Some(b) = read_byte(rt)? else {
+            return Ok(run);
+        };
+        run = training_lines::push(run, b);
     }
-    settled(run)
+    Ok(settled(run))
 }
 
-fn print(rt: &(impl Print + Eprint), run: Run) {
+fn load(rt: &(impl Input + Print)) -> Result<(), &'static str> {
+    let run = read_lines(rt)?;
     let mut out = [0u8; ROOM];
     let written = training_lines::finish(run, &mut out);
-    if rt.write_all(&out[..written]).is_err() {
-        let _ = eprintln!(rt; "training_load: a write failed");
-    }
+    rt.write_all(&out[..written]).map_err(|_| "a write failed")
 }
 
+// A failed read or write is told, and the status is 0 either way.
 fn main(rt: HostRuntime) {
-    let lines = read_lines(&rt);
-    match lines {
-        Lines::Read(run) => print(&rt, run),
-        Lines::Failed => {}
+    if let Err(why) = load(&rt) {
+        let _ = eprintln!(rt; "training_load: {why}");
     }
 }

@@ -6,7 +6,7 @@ ghost use Rattle.types.specs.Refusals as Refusals;
 ghost use Rattle.types.specs.Codes as Codes;
 
 // How the forest's input was transformed.
-#[derive(Clone, Copy)]
+#[derive(Clone, Copy, PartialEq, Eq)]
 pub enum TransformMethod {
     NONE,
     WEIGHTED,
@@ -17,14 +17,14 @@ pub enum TransformMethod {
 }
 
 // What a score is: an expected inverse height, or a distance.
-#[derive(Clone, Copy)]
+#[derive(Clone, Copy, PartialEq, Eq)]
 pub enum ScoringStrategy {
     EXPECTED_INVERSE_HEIGHT,
     DISTANCE,
 }
 
 // Why a reading with an opening grade above 0 was not raised.
-#[derive(Clone, Copy)]
+#[derive(Clone, Copy, PartialEq, Eq)]
 pub enum CorrectionMode {
     NONE,
     NOISE,
@@ -36,7 +36,7 @@ pub enum CorrectionMode {
 }
 
 // Why a call was refused. `number` gives the documents' number.
-#[derive(Clone, Copy)]
+#[derive(Clone, Copy, PartialEq, Eq)]
 pub enum Refusal {
     Discount,
     Range,
@@ -53,30 +53,12 @@ pub enum Refusal {
     Pool,
 }
 
-// How a call on a state ended.
+// What a call hands back that takes a state by value: how it ended, and the state, which a refusal leaves as it came. No `Result`: the state is handed back in both cases, as
+// document 01 asks ("state in, state out").
 #[derive(Clone, Copy)]
-pub enum Answer {
-    Done,
-    Refused(Refusal),
-}
-
-// What a code stands for.
-#[derive(Clone, Copy)]
-pub enum MethodCode {
-    Known(TransformMethod),
-    Refused(Refusal),
-}
-
-#[derive(Clone, Copy)]
-pub enum StrategyCode {
-    Known(ScoringStrategy),
-    Refused(Refusal),
-}
-
-#[derive(Clone, Copy)]
-pub enum ModeCode {
-    Known(CorrectionMode),
-    Refused(Refusal),
+pub struct Updated<S> {
+    pub answer: Result<(), Refusal>,
+    pub state: S,
 }
 
 impl Refusal {
@@ -119,41 +101,39 @@ impl Refusal {
         }
         Refusal::Field
     }
-}
-
-impl Answer {
-    // 0 for a call that was carried out, else its refusal's number.
-    pub fn number(self) -> u8
-        ensures { result ≡ Refusals.answered self }
-    {
-        match self {
-            Answer::Done => 0,
-            Answer::Refused(why) => why.number(),
-        }
-    }
 
     // The answer to a reading that fits: the smallest of 4, 5 and 6 whose test fails.
-    pub fn of_fitting(finite: bool, seen_ok: bool, counts_ok: bool) -> Answer
+    pub fn of_fitting(finite: bool, seen_ok: bool, counts_ok: bool) -> Result<(), Refusal>
         ensures { result ≡ Refusals.of_fitting finite seen_ok counts_ok }
     {
-        if finite {
-            if seen_ok {
-                if counts_ok {
-                    return Answer::Done;
-                }
-                return Answer::Refused(Refusal::Count);
-            }
-            return Answer::Refused(Refusal::ValuesSeen);
+        if !finite {
+            return Err(Refusal::NotFinite);
         }
-        Answer::Refused(Refusal::NotFinite)
+        if !seen_ok {
+            return Err(Refusal::ValuesSeen);
+        }
+        if !counts_ok {
+            return Err(Refusal::Count);
+        }
+        Ok(())
     }
 }
 
-impl TransformMethod {
-    pub fn code(self) -> u8
-        ensures { result ≡ Codes.method_code self }
-    {
-        match self {
+// 0 for a call that was carried out, else its refusal's number.
+pub fn answered(answer: Result<(), Refusal>) -> u8
+    ensures { result ≡ Refusals.answered answer }
+{
+    if let Err(why) = answer {
+        return why.number();
+    }
+    0
+}
+
+impl From<TransformMethod> for u8 {
+    ghost from_gives = { λ method code. code ≡ Codes.method_code method };
+
+    fn from(method: TransformMethod) -> u8 {
+        match method {
             TransformMethod::NONE => 0,
             TransformMethod::WEIGHTED => 1,
             TransformMethod::DIFFERENCE => 2,
@@ -162,86 +142,82 @@ impl TransformMethod {
             TransformMethod::NORMALIZE_DIFFERENCE => 5,
         }
     }
+}
 
-    pub fn of_code(code: u8) -> MethodCode
-        ensures { result ≡ Codes.method_of code }
-    {
+// Refusal 2 is of a code of no method.
+impl TryFrom<u8> for TransformMethod {
+    type Error = Refusal;
+
+    ghost try_from_gives = { λ code method. method ≡ Codes.method_of code };
+
+    fn try_from(code: u8) -> Result<TransformMethod, Refusal> {
         match code {
-            0 => MethodCode::Known(TransformMethod::NONE),
-            1 => MethodCode::Known(TransformMethod::WEIGHTED),
-            2 => MethodCode::Known(TransformMethod::DIFFERENCE),
-            3 => MethodCode::Known(TransformMethod::SUBTRACT_MA),
-            4 => MethodCode::Known(TransformMethod::NORMALIZE),
-            5 => MethodCode::Known(TransformMethod::NORMALIZE_DIFFERENCE),
-            _ => MethodCode::Refused(Refusal::Range),
+            0 => Ok(TransformMethod::NONE),
+            1 => Ok(TransformMethod::WEIGHTED),
+            2 => Ok(TransformMethod::DIFFERENCE),
+            3 => Ok(TransformMethod::SUBTRACT_MA),
+            4 => Ok(TransformMethod::NORMALIZE),
+            5 => Ok(TransformMethod::NORMALIZE_DIFFERENCE),
+            _ => Err(Refusal::Range),
         }
     }
+}
 
-    // method == NONE
+impl TransformMethod {
     pub fn is_none(self) -> bool
         ensures { result ≡ Codes.is_none self }
     {
-        match self {
-            TransformMethod::NONE => true,
-            TransformMethod::WEIGHTED => false,
-            TransformMethod::DIFFERENCE => false,
-            TransformMethod::SUBTRACT_MA => false,
-            TransformMethod::NORMALIZE => false,
-            TransformMethod::NORMALIZE_DIFFERENCE => false,
-        }
+        self == TransformMethod::NONE
     }
 
-    // method == DIFFERENCE || method == NORMALIZE_DIFFERENCE
     pub fn is_differenced(self) -> bool
         ensures { result ≡ Codes.is_differenced self }
     {
-        match self {
-            TransformMethod::NONE => false,
-            TransformMethod::WEIGHTED => false,
-            TransformMethod::DIFFERENCE => true,
-            TransformMethod::SUBTRACT_MA => false,
-            TransformMethod::NORMALIZE => false,
-            TransformMethod::NORMALIZE_DIFFERENCE => true,
+        matches!(
+            self,
+            TransformMethod::DIFFERENCE | TransformMethod::NORMALIZE_DIFFERENCE
+        )
+    }
+}
+
+impl From<ScoringStrategy> for u8 {
+    ghost from_gives = { λ strategy code. code ≡ Codes.strategy_code strategy };
+
+    fn from(strategy: ScoringStrategy) -> u8 {
+        match strategy {
+            ScoringStrategy::EXPECTED_INVERSE_HEIGHT => 0,
+            ScoringStrategy::DISTANCE => 1,
+        }
+    }
+}
+
+impl TryFrom<u8> for ScoringStrategy {
+    type Error = Refusal;
+
+    ghost try_from_gives = { λ code strategy. strategy ≡ Codes.strategy_of code };
+
+    fn try_from(code: u8) -> Result<ScoringStrategy, Refusal> {
+        match code {
+            0 => Ok(ScoringStrategy::EXPECTED_INVERSE_HEIGHT),
+            1 => Ok(ScoringStrategy::DISTANCE),
+            _ => Err(Refusal::Range),
         }
     }
 }
 
 impl ScoringStrategy {
-    pub fn code(self) -> u8
-        ensures { result ≡ Codes.strategy_code self }
-    {
-        match self {
-            ScoringStrategy::EXPECTED_INVERSE_HEIGHT => 0,
-            ScoringStrategy::DISTANCE => 1,
-        }
-    }
-
-    pub fn of_code(code: u8) -> StrategyCode
-        ensures { result ≡ Codes.strategy_of code }
-    {
-        match code {
-            0 => StrategyCode::Known(ScoringStrategy::EXPECTED_INVERSE_HEIGHT),
-            1 => StrategyCode::Known(ScoringStrategy::DISTANCE),
-            _ => StrategyCode::Refused(Refusal::Range),
-        }
-    }
-
-    // strategy == EXPECTED_INVERSE_HEIGHT
     pub fn is_height(self) -> bool
         ensures { result ≡ Codes.is_height self }
     {
-        match self {
-            ScoringStrategy::EXPECTED_INVERSE_HEIGHT => true,
-            ScoringStrategy::DISTANCE => false,
-        }
+        self == ScoringStrategy::EXPECTED_INVERSE_HEIGHT
     }
 }
 
-impl CorrectionMode {
-    pub fn code(self) -> u8
-        ensures { result ≡ Codes.mode_code self }
-    {
-        match self {
+impl From<CorrectionMode> for u8 {
+    ghost from_gives = { λ mode code. code ≡ Codes.mode_code mode };
+
+    fn from(mode: CorrectionMode) -> u8 {
+        match mode {
             CorrectionMode::NONE => 0,
             CorrectionMode::NOISE => 1,
             CorrectionMode::MULTI_MODE => 2,
@@ -251,19 +227,23 @@ impl CorrectionMode {
             CorrectionMode::DATA_DRIFT => 6,
         }
     }
+}
 
-    pub fn of_code(code: u8) -> ModeCode
-        ensures { result ≡ Codes.mode_of code }
-    {
+impl TryFrom<u8> for CorrectionMode {
+    type Error = Refusal;
+
+    ghost try_from_gives = { λ code mode. mode ≡ Codes.mode_of code };
+
+    fn try_from(code: u8) -> Result<CorrectionMode, Refusal> {
         match code {
-            0 => ModeCode::Known(CorrectionMode::NONE),
-            1 => ModeCode::Known(CorrectionMode::NOISE),
-            2 => ModeCode::Known(CorrectionMode::MULTI_MODE),
-            3 => ModeCode::Known(CorrectionMode::ANOMALY_IN_SHINGLE),
-            4 => ModeCode::Known(CorrectionMode::CONDITIONAL_FORECAST),
-            5 => ModeCode::Known(CorrectionMode::FORECAST),
-            6 => ModeCode::Known(CorrectionMode::DATA_DRIFT),
-            _ => ModeCode::Refused(Refusal::Range),
+            0 => Ok(CorrectionMode::NONE),
+            1 => Ok(CorrectionMode::NOISE),
+            2 => Ok(CorrectionMode::MULTI_MODE),
+            3 => Ok(CorrectionMode::ANOMALY_IN_SHINGLE),
+            4 => Ok(CorrectionMode::CONDITIONAL_FORECAST),
+            5 => Ok(CorrectionMode::FORECAST),
+            6 => Ok(CorrectionMode::DATA_DRIFT),
+            _ => Err(Refusal::Range),
         }
     }
 }

@@ -1,12 +1,12 @@
 -- What callers and readers may take from the definitions. Assumes nothing.
-use Rattle.std.proofs.Common.{◌≡◌, ℕ, zero, suc, ◌-◌, ◌*◌, ◌/◌, ◌%◌, ◌<◌, ◌≤◌, Bool, true, false, cond, ◌&&◌, eqb, ltb, leb, List, length, sym, refl, ap, ◌∙◌, arith, ltb-true, lt-ltb, eq-eqb, le-leb, leb-true}
+use Rattle.std.proofs.Common.{◌≡◌, ℕ, zero, suc, ◌-◌, ◌%◌, ◌<◌, ◌≤◌, Bool, true, false, cond, ◌&&◌, eqb, ltb, leb, List, length, sym, refl, ap, ◌∙◌, arith, ltb-true, leb-true}
 use mathlib.Core.Bool.{and-false}
 use lib.Ieee as Ieee
 use lib.Ieee.{Float, binary32, of_bits}
 use Rattle.scan.specs.Read.{read_until}
 use Rattle.util.specs.Util.{maxf32, minf32}
 use Rattle.uncertainty_box.specs.Const.{zero32, one, noise_factor}
-use Rattle.uncertainty_box.specs.Scan.{nth, some, count, listed}
+use Rattle.uncertainty_box.specs.Scan.{nth, some, listed}
 use Rattle.uncertainty_box.specs.Box.{outside_at, within_unertainty_box, box_fits, path_deviation, edge_of, edge_at, uncertainty_box, neighbour_within, supported, whole_points, explained_by_conditional_field}
 use Rattle.uncertainty_box.specs.Box as Box
 use Rattle.uncertainty_box.specs.Pass as Pass
@@ -137,21 +137,7 @@ pub over_at_lem : (base : ℕ) (scale shift point : List Float) (i y : ℕ) (b t
 unfolding over_at
 over_at_lem base scale shift point i y b t e q h = ap (λ (n : ℕ). over_line (nth point i) (nth scale n) (nth shift n)) (sym e) ∙ sym q ∙ h
 
--- Of whole points the share alone decides.
-pub explained_is : (box point : List Float) (start : ℕ) (scale neighbours : List Float) (d w n : ℕ) → 0 < d → n ≡ length neighbours / d → n ≤ 65536 → n * d ≡ length neighbours →
-    w ≡ count n (neighbour_within box point start scale neighbours d) →
-    explained_by_conditional_field box point start scale neighbours d ≡ supported w n
-unfolding explained_by_conditional_field whole_points
-explained_is box point start scale neighbours d w n h q l e c =
-    rw (← q, lt-ltb 0 d h, le-leb n 65536 l, eq-eqb (n * d) (length neighbours) e, ← c)
-
 module _ (point : List Float) (start : ℕ) (scale shift deviations : List Float) (differenced : Bool) where
-  -- Every element of the buffer is its edge.
-  pub box_is : (out : List Float) → length out ≤ length scale → length out ≤ length shift → length out ≤ length deviations →
-      uncertainty_box point start scale shift deviations differenced out ≡ listed (length out) (edge_at (length out) point start scale shift deviations differenced)
-  unfolding uncertainty_box
-  box_is out h k l = rw (le-leb _ _ h, le-leb _ _ k, le-leb _ _ l)
-
   pub box_length : (out : List Float) → length (uncertainty_box point start scale shift deviations differenced out) ≡ length out
   unfolding uncertainty_box
   box_length out =

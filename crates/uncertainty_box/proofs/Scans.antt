@@ -1,5 +1,5 @@
 -- A loop's step for each of `some`, `count` and `listed`, for any function of the place, and how many places a scan for `some` reads. Assumes nothing.
-use Rattle.std.proofs.Common.{◌≡◌, ℕ, zero, suc, ◌+◌, ◌-◌, ◌<◌, ◌≤◌, Bool, true, false, cond, ◌||◌, eqb, List, [], ◌∷◌, ◌++◌, length, get_or, take, set, sym, refl, ap, ◌∙◌, ap₂, ⊎_elim, le_of_suc-le-suc, not-suc-le-zero, eq-or-lt_of_le, add-one, arith, length-append, take_all, take-suc-set}
+use Rattle.std.proofs.Common.{◌≡◌, ℕ, zero, suc, ◌+◌, ◌-◌, ◌<◌, ◌≤◌, Bool, true, false, cond, ◌||◌, eqb, List, [], ◌∷◌, ◌++◌, length, get_or, take, set, sym, refl, ap, ◌∙◌, ap₂, ⊎_elim, le_of_suc-le-suc, not-suc-le-zero, eq-or-lt_of_le, add-one, arith, length-append, take-suc-set}
 use mathlib.Core.Bool.{or-true}
 use lib.ListN.{get_or-append}
 use lib.Seq.{get_or_at}
@@ -141,6 +141,3 @@ module _ (f : ℕ → Float) where
   pub listed_next : (out : List Float) (y : ℕ) (v : Float) → take y out ≡ listed y f → y < length out → v ≡ f y → take (y + 1) (set out y v) ≡ listed (y + 1) f
   unfolding listed
   listed_next out y v e h q = rw add-one (take-suc-set out y v h ∙ ap₂ (λ (l : List Float) (x : Float). l ++ (x ∷ [])) e q)
-
-  pub listed_all : (out : List Float) (y : ℕ) → take y out ≡ listed y f → length out ≡ y → out ≡ listed y f
-  listed_all out y e h = sym (take_all y out (omega arith)) ∙ e

@@ -6,14 +6,8 @@ ghost use Rattle.uncertainty_box.specs.Box as Box;
 ghost use Rattle.uncertainty_box.specs.Pass as Pass;
 ghost use Rattle.uncertainty_box.specs.Settled.{BoxDecided, BoxSettled, PassDecided, PassSettled};
 
-// How many of len places are left from start on.
-fn left(len: usize, start: usize) -> usize
-    ensures { result ≡ len - start }
-{
-    if start < len { len - start } else { 0 }
-}
-
 // Whether the scaled coordinate of p is strictly beyond an edge around that of q.
+#[tactic(auto, unfolding(crate::specs::Box::outside))]
 fn outside(edge: f32, scale: f32, p: f32, q: f32) -> bool
     ensures { result ≡ Box.outside edge scale p q }
 {
@@ -26,16 +20,17 @@ fn outside(edge: f32, scale: f32, p: f32, q: f32) -> bool
 }
 
 // Whether no slice is too short for the box.
+#[tactic(auto, unfolding(crate::specs::Box::box_fits))]
 fn box_fits(edges: usize, start: usize, scales: usize, points: usize, others: usize) -> bool
     ensures { result ≡ Box.box_fits edges start scales points others }
 {
     if scales < edges {
         return false;
     }
-    if left(points, start) < edges {
+    if points.saturating_sub(start) < edges {
         return false;
     }
-    edges <= left(others, start)
+    edges <= others.saturating_sub(start)
 }
 
 // Whether a point is within a box, and how many of the box's coordinates were read to say so.
@@ -47,6 +42,7 @@ pub struct Within {
 
 // Whether the other point's box has the point within it. The first coordinate outside settles it, and no further one is read.
 // No, and none read, where a slice is too short for the box.
+#[tactic(auto, using(crate::proofs::Laws::box_fits_holds), unfolding(crate::specs::Scan::some, crate::specs::Box::outside_at))]
 pub fn within_unertainty_box(
     uncertainty_box: &[f32],
     start_position: usize,
@@ -70,8 +66,7 @@ pub fn within_unertainty_box(
             read: 0,
         };
     }
-    let mut y = 0usize;
-    while y < all {
+    for y in 0..all {
         let at = start_position + y;
         if outside(uncertainty_box[y], scale[y], point[at], other_point[at]) {
             return Within {
@@ -79,7 +74,6 @@ pub fn within_unertainty_box(
                 read: scan::places_read(y, all),
             };
         }
-        y += 1;
     }
     Within {
         within: true,
@@ -88,6 +82,7 @@ pub fn within_unertainty_box(
 }
 
 // What one row adds to the variation.
+#[tactic(auto, unfolding(crate::specs::Box::path_step))]
 fn path_step(differenced: bool, here: f32, next: f32) -> f32
     ensures { result ≡ Box.path_step differenced here next }
 {
@@ -97,6 +92,7 @@ fn path_step(differenced: bool, here: f32, next: f32) -> f32
     util::absf32(here - next)
 }
 
+#[tactic(auto, unfolding(crate::specs::Box::path_mean))]
 fn path_mean(variation: f32, observation: u32) -> f32
     ensures { result ≡ Box.path_mean variation observation }
 {
@@ -123,7 +119,8 @@ pub fn calculate_path_deviation(
     if point.len() > 65536 {
         return 0.0;
     }
-    if left(left(point.len(), start_position), index) == 0 {
+    let left = point.len().saturating_sub(start_position);
+    if left <= index {
         return 0.0;
     }
     let mut here = start_position + index;
@@ -131,7 +128,7 @@ pub fn calculate_path_deviation(
     let mut observation = 0u32;
     while base_dimension < point.len() - here {
         let next = here + base_dimension;
-        variation = variation + path_step(differenced, point[here], point[next]);
+        variation += path_step(differenced, point[here], point[next]);
         here = next;
         observation += 1;
     }
@@ -139,6 +136,7 @@ pub fn calculate_path_deviation(
 }
 
 // An edge of the box.
+#[tactic(auto, unfolding(crate::specs::Box::edge_of))]
 fn edge(scale: f32, path_gap: f32, shift: f32, deviation: f32) -> f32
     ensures { result ≡ Box.edge_of scale path_gap shift deviation }
 {
@@ -148,6 +146,7 @@ fn edge(scale: f32, path_gap: f32, shift: f32, deviation: f32) -> f32
 }
 
 // The box around a point, an edge for each element of out, which is left alone where scale, shift or deviations are fewer.
+#[tactic(auto, unfolding(crate::specs::Box::uncertainty_box, crate::specs::Scan::listed))]
 pub fn construct_uncertainty_box(
     point: &[f32],
     start_position: usize,
@@ -171,8 +170,7 @@ pub fn construct_uncertainty_box(
     if difference_deviations.len() < base_dimension {
         return;
     }
-    let mut y = 0usize;
-    while y < base_dimension {
+    for y in 0..base_dimension {
         let path_gap = calculate_path_deviation(
             point,
             start_position,
@@ -181,7 +179,6 @@ pub fn construct_uncertainty_box(
             differenced,
         );
         out[y] = edge(scale[y], path_gap, shift[y], difference_deviations[y]);
-        y += 1;
     }
 }
 
@@ -197,6 +194,7 @@ fn bump(weight: u32, yes: bool) -> u32
 }
 
 // weight >= 0.1 * total
+#[tactic(auto, unfolding(crate::specs::Box::supported))]
 fn supported(weight: u32, total: u32) -> bool
     ensures { result ≡ Box.supported weight total }
 {
@@ -204,6 +202,7 @@ fn supported(weight: u32, total: u32) -> bool
 }
 
 // Whether enough of the neighbours have the point within their box. No where they are no whole points.
+#[tactic(auto, using(crate::proofs::Scans::count_le), unfolding(crate::specs::Box::explained_by_conditional_field, crate::specs::Box::whole_points, crate::specs::Scan::count))]
 pub fn explained_by_conditional_field(
     uncertainty_box: &[f32],
     point: &[f32],
@@ -227,20 +226,17 @@ pub fn explained_by_conditional_field(
         return false;
     }
     let mut weight = 0u32;
-    let mut at = 0usize;
-    let mut k = 0usize;
-    while k < total {
-        let end = at + dimension;
-        let other = &neighbours[at..end];
+    for k in 0..total {
+        let at = k * dimension;
+        let other = &neighbours[at..at + dimension];
         let held = within_unertainty_box(uncertainty_box, start_position, scale, point, other);
         weight = bump(weight, held.within);
-        at = end;
-        k += 1;
     }
     supported(weight, total as u32)
 }
 
 // Whether a coordinate is over its precision line.
+#[tactic(auto, unfolding(crate::specs::Pass::over_line))]
 fn over_line(coordinate: f32, scale: f32, shift: f32) -> bool
     ensures { result ≡ Pass.over_line coordinate scale shift }
 {
@@ -248,6 +244,7 @@ fn over_line(coordinate: f32, scale: f32, shift: f32) -> bool
 }
 
 // Whether the base is not 0 and no slice is too short for it.
+#[tactic(auto, unfolding(crate::specs::Pass::passable))]
 fn passable(base: usize, scales: usize, shifts: usize, deviations: usize, points: usize) -> bool
     ensures { result ≡ Pass.passable base scales shifts deviations points }
 {
@@ -283,6 +280,7 @@ pub struct Passed {
 
 // 1 where a coordinate is over its precision line, else 0. The first one over it settles it, and no further one is read; the deviations change nothing.
 // 0, and none read, where the base is 0 or a slice is too short for it.
+#[tactic(auto, using(crate::proofs::Laws::passable_holds), unfolding(crate::specs::Scan::some))]
 pub fn centered_transform_pass(
     base_dimension: usize,
     scale: &[f32],
@@ -306,16 +304,14 @@ pub fn centered_transform_pass(
             read: 0,
         };
     }
-    let mut i = 0usize;
     let mut y = 0usize;
-    while i < all {
+    for i in 0..all {
         if over_line(point[i], scale[y], shift[y]) {
             return Passed {
                 factor: 1.0,
                 read: scan::places_read(i, all),
             };
         }
-        i += 1;
         y = next_in_row(y, base_dimension);
     }
     Passed {

@@ -5,63 +5,38 @@
 // high, low, other high and other low with room for 8 floats each. The others are as long as high.
 #![tactic(auto)]
 
-ghost use Rattle.std.specs.Prelude.{◌<◌, ◌≤◌};
+ghost use Rattle.std.specs.Prelude.{◌≤◌};
 
-use divector::{Block, Number};
 use std::io;
 use std::io::{ErrorKind, Read};
-use types::Answer;
+use types::Refusal;
 
-fn wide(b: u8) -> u64
-    ensures { result < 0x100 }
-{
-    b as u64
-}
-
-// A word takes its bytes one after the other, and is right with the last.
-fn word(b: &[u8; 320], k: usize) -> u64
-    requires { k ≤ 39 }
-{
-    let mut out = 0u64;
-    let mut i = 0usize;
-    while i < 8 {
-        out = (out >> 8) | (wide(b[8 * k + i]) << 56);
-        i += 1;
+// The words of a call.
+fn words(b: &[u8; 320]) -> [u64; 40] {
+    let mut out = [0u64; 40];
+    let (eights, _) = b.as_chunks::<8>();
+    for (word, eight) in out.iter_mut().zip(eights) {
+        *word = u64::from_le_bytes(*eight);
     }
     out
 }
 
-fn float(b: &[u8; 320], k: usize) -> f64
-    requires { k ≤ 39 }
-{
-    ieee::f64_from_bits(word(b, k))
-}
-
-fn eight(b: &[u8; 320], k: usize) -> [f64; 8]
+// Eight floats from that word on.
+fn eight(w: &[u64; 40], k: usize) -> [f64; 8]
     requires { k ≤ 32 }
 {
-    [
-        float(b, k),
-        float(b, k + 1),
-        float(b, k + 2),
-        float(b, k + 3),
-        float(b, k + 4),
-        float(b, k + 5),
-        float(b, k + 6),
-        float(b, k + 7),
-    ]
+    let mut out = [0.0f64; 8];
+    for (x, word) in out.iter_mut().zip(&w[k..k + 8]) {
+        *x = ieee::f64_from_bits(*word);
+    }
+    out
 }
 
 // How long a list is, up to 8.
-fn length(b: &[u8; 320], k: usize) -> usize
-    requires { k ≤ 39 }
+fn length(word: u64) -> usize
     ensures { result ≤ 8 }
 {
-    let n = word(b, k);
-    if n < 8 {
-        return n as usize;
-    }
-    8
+    word.min(8) as usize
 }
 
 // A call's answer: the refusal's number or 0, and the answer's bits, 0 where it has none.
@@ -71,35 +46,35 @@ struct Said {
     bits: u64,
 }
 
-fn said_number(x: Number) -> Said {
+fn said_number(x: Result<f64, Refusal>) -> Said {
     match x {
-        Number::Value(x) => Said {
+        Ok(x) => Said {
             number: 0,
             bits: ieee::f64_to_bits(x),
         },
-        Number::Refused(why) => Said {
+        Err(why) => Said {
             number: why.number(),
             bits: 0,
         },
     }
 }
 
-fn said_block(x: Block) -> Said {
+fn said_block(x: Result<usize, Refusal>) -> Said {
     match x {
-        Block::At(k) => Said {
+        Ok(k) => Said {
             number: 0,
             bits: k as u64,
         },
-        Block::Refused(why) => Said {
+        Err(why) => Said {
             number: why.number(),
             bits: 0,
         },
     }
 }
 
-fn said_answer(x: Answer) -> Said {
+fn said_answer(x: Result<(), Refusal>) -> Said {
     Said {
-        number: x.number(),
+        number: types::answered(x),
         bits: 0,
     }
 }
@@ -156,78 +131,52 @@ fn call(
     }
 }
 
-fn mix(sum: u64, x: f64) -> u64 {
-    std::num::wrapping_add_u64((sum << 7) | (sum >> 57), ieee::f64_to_bits(x))
-}
-
-fn mix_list(before: u64, x: [f64; 8]) -> u64 {
-    let mut sum = before;
-    let mut i = 0usize;
-    while i < 8 {
-        sum = mix(sum, x[i]);
-        i += 1;
-    }
-    sum
-}
-
-fn write_line(rt: &impl Print, operation: u64, said: Said, sum: u64) -> io::Result<()> {
-    println!(rt; "{operation} {} {:016x} {sum:016x}", said.number, said.bits)
+fn mix(before: u64, x: &[f64; 8]) -> u64 {
+    x.iter().fold(before, |sum, x| {
+        sum.rotate_left(7).wrapping_add(ieee::f64_to_bits(*x))
+    })
 }
 
 fn show(rt: &impl Print, b: &[u8; 320]) -> io::Result<()> {
-    let mut high = eight(b, 8);
-    let mut low = eight(b, 16);
-    let mut other_high = eight(b, 24);
-    let mut other_low = eight(b, 32);
-    let n = length(b, 1);
-    let m = length(b, 2);
+    let w = words(b);
+    let mut high = eight(&w, 8);
+    let mut low = eight(&w, 16);
+    let mut other_high = eight(&w, 24);
+    let mut other_low = eight(&w, 32);
+    let n = length(w[1]);
+    let m = length(w[2]);
     let said = call(
-        word(b, 0),
+        w[0],
         &mut high[..n],
         &mut low[..m],
         &mut other_high[..n],
         &mut other_low[..n],
-        word(b, 3) as usize,
-        word(b, 4) as usize,
-        float(b, 5),
+        w[3] as usize,
+        w[4] as usize,
+        ieee::f64_from_bits(w[5]),
     );
-    let first = mix_list(mix_list(0, high), low);
-    write_line(
-        rt,
-        word(b, 0),
-        said,
-        mix_list(mix_list(first, other_high), other_low),
-    )
-}
-
-fn blank() -> [u8; 320] {
-    [0u8; 320]
+    let sum = mix(mix(mix(mix(0, &high), &low), &other_high), &other_low);
+    println!(rt; "{} {} {:016x} {sum:016x}", w[0], said.number, said.bits)
 }
 
 // Fills `out`; no where the input ends before.
 fn fill(input: &mut impl Read, out: &mut [u8]) -> io::Result<bool> {
     match input.read_exact(out) {
         Ok(()) => Ok(true),
-        Err(e) => {
-            if e.kind() == ErrorKind::UnexpectedEof {
-                return Ok(false);
-            }
-            Err(e)
-        }
+        Err(e) if e.kind() == ErrorKind::UnexpectedEof => Ok(false),
+        Err(e) => Err(e),
     }
 }
 
 // Up to 1000 calls, to the end of the input.
 fn main(rt: HostRuntime) -> io::Result<()> {
     let mut input = rt.reader();
-    let mut k = 0usize;
-    while k < 1000 {
-        let mut bytes = blank();
+    for _ in 0..1000 {
+        let mut bytes = [0u8; 320];
         if !fill(&mut input, &mut bytes)? {
             return Ok(());
         }
         show(&rt, &bytes)?;
-        k += 1;
     }
     Ok(())
 }

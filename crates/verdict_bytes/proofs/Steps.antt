@@ -1,4 +1,5 @@
 -- The calls' shapes over plain variables. Assumes nothing.
+use Rattle.std.specs.Prelude.{Result, Ok, Err}
 use mathlib.Core.Path.{◌≡◌, refl, sym, ap, ◌∙◌}
 use mathlib.Core.Bool.{Bool, true, false, cond, ◌&&◌}
 use mathlib.Core.List.{List}
@@ -11,12 +12,10 @@ use lib.IntN.{ℤ}
 use lib.Ieee.{Float}
 use borrow.Author.Tests.{leb-true, eq-eqb, le-leb}
 use Rattle.types.specs.Codes.{mode_code}
-use Rattle.types.specs.Refusals.{number, answered}
+use Rattle.types.specs.Refusals.{number, answered, Answer}
 use Rattle.types.specs.declared.CorrectionMode.{CorrectionMode}
 use Rattle.types.specs.declared.Refusal.{Refusal}
 use Rattle.types.specs.declared.Refusal.TheVariants as Why
-use Rattle.types.specs.declared.Answer.{Answer}
-use Rattle.types.specs.declared.Answer.TheVariants as Answers
 use Rattle.deviation.specs.Const.{count_limit}
 use Rattle.descriptor.specs.Checks.{sizes_ok, range_ok}
 use Rattle.descriptor.proofs.Bounds.{both}
@@ -32,7 +31,6 @@ use Rattle.detection.specs.Judging.{is_drift_mode, corrected_score}
 use Rattle.detection.specs.Judged.{outcome_of, outcome_number}
 use Rattle.detection.specs.Steps.{Counting}
 use Rattle.detection.specs.Decided.{rows_counted, after_rows}
-use Rattle.detection.specs.declared.Outcome.{Outcome}
 use Rattle.detection.specs.declared.Verdict.{Verdict}
 use Rattle.detection.specs.declared.Verdict.TheVariants.{Quiet, Corrected, Raised, Skipped}
 use Rattle.layout.specs.Places.{state_length, verdict_length}
@@ -108,10 +106,10 @@ module _ (s : PredictorCorrector) (r : Reading) (l : LastDescriptor) (x : Float)
         go false h = rw h
 
 -- ---- the state's bytes.
-stored_same : (a : Answer) (xs : List ℕ) (s t : PredictorCorrector) → (a ≡ Answers.Done → s ≡ t) → stored_by a xs s ≡ stored_by a xs t
+stored_same : (a : Answer) (xs : List ℕ) (s t : PredictorCorrector) → (a ≡ Ok tt → s ≡ t) → stored_by a xs s ≡ stored_by a xs t
 unfolding stored_by
-stored_same Answers.Done xs s t e = ap (encode_state_over xs) (e refl)
-stored_same (Answers.Refused why) xs s t e = refl
+stored_same (Ok _) xs s t e = ap (encode_state_over xs) (e refl)
+stored_same (Err why) xs s t e = refl
 
 module _ (xs : List ℕ) (r : Reading) (l : LastDescriptor) (threshold : Float) (point row : List Float) (grows : Bool) where
   abbrev newest : List Float
@@ -139,7 +137,7 @@ module _ (xs : List ℕ) (r : Reading) (l : LastDescriptor) (threshold : Float) 
 
   module _ (run : ℕ) (ran : run ≡ stored_run xs) (c : Bool) (e : c ≡ is_candidate r l run r.shingle_size threshold) where
     -- The run of bytes that take the reading is their own.
-    candidate_is : reading_answer xs r true ≡ Answers.Done → is_candidate r l (decode_state xs).run_length r.shingle_size threshold ≡ c
+    candidate_is : reading_answer xs r true ≡ Ok tt → is_candidate r l (decode_state xs).run_length r.shingle_size threshold ≡ c
     unfolding stored_run
     candidate_is d =
         let long = (fitting xs r true d).taking.long in
@@ -156,25 +154,25 @@ module _ (xs : List ℕ) (r : Reading) (l : LastDescriptor) (threshold : Float) 
           let t = (λ i. rows_fit r (length (p i)) (length (q i))) ∙ rows_fit_lem f long in (
             o ∙ ap (reading_answer xs r) t,
             b ∙ (λ i. stored_by (reading_answer xs r (t i)) xs (InPlace.counted (decode_state xs) (InPlace.scored (decode_state xs) r l (used i)) grows (p i) (q i)))
-                ∙ stored_same (reading_answer xs r true) xs _ _ (λ (d : reading_answer xs r true ≡ Answers.Done). after_counted (decode_state xs) (candidate_is d ∙ h)),
+                ∙ stored_same (reading_answer xs r true) xs _ _ (λ (d : reading_answer xs r true ≡ Ok tt). after_counted (decode_state xs) (candidate_is d ∙ h)),
           )
 
       pub rows_entered : c ≡ false → a ≡ reading_answer xs r true → zs ≡ stored_by (reading_answer xs r true) xs (InPlace.entered (decode_state xs) (InPlace.scored (decode_state xs) r l x) grows) → Rows
       rows_entered h o b = (
         o,
         b ∙ (λ i. stored_by (reading_answer xs r true) xs (InPlace.entered (decode_state xs) (InPlace.scored (decode_state xs) r l (used i)) grows))
-            ∙ stored_same (reading_answer xs r true) xs _ _ (λ (d : reading_answer xs r true ≡ Answers.Done). after_entered (decode_state xs) (candidate_is d ∙ h)),
+            ∙ stored_same (reading_answer xs r true) xs _ _ (λ (d : reading_answer xs r true ≡ Ok tt). after_entered (decode_state xs) (candidate_is d ∙ h)),
       )
 
 put_same : (a : Answer) (v : Verdict) (xs : List ℕ) (s t : PredictorCorrector) → changes_state v ≡ true → s ≡ t → stored_by a xs s ≡ put_over a v xs t
 unfolding stored_by put_over stored
-put_same Answers.Done v xs s t c e = rw c (ap (encode_state_over xs) e)
-put_same (Answers.Refused why) v xs s t c e = refl
+put_same (Ok _) v xs s t c e = rw c (ap (encode_state_over xs) e)
+put_same (Err why) v xs s t c e = refl
 
 skip_over : (a : Answer) (xs : List ℕ) (s : PredictorCorrector) → xs ≡ put_over a Skipped xs s
 unfolding put_over stored changes_state
-skip_over Answers.Done xs s = refl
-skip_over (Answers.Refused why) xs s = refl
+skip_over (Ok _) xs s = refl
+skip_over (Err why) xs s = refl
 
 module _ (xs zs : List ℕ) (r : Reading) (l : LastDescriptor) (point row : List Float) (v : Verdict) (a : Answer) where
   abbrev s : PredictorCorrector
@@ -267,15 +265,15 @@ module _ (xs zs : List ℕ) (r : Reading) (l : LastDescriptor) (point row : List
 -- ---- the whole call.
 answer_number : (v : Verdict) (a : Answer) → answered a ≡ outcome_number (outcome_of v a)
 unfolding outcome_of
-answer_number v Answers.Done = refl
-answer_number v (Answers.Refused why) = refl
+answer_number v (Ok _) = refl
+answer_number v (Err why) = refl
 
 module _ (xs : List ℕ) (r : Reading) where
   short_state : (v : Verdict) (s : PredictorCorrector) → xs ≡ state_left (outcome_of v (reading_answer xs r false)) xs s
   unfolding reading_answer outcome_of state_left
   short_state v s = go (state_codes_ok xs) (eqb (length xs) state_length) (range_ok r.shingle_size r.base_dimension (decode_state xs).base_dimension) (sizes_ok r.shingle_size r.base_dimension)
     where
-      go : (b a c d : Bool) → xs ≡ state_left (outcome_of v (cond b (cond a (cond c (cond false (cond (state_counts_ok (decode_state xs)) Answers.Done (Answers.Refused Why.Count)) (Answers.Refused Why.Length)) (Answers.Refused Why.Range)) (cond d (Answers.Refused Why.Length) (Answers.Refused Why.Range))) (Answers.Refused Why.Range))) xs s
+      go : (b a c d : Bool) → xs ≡ state_left (outcome_of v (cond b (cond a (cond c (cond false (cond (state_counts_ok (decode_state xs)) (Ok tt) (Err Why.Count)) (Err Why.Length)) (Err Why.Range)) (cond d (Err Why.Length) (Err Why.Range))) (Err Why.Range))) xs s
       go true true true d = refl
       go true true false d = refl
       go true false c true = refl
@@ -286,7 +284,7 @@ module _ (xs : List ℕ) (r : Reading) where
   unfolding reading_answer outcome_of verdict_left
   short_verdict v ys i = go (state_codes_ok xs) (eqb (length xs) state_length) (range_ok r.shingle_size r.base_dimension (decode_state xs).base_dimension) (sizes_ok r.shingle_size r.base_dimension)
     where
-      go : (b a c d : Bool) → ys ≡ verdict_left (outcome_of v (cond b (cond a (cond c (cond false (cond (state_counts_ok (decode_state xs)) Answers.Done (Answers.Refused Why.Count)) (Answers.Refused Why.Length)) (Answers.Refused Why.Range)) (cond d (Answers.Refused Why.Length) (Answers.Refused Why.Range))) (Answers.Refused Why.Range))) ys i
+      go : (b a c d : Bool) → ys ≡ verdict_left (outcome_of v (cond b (cond a (cond c (cond false (cond (state_counts_ok (decode_state xs)) (Ok tt) (Err Why.Count)) (Err Why.Length)) (Err Why.Range)) (cond d (Err Why.Length) (Err Why.Range))) (Err Why.Range))) ys i
       go true true true d = refl
       go true true false d = refl
       go true false c true = refl
@@ -324,9 +322,6 @@ module _ (r : Reading) (l : LastDescriptor) (v : Verdict) (index : ℤ) (point r
   abbrev fits : Bool
   fits = eqb (length verdict) verdict_length && leb r.base_dimension (length point)
 
-  pub most_is : (most : ℕ) (b : Bool) → most ≡ 16 → (leb r.shingle_size 64 && (leb r.base_dimension most && fits)) ≡ b → (leb r.shingle_size 64 && (leb r.base_dimension 16 && fits)) ≡ b
-  most_is most b e h = ap (λ (m : ℕ). leb r.shingle_size 64 && (leb r.base_dimension m && fits)) (sym e) ∙ h
-
   pub put_short : (leb r.shingle_size 64 && (leb r.base_dimension 16 && fits)) ≡ false → (n : ℕ) (a : Answer) → a ≡ reading_answer state r false → n ≡ answered a → Put r l v index point row n state verdict state verdict
   unfolding put_outcome
   put_short h n a e p =
@@ -358,7 +353,7 @@ module _ (r : Reading) (l : LastDescriptor) (v : Verdict) (index : ℤ) (point r
       unfolding put_outcome
       outcome_is = ap (outcome_of v) (p.0 ∙ ap (reading_answer state r) (sym tests.2))
 
-      pub put_done : a ≡ Answers.Done → (verdict' : List ℕ) (i : ℤ) → i ≡ index → verdict' ≡ written_of verdict_length verdict (told v i) → Put r l v index point row 0 state verdict state' verdict'
+      pub put_done : a ≡ Ok tt → (verdict' : List ℕ) (i : ℤ) → i ≡ index → verdict' ≡ written_of verdict_length verdict (told v i) → Put r l v index point row 0 state verdict state' verdict'
       unfolding put_over state_left verdict_left outcome_of
       put_done d verdict' i f q =
           let o = ap (outcome_of v) (sym d) ∙ outcome_is in
@@ -369,7 +364,7 @@ module _ (r : Reading) (l : LastDescriptor) (v : Verdict) (index : ℤ) (point r
             says = q ∙ whole verdict_length verdict (told v i) (both (eqb (length verdict) verdict_length) (leb r.base_dimension (length point)) tests.2).0 ∙ (λ k. verdict_left (o k) verdict (f k));
           }
 
-      pub put_refused : (why : Refusal) (n : ℕ) → a ≡ Answers.Refused why → n ≡ number why → Put r l v index point row n state verdict state' verdict
+      pub put_refused : (why : Refusal) (n : ℕ) → a ≡ Err why → n ≡ number why → Put r l v index point row n state verdict state' verdict
       unfolding put_over state_left verdict_left outcome_of
       put_refused why n d q =
           let o = ap (outcome_of v) (sym d) ∙ outcome_is in
@@ -377,5 +372,5 @@ module _ (r : Reading) (l : LastDescriptor) (v : Verdict) (index : ℤ) (point r
           record {
             answer = q ∙ ap outcome_number o;
             bytes = p.1 ∙ ap (λ (x : Answer). put_over x v state (after_rows (decode_state state) r l point row v)) e ∙ (λ k. state_left (o k) state (after_rows (decode_state state) r l point row v));
-            says = ap (λ (x : Outcome). verdict_left x verdict index) o;
+            says = ap (λ (x : Result Verdict Refusal). verdict_left x verdict index) o;
           }

@@ -1,14 +1,13 @@
 -- The bytes of a verdict, and those of the state after it.
-use Rattle.std.specs.Prelude.{ℕ, Bool, true, false, cond, List, ℤ}
+use Rattle.std.specs.Prelude.{ℕ, Bool, true, false, cond, List, ℤ, Result, Ok, Err}
 use Rattle.types.specs.Codes.{mode_code}
 use Rattle.predictorcorrector.specs.declared.PredictorCorrector.{PredictorCorrector}
 use Rattle.detection.specs.Const.{zero32}
 use Rattle.detection.specs.declared.Verdict.{Verdict}
 use Rattle.detection.specs.declared.Verdict.TheVariants.{Quiet, Corrected, Raised, Skipped}
-use Rattle.detection.specs.declared.Outcome.{Outcome}
-use Rattle.detection.specs.declared.Outcome.TheVariants.{Accepted, Refused}
 use Rattle.layout.specs.Chain.{encode_state_over}
 use Rattle.layout.specs.Readings.{verdict_bytes}
+use Rattle.types.specs.declared.Refusal.{Refusal}
 
 -- A verdict's bytes.
 unfoldable pub told : Verdict → ℤ → List ℕ
@@ -29,10 +28,10 @@ unfoldable pub stored : Verdict → List ℕ → PredictorCorrector → List ℕ
 stored v xs s = cond (changes_state v) (encode_state_over xs s) xs
 
 -- A refusal leaves every byte as it came.
-unfoldable pub state_left : Outcome → List ℕ → PredictorCorrector → List ℕ
-state_left (Accepted v) xs s = stored v xs s
-state_left (Refused why) xs s = xs
+unfoldable pub state_left : Result Verdict Refusal → List ℕ → PredictorCorrector → List ℕ
+state_left (Ok v) xs s = stored v xs s
+state_left (Err why) xs s = xs
 
-unfoldable pub verdict_left : Outcome → List ℕ → ℤ → List ℕ
-verdict_left (Accepted v) xs index = told v index
-verdict_left (Refused why) xs index = xs
+unfoldable pub verdict_left : Result Verdict Refusal → List ℕ → ℤ → List ℕ
+verdict_left (Ok v) xs index = told v index
+verdict_left (Err why) xs index = xs

@@ -1,7 +1,5 @@
 -- What this crate's private functions promise each other. A reader need not read it: no public contract mentions it.
-use Rattle.std.specs.Prelude.{ℕ, Bool, true, false, cond, List, Float}
-use Rattle.types.specs.declared.Answer.{Answer}
-use Rattle.types.specs.declared.Answer.TheVariants.{Done, Refused}
+use Rattle.std.specs.Prelude.{ℕ, Bool, true, false, cond, List, Float, Ok, Err}
 use Rattle.descriptor.specs.declared.Reading.{Reading}
 use Rattle.descriptor.specs.declared.LastDescriptor.{LastDescriptor}
 use Rattle.predictorcorrector.specs.State.{run_grown}
@@ -13,6 +11,7 @@ use Rattle.detection.specs.declared.Verdict.TheVariants.{Quiet, Corrected, Raise
 use Rattle.verdict_bytes.specs.Bytes.{stored}
 use Rattle.verdict_bytes.specs.declared.Change.{Change}
 use Rattle.verdict_bytes.specs.declared.Change.TheVariants.{Ends, Adjusts, Counts, Stays}
+use Rattle.types.specs.Refusals.{Answer}
 
 -- What a verdict does to the run and the lists.
 unfoldable pub change_of : Verdict → Change
@@ -28,5 +27,5 @@ rows_after s r l threshold point row grows =
 
 -- The bytes xs of a state that became s, by the answer.
 unfoldable pub put_over : Answer → Verdict → List ℕ → PredictorCorrector → List ℕ
-put_over Done v xs s = stored v xs s
-put_over (Refused why) v xs s = xs
+put_over (Ok _) v xs s = stored v xs s
+put_over (Err why) v xs s = xs

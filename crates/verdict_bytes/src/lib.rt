@@ -14,7 +14,7 @@ ghost use Rattle.verdict_bytes.specs.Steps as Steps;
 
 use descriptor::{LastDescriptor, Reading};
 use detection::Verdict;
-use types::Answer;
+use types::Refusal;
 
 // What a verdict does to the run and the lists: the run ends; it is adjusted; the newest rows are counted, by the threshold, and the run may grow; nothing.
 #[derive(Drop)]
@@ -25,6 +25,7 @@ enum Change {
     Stays,
 }
 
+#[tactic(auto, unfolding(crate::specs::Steps::change_of))]
 fn change_of(verdict: Verdict) -> Change
     ensures { result ≡ Steps.change_of verdict }
 {
@@ -49,7 +50,7 @@ fn put_told(out: &mut [u8], verdict: Verdict, relative_index: i32)
             layout::write_verdict(out, 0, 0, threshold, 0.0, relative_index)
         }
         Verdict::Corrected(threshold, mode) => {
-            layout::write_verdict(out, 1, mode.code(), threshold, 0.0, relative_index)
+            layout::write_verdict(out, 1, u8::from(mode), threshold, 0.0, relative_index)
         }
         Verdict::Raised(threshold, grade) => {
             layout::write_verdict(out, 2, 0, threshold, grade, relative_index)
@@ -67,11 +68,10 @@ fn put_rows(
     threshold: f32,
     point: &[f32],
     newest_expected: [f32; 16],
-) -> Answer
-    requires fact_1 { Counting r (length point.now) }
-    requires fact_2 { length newest_expected ≡ 16 }
-    ensures fact_1 { result ≡ reading_answer state.old r true }
-    ensures fact_2 { state.new ≡ stored_by (reading_answer state.old r true)
+) -> Result<(), Refusal>
+    requires { Counting r (length point.now) }
+    ensures answer { result ≡ reading_answer state.old r true }
+    ensures stored { state.new ≡ stored_by (reading_answer state.old r true)
         state.old (Steps.rows_after (decode_state state.old) r l threshold point.now newest_expected grows) }
 {
     let corrected = scoring::corrected_score(r, l);
@@ -100,11 +100,10 @@ fn put_state(
     verdict: Verdict,
     point: &[f32],
     newest_expected: [f32; 16],
-) -> Answer
-    requires fact_1 { Counting r (length point.now) }
-    requires fact_2 { length newest_expected ≡ 16 }
-    ensures fact_1 { result ≡ reading_answer state.old r true }
-    ensures fact_2 { state.new ≡ Steps.put_over (reading_answer state.old r true) verdict
+) -> Result<(), Refusal>
+    requires { Counting r (length point.now) }
+    ensures answer { result ≡ reading_answer state.old r true }
+    ensures stored { state.new ≡ Steps.put_over (reading_answer state.old r true) verdict
         state.old (after_rows (decode_state state.old) r l point.now newest_expected verdict) }
 {
     match change_of(verdict) {
@@ -117,13 +116,6 @@ fn put_state(
         }
         Change::Stays => layout::reading_answer(state, r, true),
     }
-}
-
-// The places of a row.
-fn places(row: [f32; 16]) -> usize
-    ensures { (result ≡ 16) × (length row ≡ 16) }
-{
-    16
 }
 
 // The verdict on a reading, put into the stored state and into the verdict's bytes. The answer is document 01's number of a reading that the state or the slices
@@ -140,19 +132,18 @@ pub fn put_verdict(
 ) -> u8
     ensures { Put.Put r l verdict relative_index point.now newest_expected result state.old out.old state.new out.new }
 {
-    let most = places(newest_expected);
     if (r.shingle_size <= 64)
-        & ((r.base_dimension <= most)
+        & ((r.base_dimension <= newest_expected.len())
             & ((out.len() == layout::VERDICT_LENGTH) & (r.base_dimension <= point.len())))
     {
         let answer = put_state(state, r, l, verdict, point, newest_expected);
         return match answer {
-            Answer::Done => {
+            Ok(()) => {
                 put_told(out, verdict, relative_index);
                 0
             }
-            Answer::Refused(why) => why.number(),
+            Err(why) => why.number(),
         };
     }
-    layout::reading_answer(state, r, false).number()
+    types::answered(layout::reading_answer(state, r, false))
 }

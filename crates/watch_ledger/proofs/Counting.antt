@@ -1,4 +1,5 @@
 -- A run's few scores never reach the limit of a count, so none is refused: the watch is the judge that counts every score. Assumes nothing.
+use Rattle.std.specs.Prelude.{Ok, Err}
 use mathlib.Core.Path.{◌≡◌, refl, ap, ◌∙◌}
 use mathlib.Core.Bool.{Bool, true, false, cond}
 use mathlib.Core.List.{List, [], ◌∷◌}
@@ -11,8 +12,6 @@ use borrow.Author.Tests.{le-leb}
 use Rattle.ieee.specs.F32.{◌>₃₂◌}
 use Rattle.deviation.specs.declared.Deviation.{Deviation}
 use Rattle.types.specs.declared.Refusal.TheVariants.{Count}
-use Rattle.types.specs.declared.Answer.TheVariants as Answers
-use Rattle.deviation.specs.declared.Updated.{Updated}
 use Rattle.deviation.specs.Statistics.{counted as one_counted, update, next, countable, one_more}
 use Rattle.deviation.specs.Const.{count_limit}
 use Rattle.basicthresholder.specs.Const.{zero32}
@@ -22,6 +21,7 @@ use Rattle.score_kinds.specs.Watching.{settings, kind_of, counted}
 use Rattle.score_rows.specs.Sheet.{Reading, kinds}
 use Rattle.ledger.specs.Statement.{Judge, Told, Shown, told, showed}
 use Rattle.watch_ledger.specs.Statement.{told_of, shown_at, shown_of}
+use Rattle.types.specs.declared.Updated.{Updated}
 
 -- A watch of scores as a judge: no reading is refused.
 abbrev pub watch : Judge
@@ -80,7 +80,7 @@ score_more : (k : ℕ) (d : Deviation) (x : Float) → AtMost k d.count → AtMo
 unfolding update next
 score_more k d x h = go (countable d.count)
   where
-    go : (t : Bool) → AtMost (suc k) (cond {A = Updated} t (record { answer = Answers.Done; deviation = next d x }) (record { answer = Answers.Refused Count; deviation = d })).deviation.count
+    go : (t : Bool) → AtMost (suc k) (cond {A = Updated Deviation} t (record { answer = Ok tt; state = next d x }) (record { answer = Err Count; state = d })).state.count
     go true = plus_one k d.count h
     go false = more k d.count h
 

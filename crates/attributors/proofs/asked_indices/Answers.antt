@@ -26,7 +26,3 @@ unfolding asked
 returns-then-row_fits c =
     let a = c.args in
     rw (sym c.row_fits.ensures ∙ c.if-row_fits.true) (c.nothing.ensures ∙ asked_none a.high.now a.low.now a.position a.base _ c.likely_missing_indices-found.ensures c.if-found-high.false)
-
-pub returns : goal.returns
-unfolding asked
-returns c = rw (sym c.row_fits.ensures ∙ c.if-row_fits.false) c.nothing-2.ensures

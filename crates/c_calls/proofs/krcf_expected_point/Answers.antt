@@ -4,4 +4,4 @@ use Rattle.c_calls.proofs.krcf_expected_point.Goals as goal
 
 pub returns : goal.returns
 unfolding expected_point
-returns c = passed_on _ _ _ _ _ _ c.expected_point.ensures.fact_1 c.number.ensures c.expected_point.ensures.fact_2
+returns c = passed_on _ _ _ _ _ _ c.expected_point.ensures.answer c.answered.ensures c.expected_point.ensures.buffer

@@ -4,8 +4,8 @@ use Rattle.basicthresholder.specs.Updates.{with_z_factor}
 use Rattle.c_chain.proofs.Steps.{chain_set_lem, chain_kept}
 use Rattle.c_chain.proofs.krcf_chain_set_z_factor.Goals as goal
 
-pub returns-in-Read : goal.returns-in-Read
-returns-in-Read c = chain_set_lem c.args.state.now _ (sym c.read_standing.ensures ∙ c.in-Read.is) (λ (t : BasicThresholder). with_z_factor t c.args.factor) _ _ c.set_z_factor.ensures c.write_kept.ensures
+pub returns-in-Ok : goal.returns-in-Ok
+returns-in-Ok c = chain_set_lem c.args.state.now _ (sym c.read_standing.ensures ∙ c.in-Ok.is) (λ (t : BasicThresholder). with_z_factor t c.args.factor) _ _ c.set_z_factor.ensures c.write_kept.ensures
 
-pub returns-in-Refused : goal.returns-in-Refused
-returns-in-Refused c = chain_kept c.args.state.now _ (sym c.read_standing.ensures ∙ c.in-Refused.is) _ c.number.ensures _
+pub returns-in-Err : goal.returns-in-Err
+returns-in-Err c = chain_kept c.args.state.now _ (sym c.read_standing.ensures ∙ c.in-Err.is) _ c.number.ensures _

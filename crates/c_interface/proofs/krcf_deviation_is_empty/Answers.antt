@@ -3,8 +3,8 @@ use Rattle.layout.specs.Numbers.{flag_bytes}
 use Rattle.c_interface.proofs.Steps.{deviation_read_lem, deviation_unread}
 use Rattle.c_interface.proofs.krcf_deviation_is_empty.Goals as goal
 
-pub returns-in-Read : goal.returns-in-Read
-returns-in-Read c = deviation_read_lem _ _ c.read_deviation.ensures c.args.out.now _ c.in-Read.is _ _ _ _ (ap flag_bytes c.is_empty.ensures) c.put_flag.ensures
+pub returns-in-Ok : goal.returns-in-Ok
+returns-in-Ok c = deviation_read_lem _ _ c.read_deviation.ensures c.args.out.now _ c.in-Ok.is _ _ _ _ (ap flag_bytes c.is_empty.ensures) c.put_flag.ensures
 
-pub returns-in-Refused : goal.returns-in-Refused
-returns-in-Refused c = deviation_unread _ _ c.read_deviation.ensures c.args.out.now _ c.in-Refused.is _ c.number.ensures _ _
+pub returns-in-Err : goal.returns-in-Err
+returns-in-Err c = deviation_unread _ _ c.read_deviation.ensures c.args.out.now _ c.in-Err.is _ c.number.ensures _ _

@@ -3,8 +3,8 @@ use Rattle.layout.specs.Numbers.{f32_bytes}
 use Rattle.c_interface.proofs.Steps.{thresholder_read_lem, thresholder_unread}
 use Rattle.c_interface.proofs.krcf_threshold.Goals as goal
 
-pub returns-in-Read : goal.returns-in-Read
-returns-in-Read c = thresholder_read_lem _ _ c.read_thresholder.ensures c.args.out.now _ c.in-Read.is _ _ _ _ (ap f32_bytes c.threshold.ensures) c.put_f32.ensures
+pub returns-in-Ok : goal.returns-in-Ok
+returns-in-Ok c = thresholder_read_lem _ _ c.read_thresholder.ensures c.args.out.now _ c.in-Ok.is _ _ _ _ (ap f32_bytes c.threshold.ensures) c.put_f32.ensures
 
-pub returns-in-Refused : goal.returns-in-Refused
-returns-in-Refused c = thresholder_unread _ _ c.read_thresholder.ensures c.args.out.now _ c.in-Refused.is _ c.number.ensures _ _
+pub returns-in-Err : goal.returns-in-Err
+returns-in-Err c = thresholder_unread _ _ c.read_thresholder.ensures c.args.out.now _ c.in-Err.is _ c.number.ensures _ _

@@ -1,6 +1,6 @@
-use Rattle.std.proofs.Common.{le-ltb, lt-ltb}
+use Rattle.std.proofs.Common.{le-ltb}
 use Rattle.corrector.specs.Corrector.{apply_basic_corrector}
-use Rattle.corrector.proofs.Laws.{zero_is, nonzero_is, or_true, copied, start_is}
+use Rattle.corrector.proofs.Laws.{zero_is, nonzero_is, start_is}
 use Rattle.corrector.proofs.correct.Goals as goal
 
 pub returns-then-relative_index-eq0 : goal.returns-then-relative_index-eq0
@@ -16,15 +16,3 @@ returns-then-gap-shingle_size c =
     let a = c.args in
     let p = c.requires in
     simp (le-ltb _ _ c.if-gap-shingle_size.true, c.if-has_anomaly.true, nonzero_is a.relative_index c.if-relative_index-eq0.false, start_is a.point.now a.expected.now a.gap a.shingle_size a.base_dimension (p.expected_long c.if-has_anomaly.true) p.sizes.long c.if-gap-shingle_size.true, c.shift_in.ensures)
-
-pub returns-then-has_anomaly : goal.returns-then-has_anomaly
-unfolding apply_basic_corrector
-returns-then-has_anomaly c =
-    let a = c.args in
-    simp (lt-ltb _ _ c.if-gap-shingle_size.false, c.copy_part.ensures, copied a.out.now a.point.now c.requires.out_long)
-
-pub returns : goal.returns
-unfolding apply_basic_corrector
-returns c =
-    let a = c.args in
-    simp (c.if-has_anomaly.false, or_true, c.copy_part-2.ensures, copied a.out.now a.point.now c.requires.out_long)

@@ -1,12 +1,8 @@
-use Rattle.std.proofs.Common.{length, sym, ◌∙◌, arith, rules}
-use Rattle.corrector.specs.Corrector.{expected_row}
+use Rattle.std.proofs.Common.{length, sym, ◌∙◌, arith}
 use Rattle.corrector.proofs.Laws.{expecting}
 use Rattle.corrector.proofs.Kept.{asked_in}
 use Rattle.corrector.proofs.Rows.{missed, row_expected, row_is_part}
 use Rattle.corrector.proofs.expected_row.Goals as goal
-
-pub copy_row-row-requires : goal.copy_row-row-requires
-copy_row-row-requires c = let f = expecting _ _ _ _ _ _ _ (sym c.expected_fits.ensures ∙ c.if-expected_fits.true) in search rules
 
 pub predict-requires : goal.predict-requires
 predict-requires c =
@@ -22,7 +18,3 @@ returns-then-expected_fits c =
     c.predict.ensures
     ∙ row_expected a.high.now a.low.now a.start a.base_dimension _ (c.asked_indices-missing.ensures ∙ asked_in a.high.now a.low.now a.start a.base_dimension _ _ _ f) a.point.now a.median.now _ f.inside c.copy_row-row.ensures
     ∙ sym (row_is_part a.high.now a.low.now a.start a.base_dimension a.point.now a.median.now f)
-
-pub returns : goal.returns
-unfolding expected_row
-returns c = rw (sym c.expected_fits.ensures ∙ c.if-expected_fits.false) c.no_row.ensures

@@ -1,9 +1,6 @@
-use Rattle.std.proofs.Common.{◌≡◌, ◌-◌, ◌≤◌, length, take}
+use Rattle.std.proofs.Common.{◌≡◌, take}
 use Rattle.corrector.specs.Steps.{predicted_row}
 use Rattle.corrector.proofs.predict.Given as goal
 
-abbrev pub invariant-loop-k : goal.invariant-loop-k
-invariant-loop-k l = (l.k ≤ l.missing.count) × (length l.out ≡ 16) × (l.out ≡ predicted_row l.start (take l.k l.indices) l.prediction l.initial.out)
-
-abbrev pub decreases-loop-k : goal.decreases-loop-k
-decreases-loop-k l = l.missing.count - l.k
+abbrev pub invariant-loop-at : goal.invariant-loop-at
+invariant-loop-at l = l.out ≡ predicted_row l.start (take l.at-index l.at-items) l.prediction l.initial.out

@@ -18,13 +18,13 @@ twofold : (n ten a field : ℕ) → 98 < field → Going n ten a field → a < t
 twofold n ten a field F g h = (omega (arith, g.0), doubled_by 1 n a field (omega arith) g.0 g.1, omega arith)
 
 pub overflow_sub-field : goal.overflow_sub-field
-overflow_sub-field c = omega (arith, above c.args.n c.args.ten c.loop-a.a c.loop-a.field c.requires.fact_1 c.requires.fact_4 c.loop-a.invariant (lower c.args.ten c.loop-a.a c.loop-a-test.true))
+overflow_sub-field c = omega (arith, above c.args.n c.args.ten c.loop-a.a c.loop-a.field c.requires.n_nonzero c.requires.ten_bound c.loop-a.invariant (lower c.args.ten c.loop-a.a c.loop-a-test.true))
 
 pub loop-a-preserved : goal.loop-a-preserved
-loop-a-preserved c = eightfold c.args.n c.args.ten c.loop-a.a c.loop-a.field (above c.args.n c.args.ten c.loop-a.a c.loop-a.field c.requires.fact_1 c.requires.fact_4 c.loop-a.invariant (lower c.args.ten c.loop-a.a c.loop-a-test.true)) c.loop-a.invariant c.loop-a-test.true
+loop-a-preserved c = eightfold c.args.n c.args.ten c.loop-a.a c.loop-a.field (above c.args.n c.args.ten c.loop-a.a c.loop-a.field c.requires.n_nonzero c.requires.ten_bound c.loop-a.invariant (lower c.args.ten c.loop-a.a c.loop-a-test.true)) c.loop-a.invariant c.loop-a-test.true
 
 pub loop-a-2-preserved : goal.loop-a-2-preserved
-loop-a-2-preserved c = twofold c.args.n c.args.ten c.loop-a-2.a c.loop-a-2.field (above c.args.n c.args.ten c.loop-a-2.a c.loop-a-2.field c.requires.fact_1 c.requires.fact_4 c.loop-a-2.invariant c.loop-a-2-test.true) c.loop-a-2.invariant c.loop-a-2-test.true
+loop-a-2-preserved c = twofold c.args.n c.args.ten c.loop-a-2.a c.loop-a-2.field (above c.args.n c.args.ten c.loop-a-2.a c.loop-a-2.field c.requires.n_nonzero c.requires.ten_bound c.loop-a-2.invariant c.loop-a-2-test.true) c.loop-a-2.invariant c.loop-a-2-test.true
 
-pub returns-clause-fact_2 : goal.returns-clause-fact_2
-returns-clause-fact_2 c = rw c.to_nearest.ensures (pattern_is c.args.n c.args.ten c.loop-a-2.a c.loop-a-2.field c.requires.fact_1 c.requires.fact_3 c.loop-a-2.invariant.0 c.loop-a-2.invariant.1 c.loop-a-2-test.false c.loop-a-2.invariant.2)
+pub returns-clause-value : goal.returns-clause-value
+returns-clause-value c = rw c.to_nearest.ensures (pattern_is c.args.n c.args.ten c.loop-a-2.a c.loop-a-2.field c.requires.n_nonzero c.requires.ten_nonzero c.loop-a-2.invariant.0 c.loop-a-2.invariant.1 c.loop-a-2-test.false c.loop-a-2.invariant.2)

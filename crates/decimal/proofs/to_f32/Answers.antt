@@ -14,4 +14,4 @@ returns-then-n-eq0 c =
     sym (ap (λ (n : ℕ). round binary32 false n (10 ^ min k 6)) c.if-n-eq0.true ∙ zero_rounded (10 ^ min k 6) (ten_pos (min k 6)))
 
 pub float_from_bits-result : goal.float_from_bits-result
-float_from_bits-result c = small_no_nan binary32 c.pattern.result (omega (arith, c.pattern.ensures.fact_1))
+float_from_bits-result c = small_no_nan binary32 c.pattern.result (omega (arith, c.pattern.ensures.bound))

@@ -15,6 +15,6 @@ returns c =
     let long : length c.construct_uncertainty_box.new.out ≡ a.r.base_dimension = c.construct_uncertainty_box.auto.out ∙ length-take-le a.r.base_dimension c.sixteen-out.result (omega (arith, c.requires)) in
     front_is c.sixteen-out.result c.construct_uncertainty_box.new.out _ a.r.base_dimension long
     (c.construct_uncertainty_box.ensures
-    ∙ ap₂ (uncertainty_box a.point.now a.start a.scale.now a.shift.now a.difference_deviations.now)
+    ∙ ap₂ (uncertainty_box a.b.point.now a.start a.b.scale.now a.b.shift.now a.b.difference_deviations.now)
     c.is_differenced.ensures
     (ap (take a.r.base_dimension) c.sixteen-out.ensures ∙ take_replicate a.r.base_dimension 16 zero32 c.requires))

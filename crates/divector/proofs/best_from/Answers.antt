@@ -1,12 +1,7 @@
-use Rattle.std.proofs.Common.{true, false, sym, refl, ◌∙◌, rules}
-use Rattle.divector.specs.DiVector.{winner}
+use Rattle.std.proofs.Common.{true, false, sym, ◌∙◌}
 use Rattle.divector.proofs.Blocks.{turn, best_end}
 use Rattle.divector.proofs.best_from.Goals as goal
 use Rattle.divector.proofs.best_from.Goals.{then-sum-val, else-sum-val}
-
-pub loop-j-init : goal.loop-j-init
-unfolding winner
-loop-j-init c = record { from = search rules; upto = search rules; alike = search rules; wide = search rules; own = c.block_sum-val.ensures; left = refl }
 
 pub loop-j-preserved : goal.loop-j-preserved
 loop-j-preserved c =

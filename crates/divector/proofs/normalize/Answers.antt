@@ -1,11 +1,7 @@
-use Rattle.std.proofs.Common.{sym, refl, eq-eqb, ne_eqb}
+use Rattle.std.proofs.Common.{sym, refl, eq-eqb}
 use Rattle.divector.proofs.Laws.{done, shared, rescaled}
 use Rattle.divector.specs.DiVector.{normalize}
 use Rattle.divector.proofs.normalize.Goals as goal
-
-pub returns-then-high-low : goal.returns-then-high-low
-unfolding normalize
-returns-then-high-low c = simp (ne_eqb _ _ c.if-high-low.true)
 
 pub returns-then-current : goal.returns-then-current
 unfolding normalize
@@ -13,7 +9,7 @@ returns-then-current c =
     let same = c.if-high-low.false in
     let total = c.total_of-current.ensures in
     let low = c.if-current.true in
-    simp (eq-eqb _ _ same) (done (shared _ _ _ _ total low refl c.share-v.ensures c.fill_one.ensures) (shared _ _ _ _ total low (sym same) c.share-v.ensures c.fill_one-then-current.ensures))
+    simp (eq-eqb _ _ same) (done (shared _ _ _ _ total low refl c.share-v.ensures (c.fill.ensures.after (λ y e. e))) (shared _ _ _ _ total low (sym same) c.share-v.ensures (c.fill-then-current.ensures.after (λ y e. e))))
 
 pub returns : goal.returns
 unfolding normalize

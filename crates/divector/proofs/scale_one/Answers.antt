@@ -1,13 +1,9 @@
-use Rattle.std.proofs.Common.{rules}
-use lib.Ieee.{nan}
+use Rattle.std.proofs.Common.{arith}
+use Rattle.std.proofs.lemmas.List.{get_or_default}
+use Rattle.std.proofs.lemmas.List.Edits.{map_over_more}
 use Rattle.divector.specs.DiVector.{scaled}
-use Rattle.divector.proofs.Laws.{scaled_length}
-use Rattle.divector.proofs.Loops.{begin, map_next}
 use Rattle.divector.proofs.scale_one.Goals as goal
 
-pub loop-i-init : goal.loop-i-init
-loop-i-init c = begin _ _ (scaled_length _ _)
-
-pub loop-i-preserved : goal.loop-i-preserved
+pub loop-x-preserved : goal.loop-x-preserved
 unfolding scaled
-loop-i-preserved c = map_next _ c.loop-i.invariant nan (search rules)
+loop-x-preserved c = map_over_more _ _ _ _ _ (omega arith) c.loop-x.invariant (get_or_default c.loop-x.xs _ _ _ (omega arith))

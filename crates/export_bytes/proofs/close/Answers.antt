@@ -9,12 +9,12 @@ use Rattle.export_bytes.proofs.close.Goals as goal
 pub total-written-requires : goal.total-written-requires
 total-written-requires c = omega (arith, text_length c.args.run.course.row c.take-taken.result.line, c.write_line-end.ensures.place, c.write_line-end.auto.out, c.requires)
 
-pub returns-clause-fact_1 : goal.returns-clause-fact_1
+pub returns-clause-run : goal.returns-clause-run
 unfolding closed
-returns-clause-fact_1 c = rw (sym c.finish-last.ensures, sym c.take-taken.ensures) (ap (λ (k : Course). run_of c.finish-last.result.scan k) c.total.ensures)
+returns-clause-run c = rw (sym c.finish-last.ensures, sym c.take-taken.ensures) (ap (λ (k : Course). run_of c.finish-last.result.scan k) c.total.ensures)
 
-pub returns-clause-fact_2 : goal.returns-clause-fact_2
+pub returns-clause-printed : goal.returns-clause-printed
 unfolding closing
-returns-clause-fact_2 c =
+returns-clause-printed c =
     rw (sym c.finish-last.ensures, sym c.take-taken.ensures)
     (put_then c.write_line-end.ensures c.total-written.ensures (omega (arith, text_length c.args.run.course.row c.take-taken.result.line, total_length c.take-taken.result.course, c.requires)))

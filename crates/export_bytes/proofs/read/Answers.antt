@@ -43,18 +43,18 @@ loop-i-preserved c =
     let w = turn run c.args.input.now c.loop-i.i c.loop-i.scan c.loop-i.course c.loop-i.invariant.1 going _ _ _ _ _ c.loop-i-test.true c.loop-i.invariant.2 (omega (arith, c.requires)) c.loop-i.invariant.3 c.read-reached.result c.read-reached.ensures c.take-taken.result c.take-taken.ensures c.write_line-to.ensures in
     (c.write_line-to.auto.out ∙ c.loop-i.invariant.0, w.0, w.1, w.2)
 
-pub returns-clause-fact_2 : goal.returns-clause-fact_2
-returns-clause-fact_2 c = let all = take_all c.loop-i.i c.args.input.now c.loop-i-test.false in
+pub returns-clause-printed : goal.returns-clause-printed
+returns-clause-printed c = let all = take_all c.loop-i.i c.args.input.now c.loop-i-test.false in
     rw all at c.loop-i.invariant.3
 
-pub returns-then-not-is_open-clause-fact_1 : goal.returns-then-not-is_open-clause-fact_1
-returns-then-not-is_open-clause-fact_1 c =
+pub returns-then-not-is_open-clause-run : goal.returns-then-not-is_open-clause-run
+returns-then-not-is_open-clause-run c =
     let run = run_of c.args.run.scan c.args.run.course in
     let o = sym c.is_open.ensures ∙ c.if-not-is_open.true in
     rw (still_run step run c.args.input.now c.loop-i.i c.loop-i.invariant.1 (over_step (run_of c.loop-i.scan c.loop-i.course) o))
 
-pub returns-then-not-is_open-clause-fact_2 : goal.returns-then-not-is_open-clause-fact_2
-returns-then-not-is_open-clause-fact_2 c =
+pub returns-then-not-is_open-clause-printed : goal.returns-then-not-is_open-clause-printed
+returns-then-not-is_open-clause-printed c =
     let run = run_of c.args.run.scan c.args.run.course in
     let s = run_of c.loop-i.scan c.loop-i.course in
     let o = sym c.is_open.ensures ∙ c.if-not-is_open.true in

@@ -21,8 +21,8 @@ returns-then-twice-lt2413821952 c =
     let b = c.args.b in
     code_signed b c.half_even.result c.ranges.b.fits (code_normal (bit_and b (2 ^ 63 - 1)) c.half_even.result c.half_even.ensures (twice_ge b c.if-twice-ge1881145344.true) (twice_lt b c.if-twice-lt2413821952.true) (mask_is b c.requires))
 
-pub narrow_magnitude-requires-clause-fact_1 : goal.narrow_magnitude-requires-clause-fact_1
-narrow_magnitude-requires-clause-fact_1 c = mask_is c.args.b c.requires
+pub narrow_magnitude-requires-clause-a_bound : goal.narrow_magnitude-requires-clause-a_bound
+narrow_magnitude-requires-clause-a_bound c = mask_is c.args.b c.requires
 
 pub returns : goal.returns
-returns c = code_signed c.args.b c.narrow_magnitude.result c.ranges.b.fits c.narrow_magnitude.ensures.fact_2
+returns c = code_signed c.args.b c.narrow_magnitude.result c.ranges.b.fits c.narrow_magnitude.ensures.narrowed

@@ -5,4 +5,4 @@ use Rattle.ieee.proofs.root.Goals as goal
 
 pub returns-then-square-v : goal.returns-then-square-v
 returns-then-square-v c =
-    plain c.args.w c.args.c c.requires.fact_2 c.requires.fact_3 c.requires.fact_4 c.if-v-square.true c.if-square-v.true
+    plain c.args.w c.args.c c.requires.w_bound c.requires.c_least c.requires.c_bound c.if-v-square.true c.if-square-v.true

@@ -15,7 +15,7 @@ pub float_to_bits-b : goal.float_to_bits-b
 float_to_bits-b c = equals_itself c.args.x c.if-x.false
 
 pub float_from_bits-result : goal.float_from_bits-result
-float_from_bits-result c = small_no_nan binary64 c.sqrt_pattern.result c.sqrt_pattern.ensures.fact_1
+float_from_bits-result c = small_no_nan binary64 c.sqrt_pattern.result c.sqrt_pattern.ensures.bound
 
 pub returns-then-x : goal.returns-then-x
 returns-then-x c = quotient binary64 ∙ sym (sqrt_nan c.args.x (is_nan_lem c.args.x c.if-x.true))
@@ -24,7 +24,7 @@ pub returns-then-b-eq0 : goal.returns-then-b-eq0
 returns-then-b-eq0 c = fixed c.args.x (search rules) 0 c.if-b-eq0.true sqrt_zero
 
 pub returns-then-b-lt9218868437227405312 : goal.returns-then-b-lt9218868437227405312
-returns-then-b-lt9218868437227405312 c = c.sqrt_pattern.ensures.fact_2 ∙ ap Round.sqrt (of_bits-to_bits binary64 c.args.x (search rules))
+returns-then-b-lt9218868437227405312 c = c.sqrt_pattern.ensures.root ∙ ap Round.sqrt (of_bits-to_bits binary64 c.args.x (search rules))
 
 pub returns-then-b-eq9218868437227405312 : goal.returns-then-b-eq9218868437227405312
 returns-then-b-eq9218868437227405312 c = fixed c.args.x (search rules) 0x7ff0_0000_0000_0000 c.if-b-eq9218868437227405312.true sqrt_inf

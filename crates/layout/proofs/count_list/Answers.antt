@@ -1,14 +1,17 @@
-use Rattle.std.proofs.Common.{refl, arith, rules}
+use Rattle.std.proofs.Common.{◌≡◌, ◌+◌, ◌*◌, get_or, sym, ◌∙◌, rules}
 use lib.Ieee.{nan}
 use Rattle.deviation.specs.Statistics.{counted}
-use Rattle.layout.specs.Chain.{list_over}
-use Rattle.layout.proofs.InPlace.{counted_turn}
+use Rattle.predictorcorrector.specs.Lists.{stepped}
+use Rattle.layout.specs.Places.{deviation_length}
+use Rattle.layout.specs.States.{deviation_at}
+use Rattle.layout.specs.Chain.{list_at}
+use Rattle.layout.proofs.InPlace.{stepped_entry}
 use Rattle.layout.proofs.count_list.Goals as goal
 
-pub loop-i-init : goal.loop-i-init
-unfolding list_over
-loop-i-init c = (search rules, c.requires.fact_1, c.requires.fact_2, c.requires.fact_3, refl, refl, c.requires.fact_4)
-
-pub loop-i-preserved : goal.loop-i-preserved
-loop-i-preserved c =
-    (omega arith, c.loop-i.invariant.1, c.loop-i.invariant.2, c.loop-i.invariant.3, search rules, counted_turn c.args.out.now c.args.at c.args.n c.loop-i.invariant.1 c.loop-i.i (omega arith) c.loop-i.invariant.3 counted c.args.row.now nan c.loop-i.out _ c.deviation_at-d.result c.counted.result c.f32_to_f64_with_nan.result c.loop-i.invariant.6 c.loop-i.invariant.5 c.deviation_at-d.ensures c.f32_to_f64_with_nan.ensures c.counted.ensures c.put_deviation.ensures, c.loop-i.invariant.6)
+pub returns : goal.returns
+returns c =
+    let xs = c.args.out.now in
+    let at = c.args.at in
+    let n = c.args.n in
+    c.change_list.ensures (stepped counted n (list_at xs at n) c.args.row.now)
+    (λ i d h p. let e : d ≡ counted (deviation_at xs (at + deviation_length * i)) (get_or c.args.row.now i nan) = search rules in e ∙ sym (stepped_entry xs at n c.requires.few i h counted c.args.row.now nan c.requires.wide))

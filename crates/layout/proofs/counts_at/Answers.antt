@@ -1,17 +1,16 @@
-use Rattle.std.proofs.Common.{◌+◌, ◌-◌, Bool, ◌&&◌, drop, sym, ap, ◌∙◌, arith, w32}
-use mir.ValLaws.{to_z-of_z}
+use Rattle.std.proofs.Common.{ℕ, ◌+◌, ◌*◌, refl, ◌∙◌, arith, rules}
+use Rattle.std.proofs.lemmas.Iterator.{YieldsList-from_range}
+use Rattle.std.proofs.lemmas.Iterator.Search.{all_from_yields_List}
+use borrow.Author.Tests.{tests}
 use Rattle.deviation.specs.Statistics.{countable}
-use Rattle.predictorcorrector.specs.Lists.{first_countable}
-use Rattle.predictorcorrector.proofs.Rows.{countable_end}
-use Rattle.layout.specs.Chain.{list_at}
-use Rattle.layout.proofs.InPlace.{counts_next}
+use Rattle.layout.specs.Places.{deviation_length}
+use Rattle.layout.specs.Numbers.{i32_at}
+use Rattle.layout.proofs.InPlace.{counts_all}
 use Rattle.layout.proofs.counts_at.Goals as goal
 
-pub loop-i-preserved : goal.loop-i-preserved
-loop-i-preserved c = (c.loop-i.invariant.0, c.loop-i.invariant.1, c.loop-i.invariant.2, c.loop-i.invariant.3 ∙ counts_next c.args.bytes.now c.args.at c.args.n c.requires.fact_1 c.requires.fact_3 c.loop-i.i (omega arith) ∙ ap (λ (t : Bool). t && first_countable (c.args.n - (c.loop-i.i + 1)) (drop (c.loop-i.i + 1) (list_at c.args.bytes.now c.args.at c.args.n))) (sym (c.countable.ensures ∙ ap countable (to_z-of_z w32 c.i32_at.result (record { sfits = c.i32_at.type_inv }) ∙ c.i32_at.ensures)) ∙ c.if-countable.true))
-
-pub returns-else-countable : goal.returns-else-countable
-returns-else-countable c = sym (c.loop-i.invariant.3 ∙ counts_next c.args.bytes.now c.args.at c.args.n c.requires.fact_1 c.requires.fact_3 c.loop-i.i (omega arith) ∙ ap (λ (t : Bool). t && first_countable (c.args.n - (c.loop-i.i + 1)) (drop (c.loop-i.i + 1) (list_at c.args.bytes.now c.args.at c.args.n))) (sym (c.countable.ensures ∙ ap countable (to_z-of_z w32 c.i32_at.result (record { sfits = c.i32_at.type_inv }) ∙ c.i32_at.ensures)) ∙ c.if-countable.false))
-
 pub returns : goal.returns
-returns c = sym (c.loop-i.invariant.3 ∙ countable_end c.args.n c.loop-i.i (list_at c.args.bytes.now c.args.at c.args.n) c.loop-i-test.false)
+returns c =
+    let a = c.args in
+    all_from_yields_List (λ (k : ℕ). countable (i32_at a.bytes.now (a.at + deviation_length * k + 32))) _ _ c.all.result c.all.ensures.ran
+    (YieldsList-from_range 0 a.n a.n refl (omega arith)) (λ x b q k. search (rules, tests))
+    ∙ counts_all a.bytes.now a.at a.n c.requires.few c.requires.long

@@ -5,9 +5,9 @@ use Rattle.layout.proofs.put_list.Goals as goal
 
 pub loop-i-init : goal.loop-i-init
 unfolding list_over
-loop-i-init c = (search rules, c.requires.fact_1, c.requires.fact_2, c.requires.fact_3, refl, refl)
+loop-i-init c = refl
 
 pub loop-i-preserved : goal.loop-i-preserved
 loop-i-preserved c =
     let long : length c.args.list ≡ 16 = search rules in
-    (omega arith, c.loop-i.invariant.1, c.loop-i.invariant.2, c.loop-i.invariant.3, search rules, over_next _ _ c.args.list c.loop-i.i c.loop-i.out _ _ c.loop-i.invariant.5 c.put_deviation.ensures (omega arith))
+    over_next _ _ c.args.list c.loop-i.i c.loop-i.out _ _ c.loop-i.invariant c.put_deviation.ensures (omega arith)

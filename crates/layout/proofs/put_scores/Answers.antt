@@ -1,6 +1,6 @@
-use Rattle.std.proofs.Common.{ap, ◌∙◌, ap₂}
+use Rattle.std.proofs.Common.{ap, ◌∙◌, ap₂, subst, T}
 use denote.Floats.{passes}
-use lib.Ieee.{binary32}
+use lib.Ieee.{Float, binary32}
 use lib.Ieee as Ieee
 use Rattle.basicthresholder.specs.declared.BasicThresholder.{BasicThresholder}
 use Rattle.layout.specs.Numbers.{pasted}
@@ -18,7 +18,7 @@ returns c =
     let p = c.primary_score-primary.ensures in
     let w = c.f32_to_f64_with_nan.ensures ∙ p in
     let g = ap (Ieee.sub binary32 a.corrected) c.height_score.ensures in
-    let s = c.second_after-secondary.ensures ∙ ap₂ (second_after a.strategy) c.deviation_at.ensures g in
+    let s = c.second_after-secondary.ensures ∙ ap₂ (second_after a.r.now.scoring_strategy) c.deviation_at.ensures g in
     c.put_scored.ensures
     ∙ ap (λ (t : BasicThresholder). pasted xs 0 (encode_thresholder t))
-    ((λ i. scored (decode_thresholder xs) (w i) (p i) (s i)) ∙ by_parts (decode_thresholder xs) c.requires.fact_2 a.strategy a.score a.corrected a.last_strategy a.last (passes _ c.well_formed.1.1.0.1))
+    ((λ i. scored (decode_thresholder xs) (w i) (p i) (s i)) ∙ by_parts (decode_thresholder xs) c.requires.counts a.r.now.scoring_strategy a.r.now.score a.corrected a.l.now.scoring_strategy a.l.now.score (subst (λ (x : Float). T (Ieee.fits binary32 x)) p (passes _ c.primary_score-primary.type_inv)))

@@ -1,13 +1,16 @@
-use Rattle.std.proofs.Common.{refl, arith, rules}
+use Rattle.std.proofs.Common.{◌≡◌, ◌+◌, ◌*◌, sym, ◌∙◌, rules}
 use Rattle.deviation.specs.Statistics.{reset}
-use Rattle.layout.specs.Chain.{list_over}
-use Rattle.layout.proofs.InPlace.{changed_turn}
+use Rattle.predictorcorrector.specs.Lists.{changed}
+use Rattle.layout.specs.Places.{deviation_length}
+use Rattle.layout.specs.States.{deviation_at}
+use Rattle.layout.specs.Chain.{list_at}
+use Rattle.layout.proofs.InPlace.{changed_entry}
 use Rattle.layout.proofs.reset_list.Goals as goal
 
-pub loop-i-init : goal.loop-i-init
-unfolding list_over
-loop-i-init c = (search rules, c.requires.fact_1, c.requires.fact_2, c.requires.fact_3, refl, refl)
-
-pub loop-i-preserved : goal.loop-i-preserved
-loop-i-preserved c =
-    (omega arith, c.loop-i.invariant.1, c.loop-i.invariant.2, c.loop-i.invariant.3, search rules, changed_turn c.args.out.now c.args.at c.args.n c.loop-i.invariant.1 c.loop-i.i (omega arith) c.loop-i.invariant.3 reset c.loop-i.out _ c.deviation_at-d.result c.reset.result c.loop-i.invariant.5 c.deviation_at-d.ensures c.reset.ensures c.put_deviation.ensures)
+pub returns : goal.returns
+returns c =
+    let xs = c.args.out.now in
+    let at = c.args.at in
+    let n = c.args.n in
+    c.change_list.ensures (changed reset n (list_at xs at n))
+    (λ i d h p. let e : d ≡ reset (deviation_at xs (at + deviation_length * i)) = search rules in e ∙ sym (changed_entry xs at n c.requires.few i h reset))

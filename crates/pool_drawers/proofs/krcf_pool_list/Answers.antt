@@ -1,11 +1,12 @@
+use mathlib.Core.Path.{sym, ◌∙◌}
 use Rattle.pool_drawers.proofs.Calls.{list_done, list_broken, list_short}
 use Rattle.pool_drawers.proofs.krcf_pool_list.Goals as goal
 
-pub returns-then-listed : goal.returns-then-listed
-returns-then-listed c = list_done _ c.args.numbers.now _ _ c.if-numbers-eq30.true c.listing-listed.ensures c.if-listed.true c.put_numbers.ensures
+pub returns-in-Some : goal.returns-in-Some
+returns-in-Some c = list_done _ c.args.numbers.now _ _ c.if-numbers-eq30.true (sym c.in-Some.is ∙ c.listing.ensures) c.copy_from_slice.ensures.after
 
-pub returns-else-listed : goal.returns-else-listed
-returns-else-listed c = list_broken _ c.args.numbers.now _ c.listing-listed.ensures c.if-listed.false
+pub returns-in-None : goal.returns-in-None
+returns-in-None c = list_broken _ c.args.numbers.now (sym c.in-None.is ∙ c.listing.ensures)
 
-pub returns-else-numbers-eq30 : goal.returns-else-numbers-eq30
-returns-else-numbers-eq30 c = list_short _ c.args.numbers.now c.if-numbers-eq30.false
+pub returns : goal.returns
+returns c = list_short _ c.args.numbers.now c.if-numbers-eq30.false

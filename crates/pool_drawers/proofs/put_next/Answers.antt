@@ -4,4 +4,4 @@ use Rattle.pool_drawers.proofs.put_next.Goals as goal
 
 pub returns : goal.returns
 unfolding with_next
-returns c = c.put4.ensures ∙ simp c.place.ensures.0
+returns c = c.put_u32.ensures ∙ simp c.place.ensures.0

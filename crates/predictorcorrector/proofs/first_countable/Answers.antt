@@ -1,23 +1,14 @@
-use Rattle.std.proofs.Common.{◌≡◌, ◌+◌, ◌-◌, Bool, ◌&&◌, length, drop, sym, ap, ◌∙◌, arith, rules}
-use Rattle.predictorcorrector.specs.Lists.{first_countable}
-use Rattle.predictorcorrector.proofs.Rows.{countable_next, countable_end}
+use Rattle.std.proofs.Common.{take, ◌∙◌, rules}
+use Rattle.std.proofs.lemmas.Iterator.{YieldsList-from_slice}
+use Rattle.std.proofs.lemmas.Iterator.Search.{all_from_yields_List}
+use borrow.Author.Tests.{tests}
+use Rattle.deviation.specs.Statistics.{countable}
+use Rattle.deviation.specs.declared.Deviation.{Deviation}
+use Rattle.predictorcorrector.proofs.Rows.{first_all}
 use Rattle.predictorcorrector.proofs.first_countable.Goals as goal
 
-pub loop-i-preserved : goal.loop-i-preserved
-loop-i-preserved c =
-    let long : length c.args.list ≡ 16 = search rules in (
-      c.loop-i.invariant.0,
-      c.loop-i.invariant.1
-          ∙ countable_next c.args.n c.loop-i.i c.args.list _ (omega arith) (omega arith)
-          ∙ ap (λ (t : Bool). t && first_countable (c.args.n - (c.loop-i.i + 1)) (drop (c.loop-i.i + 1) c.args.list)) (sym c.takes_update.ensures ∙ c.if-takes_update.true),
-    )
-
-pub returns-else-takes_update : goal.returns-else-takes_update
-returns-else-takes_update c =
-    let long : length c.args.list ≡ 16 = search rules in
-    sym (c.loop-i.invariant.1
-    ∙ countable_next c.args.n c.loop-i.i c.args.list _ (omega arith) (omega arith)
-    ∙ ap (λ (t : Bool). t && first_countable (c.args.n - (c.loop-i.i + 1)) (drop (c.loop-i.i + 1) c.args.list)) (sym c.takes_update.ensures ∙ c.if-takes_update.false))
-
 pub returns : goal.returns
-returns c = sym (c.loop-i.invariant.1 ∙ countable_end c.args.n c.loop-i.i c.args.list c.loop-i-test.false)
+returns c =
+    all_from_yields_List (λ (d : Deviation). countable d.count) _ _ _ c.all.ensures.ran
+    (YieldsList-from_slice (take c.args.n c.args.list) cc) (λ x b q k. search (rules, tests))
+    ∙ first_all c.args.n c.args.list

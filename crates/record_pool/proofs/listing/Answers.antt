@@ -11,4 +11,4 @@ pub returns-then-rules_ok : goal.returns-then-rules_ok
 returns-then-rules_ok c = listing_sound _ _ c.rules_ok.ensures _ _ _ _ c.if-rules_ok.true (search rules) c.walks-found.ensures
 
 pub returns : goal.returns
-returns c = listing_broken _ _ c.rules_ok.ensures _ c.if-rules_ok.false c.no_numbers.ensures
+returns c = listing_broken _ _ c.rules_ok.ensures c.if-rules_ok.false

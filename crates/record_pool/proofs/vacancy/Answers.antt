@@ -4,8 +4,8 @@ use Rattle.record_pool.proofs.Locating.{vacancy_broken, vacancy_unnumbered, vaca
 use borrow.Author.Rules.{rules}
 use Rattle.record_pool.proofs.vacancy.Goals as goal
 
-pub find-position-requires-clause-fact_2 : goal.find-position-requires-clause-fact_2
-find-position-requires-clause-fact_2 c = passes_size _ (sym c.rules_ok.ensures ∙ c.if-rules_ok.true)
+pub find-position-requires-clause-long : goal.find-position-requires-clause-long
+find-position-requires-clause-long c = passes_size _ (sym c.rules_ok.ensures ∙ c.if-rules_ok.true)
 
 pub index_at-index-requires : goal.index_at-index-requires
 index_at-index-requires c = let s = passes_size _ (sym c.rules_ok.ensures ∙ c.if-rules_ok.true) in search rules
@@ -25,8 +25,8 @@ returns-else-is_number c = vacancy_unnumbered _ _ _ c.rules_ok.ensures _ c.if-ru
 pub returns : goal.returns
 returns c = vacancy_broken _ _ _ c.rules_ok.ensures c.if-rules_ok.false
 
-pub slot_of-requires-clause-fact_1 : goal.slot_of-requires-clause-fact_1
-slot_of-requires-clause-fact_1 c = (slot_spare _ _ _ c.rules_ok.ensures c.if-rules_ok.true c.index_at-index.ensures c.if-index-eq0.false).0
+pub slot_of-requires-clause-long : goal.slot_of-requires-clause-long
+slot_of-requires-clause-long c = (slot_spare _ _ _ c.rules_ok.ensures c.if-rules_ok.true c.index_at-index.ensures c.if-index-eq0.false).0
 
-pub slot_of-requires-clause-fact_3 : goal.slot_of-requires-clause-fact_3
-slot_of-requires-clause-fact_3 c = (slot_spare _ _ _ c.rules_ok.ensures c.if-rules_ok.true c.index_at-index.ensures c.if-index-eq0.false).1.1
+pub slot_of-requires-clause-most : goal.slot_of-requires-clause-most
+slot_of-requires-clause-most c = (slot_spare _ _ _ c.rules_ok.ensures c.if-rules_ok.true c.index_at-index.ensures c.if-index-eq0.false).1.1

@@ -37,14 +37,14 @@ loop-at-2-smaller c = let b = fresh_bounds _ _ _ _ (fresh_is c.loop-at-2.seen c.
 pub loop-at-2-preserved : goal.loop-at-2-preserved
 loop-at-2-preserved c = let b = fresh_bounds _ _ _ _ (fresh_is c.loop-at-2.seen c.loop-at-2.at c.loop-at-2.free _ _ c.mark_place-in-loop-at-2.ensures.0 c.is_unmarked-in-loop-at-2.ensures) c.if-not-is_unmarked-2.false in (search rules, omega arith, free_again _ _ _ _ _ _ _ _ _ c.loop-at-2.invariant.0 (omega arith) (fresh_is c.loop-at-2.seen c.loop-at-2.at c.loop-at-2.free _ _ c.mark_place-in-loop-at-2.ensures.0 c.is_unmarked-in-loop-at-2.ensures) c.if-not-is_unmarked-2.false c.next_at-at-in-loop-at-2.ensures c.loop-at-2.invariant.2)
 
-pub is_sound-requires-clause-fact_3 : goal.is_sound-requires-clause-fact_3
-is_sound-requires-clause-fact_3 c = let b = fresh_bounds _ _ _ _ (fresh_is c.loop-at.seen c.loop-at.at c.loop-at.used _ _ c.mark_place.ensures.0 c.is_unmarked.ensures) c.if-not-is_unmarked.false in search rules
+pub is_sound-requires-clause-most : goal.is_sound-requires-clause-most
+is_sound-requires-clause-most c = let b = fresh_bounds _ _ _ _ (fresh_is c.loop-at.seen c.loop-at.at c.loop-at.used _ _ c.mark_place.ensures.0 c.is_unmarked.ensures) c.if-not-is_unmarked.false in search rules
 
-pub number_at-requires-clause-fact_3 : goal.number_at-requires-clause-fact_3
-number_at-requires-clause-fact_3 c = let b = fresh_bounds _ _ _ _ (fresh_is c.loop-at.seen c.loop-at.at c.loop-at.used _ _ c.mark_place.ensures.0 c.is_unmarked.ensures) c.if-not-is_unmarked.false in search rules
+pub number_at-requires-clause-most : goal.number_at-requires-clause-most
+number_at-requires-clause-most c = let b = fresh_bounds _ _ _ _ (fresh_is c.loop-at.seen c.loop-at.at c.loop-at.used _ _ c.mark_place.ensures.0 c.is_unmarked.ensures) c.if-not-is_unmarked.false in search rules
 
-pub next_at-at-requires-clause-fact_3 : goal.next_at-at-requires-clause-fact_3
-next_at-at-requires-clause-fact_3 c = let b = fresh_bounds _ _ _ _ (fresh_is c.loop-at.seen c.loop-at.at c.loop-at.used _ _ c.mark_place.ensures.0 c.is_unmarked.ensures) c.if-not-is_unmarked.false in search rules
+pub next_at-at-requires-clause-most : goal.next_at-at-requires-clause-most
+next_at-at-requires-clause-most c = let b = fresh_bounds _ _ _ _ (fresh_is c.loop-at.seen c.loop-at.at c.loop-at.used _ _ c.mark_place.ensures.0 c.is_unmarked.ensures) c.if-not-is_unmarked.false in search rules
 
-pub next_at-at-requires-in-loop-at-2-clause-fact_3 : goal.next_at-at-requires-in-loop-at-2-clause-fact_3
-next_at-at-requires-in-loop-at-2-clause-fact_3 c = let b = fresh_bounds _ _ _ _ (fresh_is c.loop-at-2.seen c.loop-at-2.at c.loop-at-2.free _ _ c.mark_place-in-loop-at-2.ensures.0 c.is_unmarked-in-loop-at-2.ensures) c.if-not-is_unmarked-2.false in search rules
+pub next_at-at-requires-in-loop-at-2-clause-most : goal.next_at-at-requires-in-loop-at-2-clause-most
+next_at-at-requires-in-loop-at-2-clause-most c = let b = fresh_bounds _ _ _ _ (fresh_is c.loop-at-2.seen c.loop-at-2.at c.loop-at-2.free _ _ c.mark_place-in-loop-at-2.ensures.0 c.is_unmarked-in-loop-at-2.ensures) c.if-not-is_unmarked-2.false in search rules

@@ -2,6 +2,6 @@ use mathlib.Core.Path.{refl}
 use Rattle.score_kinds.specs.Counting.{lines}
 use Rattle.score_kinds.proofs.lines.Goals as goal
 
-pub returns-clause-fact_1 : goal.returns-clause-fact_1
+pub returns-clause-count : goal.returns-clause-count
 unfolding lines
-returns-clause-fact_1 c = refl
+returns-clause-count c = refl

@@ -2,10 +2,10 @@ use Rattle.scoring.specs.Scores.{block_of}
 use Rattle.std.proofs.Common.{rules}
 use Rattle.scoring.proofs.block_of.Goals as goal
 
-pub returns-in-At : goal.returns-in-At
+pub returns-in-Ok : goal.returns-in-Ok
 unfolding block_of
-returns-in-At c = search rules
+returns-in-Ok c = search rules
 
-pub returns-in-Refused : goal.returns-in-Refused
+pub returns-in-Err : goal.returns-in-Err
 unfolding block_of
-returns-in-Refused c = search rules
+returns-in-Err c = search rules

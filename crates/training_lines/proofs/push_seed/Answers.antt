@@ -13,11 +13,11 @@ returns-then-b-eq-LINE_END c = simp (eq-eqb c.args.b 10 c.if-b-eq-LINE_END.true,
 
 pub returns-then-d-lt16 : goal.returns-then-d-lt16
 unfolding seed_step is_digit
-returns-then-d-lt16 c = simp (ne_eqb c.args.b 10 c.if-b-eq-LINE_END.false, lt-ltb c.args.digits 16 c.if-digits-lt-SEED_DIGITS.true, lt-ltb (digit_of c.args.b) 16 (omega (arith, c.digit-d.ensures.fact_1, c.if-d-lt16.true)), c.pushed.ensures, c.digit-d.ensures.fact_1)
+returns-then-d-lt16 c = simp (ne_eqb c.args.b 10 c.if-b-eq-LINE_END.false, lt-ltb c.args.digits 16 c.if-digits-lt-SEED_DIGITS.true, lt-ltb (digit_of c.args.b) 16 (omega (arith, c.digit-d.ensures.value, c.if-d-lt16.true)), c.pushed.ensures, c.digit-d.ensures.value)
 
 pub returns-then-digits-lt-SEED_DIGITS : goal.returns-then-digits-lt-SEED_DIGITS
 unfolding seed_step is_digit
-returns-then-digits-lt-SEED_DIGITS c = simp (ne_eqb c.args.b 10 c.if-b-eq-LINE_END.false, lt-ltb c.args.digits 16 c.if-digits-lt-SEED_DIGITS.true, le-ltb (digit_of c.args.b) 16 (omega (arith, c.digit-d.ensures.fact_1, c.if-d-lt16.false)))
+returns-then-digits-lt-SEED_DIGITS c = simp (ne_eqb c.args.b 10 c.if-b-eq-LINE_END.false, lt-ltb c.args.digits 16 c.if-digits-lt-SEED_DIGITS.true, le-ltb (digit_of c.args.b) 16 (omega (arith, c.digit-d.ensures.value, c.if-d-lt16.false)))
 
 pub returns : goal.returns
 unfolding seed_step is_digit

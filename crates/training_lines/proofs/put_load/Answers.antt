@@ -7,7 +7,7 @@ use Rattle.training_lines.proofs.put_load.Goals as goal
 
 pub loop-i-init : goal.loop-i-init
 unfolding after
-loop-i-init c = (search rules, refl, search rules, refl, rw (load_none c.args.seed) (put_none _ 0 []))
+loop-i-init c = (refl, search rules, refl, rw (load_none c.args.seed) (put_none _ 0 []))
 
 pub loop-i-preserved : goal.loop-i-preserved
 unfolding stepped
@@ -16,9 +16,8 @@ loop-i-preserved c =
     let i = c.loop-i.i in
     let next_state = ap (λ (r : Stepped). r.state) c.step-after.ensures in
     let next-score = ap (λ (r : Stepped). r.score) c.step-after.ensures in (
-      search rules,
-      c.put_score-at.auto.out ∙ c.loop-i.invariant.1,
+      c.put_score-at.auto.out ∙ c.loop-i.invariant.0,
       omega (arith, c.put_score-at.ensures.place, line_length c.step-after.result.score),
-      next_state ∙ ap next c.loop-i.invariant.3 ∙ sym (rw add-one (after_last seed i)),
-      load_more seed i c.loop-i.invariant.3 next-score (search rules) c.loop-i.invariant.4 c.put_score-at.ensures,
+      next_state ∙ ap next c.loop-i.invariant.2 ∙ sym (rw add-one (after_last seed i)),
+      load_more seed i c.loop-i.invariant.2 next-score (search rules) c.loop-i.invariant.3 c.put_score-at.ensures,
     )

@@ -1,4 +1,4 @@
-use Rattle.std.proofs.Common.{◌≡◌, ◌-◌, ◌*◌, ◌≤◌, length}
+use Rattle.std.proofs.Common.{◌≡◌, ◌*◌, length}
 use Rattle.score_rows.specs.Steps.{Put}
 use Rattle.training_lines.specs.Output.{load}
 use Rattle.training_lines.proofs.Load.{after}
@@ -6,7 +6,4 @@ use Rattle.training_lines.proofs.put_load.Given as goal
 
 abbrev pub invariant-loop-i : goal.invariant-loop-i
 invariant-loop-i l =
-    (l.i ≤ l.count) × (length l.out ≡ length l.initial.out) × (l.at ≡ 9 * l.i) × (l.state ≡ after l.seed l.i) × Put l.initial.out 0 (load l.seed l.i) l.at l.out
-
-abbrev pub decreases-loop-i : goal.decreases-loop-i
-decreases-loop-i l = l.count - l.i
+    (length l.out ≡ length l.initial.out) × (l.at ≡ 9 * l.i) × (l.state ≡ after l.seed l.i) × Put l.initial.out 0 (load l.seed l.i) l.at l.out

@@ -14,15 +14,15 @@ returns-then-point-gt65536 c =
     let a = c.args in
     sym (path_long a.point.now a.index a.base_dimension a.differenced a.start_position c.if-point-gt65536.true)
 
-pub returns-then-left-eq0 : goal.returns-then-left-eq0
-returns-then-left-eq0 c =
+pub returns-then-left-index : goal.returns-then-left-index
+returns-then-left-index c =
     let a = c.args in
-    sym (path_beyond a.point.now a.index a.base_dimension a.differenced a.start_position (omega arith) c.if-point-gt65536.false (omega (arith, c.left.ensures, c.left-2.ensures)))
+    sym (path_beyond a.point.now a.index a.base_dimension a.differenced a.start_position (omega arith) c.if-point-gt65536.false (omega arith))
 
 pub loop-here-init : goal.loop-here-init
 loop-here-init c =
     let a = c.args in
-    let inside : a.start_position + a.index < length a.point.now = omega (arith, c.left.ensures, c.left-2.ensures) in
+    let inside : a.start_position + a.index < length a.point.now = omega arith in
     (omega arith, inside, omega arith, omega arith, c.if-point-gt65536.false, path_starts a.point.now a.index a.base_dimension a.differenced a.start_position (omega arith) c.if-point-gt65536.false)
 
 pub loop-here-preserved : goal.loop-here-preserved

@@ -7,7 +7,7 @@ pub returns-in-Quiet : goal.returns-in-Quiet
 returns-in-Quiet c = told_quiet c.args.verdict c.args.out.now _ c.args.relative_index _ (to_z-of_z w32 c.args.relative_index c.ranges.relative_index) _ c.in-Quiet.is c.write_verdict.ensures
 
 pub returns-in-Corrected : goal.returns-in-Corrected
-returns-in-Corrected c = told_corrected c.args.verdict c.args.out.now _ c.args.relative_index _ (to_z-of_z w32 c.args.relative_index c.ranges.relative_index) _ _ _ c.in-Corrected.is c.code.ensures c.write_verdict-in-Corrected.ensures
+returns-in-Corrected c = told_corrected c.args.verdict c.args.out.now _ c.args.relative_index _ (to_z-of_z w32 c.args.relative_index c.ranges.relative_index) _ _ _ c.in-Corrected.is c.from.ensures c.write_verdict-in-Corrected.ensures
 
 pub returns-in-Raised : goal.returns-in-Raised
 returns-in-Raised c = told_raised c.args.verdict c.args.out.now _ c.args.relative_index _ (to_z-of_z w32 c.args.relative_index c.ranges.relative_index) _ _ c.in-Raised.is c.write_verdict-in-Raised.ensures

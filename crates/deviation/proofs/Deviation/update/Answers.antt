@@ -1,16 +1,16 @@
+use Rattle.std.specs.Prelude.{Ok}
 use mathlib.Core.Path.{◌∙◌, ap}
 use mir.Syntax.{w32}
 use mir.ValLaws.{to_z-of_z}
-use Rattle.types.specs.declared.Answer.TheVariants as Answers
 use Rattle.deviation.proofs.Laws.{picked, passed}
 use Rattle.deviation.specs.Statistics.{countable, update}
 use Rattle.deviation.specs.declared.Deviation.{Deviation}
-use Rattle.deviation.specs.declared.Updated.{Updated}
+use Rattle.types.specs.declared.Updated.{Updated}
 use borrow.Author.Rules.{rules}
 use Rattle.deviation.proofs.Deviation.update.Goals as goal
 
-abbrev done : Deviation → Updated
-done d = record { answer = Answers.Done; deviation = d }
+abbrev done : Deviation → Updated Deviation
+done d = record { answer = Ok tt; state = d }
 
 pub returns-then-countable : goal.returns-then-countable
 unfolding update

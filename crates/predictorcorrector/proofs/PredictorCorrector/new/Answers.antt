@@ -1,23 +1,24 @@
-use Rattle.std.proofs.Common.{false, sym, ap, ◌∙◌}
+use Rattle.std.proofs.Common.{false, sym, ap, ◌∙◌, Err}
+use Rattle.std.proofs.lemmas.Result.{err_from_is_err_and}
 use Rattle.types.specs.declared.Refusal.{Refusal}
-use Rattle.types.specs.declared.Answer.TheVariants.{Refused}
 use Rattle.basicthresholder.proofs.Laws.{made_ready, made_refused}
-use Rattle.predictorcorrector.specs.State.{new, refused_new}
+use Rattle.predictorcorrector.specs.State.{new}
 use Rattle.predictorcorrector.proofs.PredictorCorrector.new.Goals as goal
 
-pub fresh-requires-clause-fact_1 : goal.fresh-requires-clause-fact_1
-fresh-requires-clause-fact_1 c = (made_ready c.args.discount false _ (sym c.new.ensures ∙ c.in-Ready.is)).1
+pub fresh-requires-clause-fresh : goal.fresh-requires-clause-fresh
+fresh-requires-clause-fresh c = (made_ready c.args.discount false _ (sym c.new.ensures ∙ c.in_ok-t.was)).1
 
 pub returns-then-base_dimension : goal.returns-then-base_dimension
 unfolding new
-returns-then-base_dimension c = simp ((made_ready c.args.discount false _ (sym c.new.ensures ∙ c.in-Ready.is)).0, c.if-base_dimension.true, c.fresh.ensures)
+returns-then-base_dimension c = simp ((made_ready c.args.discount false _ (sym c.new.ensures ∙ c.in_ok-t.was)).0, c.if-base_dimension.true, c.fresh.ensures)
 
-pub returns-else-base_dimension : goal.returns-else-base_dimension
+pub returns : goal.returns
 unfolding new
-returns-else-base_dimension c = simp ((made_ready c.args.discount false _ (sym c.new.ensures ∙ c.in-Ready.is)).0, c.if-base_dimension.false, c.refused.ensures)
+returns c = simp ((made_ready c.args.discount false _ (sym c.new.ensures ∙ c.in_ok-t.was)).0, c.if-base_dimension.false)
 
-pub returns-in-Refused : goal.returns-in-Refused
+pub returns-in_err-t : goal.returns-in_err-t
 unfolding new
-returns-in-Refused c =
-    let m = made_refused c.args.discount false _ (sym c.new.ensures ∙ c.in-Refused.is) in
-    rw m.0 (c.refused-in-Refused.ensures ∙ ap (λ (r : Refusal). refused_new (Refused r)) m.1)
+returns-in_err-t c =
+    let e = err_from_is_err_and c.from_residual.result c.from_residual.ensures.1 in
+    let m = made_refused c.args.discount false _ (sym c.new.ensures ∙ c.in_err-t.was) in
+    rw m.0 (e.1 ∙ ap (λ (why : Refusal). Err why) (e.2 ∙ m.1))

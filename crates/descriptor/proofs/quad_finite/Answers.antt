@@ -1,0 +1,27 @@
+use mathlib.Core.Path.{refl, sym, ◌∙◌}
+use mathlib.Core.List.{[], ◌∷◌}
+use lib.ListN.{length}
+use Rattle.descriptor.proofs.Finite.{step, end}
+use Rattle.descriptor.proofs.quad_finite.Goals as goal
+
+pub loop-i-preserved : goal.loop-i-preserved
+loop-i-preserved g c =
+    let xs = c.args.xs.now in
+    let ys = c.args.ys.now in
+    let zs = c.args.zs.now in
+    let ws = c.args.ws.now in
+    let x = c.index-xs-i in
+    let y = c.index-ys-i in
+    let z = c.index-zs-i in
+    let w = c.index-ws-i in
+    rw (c.is_finite.ensures, c.is_finite-in-loop-i.ensures, c.is_finite-in-loop-i-2.ensures, c.is_finite-in-loop-i-3.ensures) (
+    c.loop-i.invariant
+    ∙ step g.N.Number.finite c.loop-i.ok (xs ∷ ys ∷ zs ∷ ws ∷ []) (x.result ∷ y.result ∷ z.result ∷ w.result ∷ []) (length xs) c.loop-i.i (refl, x.is, (c.requires.ys_len, y.is, (c.requires.zs_len, z.is, (c.requires.ws_len, w.is, tt)))) c.loop-i-test.true)
+
+pub returns : goal.returns
+returns g c =
+    let xs = c.args.xs.now in
+    let ys = c.args.ys.now in
+    let zs = c.args.zs.now in
+    let ws = c.args.ws.now in
+    sym (c.loop-i.invariant ∙ end g.N.Number.finite c.loop-i.ok (xs ∷ ys ∷ zs ∷ ws ∷ []) (length xs) c.loop-i.i (refl, (c.requires.ys_len, (c.requires.zs_len, (c.requires.ws_len, tt)))) c.loop-i-test.false)

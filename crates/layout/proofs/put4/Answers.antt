@@ -1,7 +1,0 @@
-use Rattle.layout.specs.Numbers.{bytes4}
-use Rattle.layout.proofs.Pasting.{four}
-use Rattle.layout.proofs.put4.Goals as goal
-
-pub returns : goal.returns
-unfolding bytes4
-returns c = four c.args.out.now c.args.at _ _ _ _ c.requires
