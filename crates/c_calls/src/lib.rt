@@ -5,7 +5,6 @@
 
 ghost use Rattle.std.specs.Prelude.{◌≡◌, ◌∷◌, length};
 ghost use Rattle.layout.specs.Left.{left};
-ghost use Rattle.layout.specs.Numbers.{flag_byte};
 ghost use Rattle.c_calls.specs.Forest as Forest;
 ghost use Rattle.c_calls.specs.Buffers as Buffers;
 ghost use Rattle.c_calls.specs.Buffers.{filled};
@@ -27,25 +26,16 @@ fn asked_over(state: &[u8], reading: &[u8], last: &[u8], out: usize) -> Result<A
     calls::asked_of_forest(k.auto_adjust, k.base_dimension, call.reading, call.last)
 }
 
-fn flag(b: bool) -> usize
-    ensures { result ≡ flag_byte b }
-{
-    if b {
-        return 1;
-    }
-    0
-}
-
 // The five numbers, in a slice of five.
 fn put_asked(out: &mut [usize], asked: Asked)
     requires { length out.old ≡ 5 }
     ensures { out.new ≡ Forest.numbered asked }
 {
     out[0] = asked.gap;
-    out[1] = flag(asked.corrected_score);
-    out[2] = flag(asked.near_neighbor_list);
-    out[3] = flag(asked.new_attribution);
-    out[4] = flag(asked.use_difference);
+    out[1] = usize::from(asked.corrected_score);
+    out[2] = usize::from(asked.near_neighbor_list);
+    out[3] = usize::from(asked.new_attribution);
+    out[4] = usize::from(asked.use_difference);
 }
 
 // What a judgment asks the forest for past its opening grade, in five numbers: the gap since the last anomaly, or the start; then 1 for yes and 0 for no: the corrected
