@@ -107,13 +107,8 @@ fn show(rt: &impl Print, given: &[u8; 1783]) -> io::Result<()> {
         &mut low[..d],
         &mut verdict,
     );
-    write_line(
-        rt,
-        &b,
-        number,
-        &verdict,
-        mix_buffers(&expected, &high, &low),
-    )
+    let buffers = mix_buffers(&expected, &high, &low);
+    write_line(rt, &b, number, &verdict, buffers)
 }
 
 // Fills `out`; no where the input ends before.
