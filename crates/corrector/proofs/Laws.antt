@@ -1,6 +1,6 @@
 -- What loops and callers cite: a turn of a loop and its end, copies, what a test that held says. Assumes nothing.
-use Rattle.std.proofs.Common.{◌≡◌, ℕ, zero, suc, ◌+◌, ◌-◌, ◌*◌, ◌<◌, ◌≤◌, Bool, true, false, cond, ◌||◌, eqb, ltb, List, [], ◌++◌, length, take, drop, ℤ, pos, negsuc, sym, refl, ap, ◌∙◌, ap₂, inl, inr, append-nil, suc-mul, eq-or-lt_of_le, arith, length-drop, drop_of_length-le, take_at, take_all, w32, SFits, to_z, of_z, ltb-true, le-ltb, lt-ltb, ne_eqb, eqb-true, leb-true}
-use lib.Seq.{drop-length, take-nil}
+use Rattle.std.proofs.Common.{◌≡◌, ℕ, zero, suc, ◌+◌, ◌-◌, ◌*◌, ◌<◌, ◌≤◌, Bool, true, false, cond, ◌||◌, eqb, ltb, List, [], ◌++◌, length, get_or, take, drop, set, ℤ, pos, negsuc, sym, refl, ap, ◌∙◌, ap₂, inl, inr, append-nil, suc-mul, eq-or-lt_of_le, add-one, arith, length-drop, length-take-le, drop-cons, take-suc, drop_of_length-le, take_at, take_all, w32, SFits, to_z, of_z, ltb-true, le-ltb, lt-ltb, ne_eqb, eqb-true, leb-true}
+use lib.Seq.{append_snoc, set_at, drop-length, take-nil}
 use lib.Ieee.{Float}
 use mir.ValLaws.{to_z-of_z}
 use Rattle.descriptor.specs.Checks.{sizes_ok, dimension}
@@ -8,6 +8,14 @@ use Rattle.descriptor.proofs.Bounds.{sizes, dimension_is, base_inside, last_poin
 use Rattle.attributors.proofs.Laws.{both, row_of}
 use Rattle.corrector.specs.Corrector.{is_zero, expected_fits, trigger_fits, point_fits, corrector_fits, shifted, newest_row}
 use Rattle.corrector.specs.Steps.{Expecting, Triggering, Accepted, Correcting}
+
+module _ {A : Type 0} where
+  -- A turn of the loop that copies a list over one of its length.
+  pub copy_more : (out from : List A) (k : ℕ) (z : A) → k < length out → k < length from
+      → set (take k from ++ drop k out) k (get_or from k z) ≡ take (k + 1) from ++ drop (k + 1) out
+  copy_more out from k z h e =
+      rw (add-one, drop-cons out k z h, take-suc from k z e, append_snoc)
+      (set_at (take k from) (get_or out k z) (drop (suc k) out) (get_or from k z) k (length-take-le k from (omega arith)))
 
 -- A row's width, and the rows before the last of `gap`, within all of them.
 pub rows : (gap base : ℕ) → 0 < gap → (gap - 1) * base + base ≡ gap * base

@@ -28,6 +28,16 @@ fn expected_fits(
         & ((point == high) & ((median == high) & (out == high)))
 }
 
+// One slice over another. The library's `copy_from_slice` calls memmove, and an archive for C is to need memcpy and memset alone.
+fn copy(out: &mut [f32], source: &[f32])
+    requires { length out.old ≡ length source.now }
+    ensures { out.new ≡ source.now }
+{
+    for k in 0..source.len() {
+        out[k] = source[k];
+    }
+}
+
 // No row: zeros.
 #[tactic(auto, unfolding(attributors::specs::Attributors::padded))]
 fn no_row() -> [f32; 16]
@@ -43,7 +53,7 @@ fn copy_row(point: &[f32], start: usize, base: usize) -> [f32; 16]
     ensures { result ≡ padded zero32 16 (take base (drop start point.now)) }
 {
     let mut row = no_row();
-    row[..base].copy_from_slice(&point[start..start + base]);
+    copy(&mut row[..base], &point[start..start + base]);
     row
 }
 
@@ -110,8 +120,8 @@ pub fn write_row(point: &[f32], start: usize, base: usize, row: [f32; 16], out: 
     ensures { out.new ≡ Corrector.write_row point.now start base row out.old }
 {
     if attributors::row_fits(point.len(), out.len(), start, base) {
-        out.copy_from_slice(point);
-        out[start..start + base].copy_from_slice(&row[..base]);
+        copy(out, point);
+        copy(&mut out[start..start + base], &row[..base]);
         return;
     }
 }
@@ -352,8 +362,8 @@ fn shift_in(point: &[f32], expected: &[f32], shift: usize, out: &mut [f32])
     ensures { out.new ≡ Corrector.shifted point.now expected.now shift }
 {
     let kept = point.len() - shift;
-    out[..kept].copy_from_slice(&expected[shift..]);
-    out[kept..].copy_from_slice(&point[kept..]);
+    copy(&mut out[..kept], &expected[shift..]);
+    copy(&mut out[kept..], &point[kept..]);
 }
 
 // Behind a last anomaly in the newest row: what was differenced against it.
@@ -434,10 +444,10 @@ fn correct(
             }
             return;
         }
-        out.copy_from_slice(point);
+        copy(out, point);
         return;
     }
-    out.copy_from_slice(point);
+    copy(out, point);
 }
 
 // Writes the point as it would be had the last anomaly not been: its rows as they were expected, and what was differenced against it put right.

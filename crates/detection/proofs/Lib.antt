@@ -2,6 +2,7 @@ pub mod ByState
 mod Entry
 mod ExpectedRow
 mod Index
+mod Lent
 mod Modes
 mod Settle
 mod Stages

@@ -59,6 +59,14 @@ pub zip_next : (f : Float → Float → Float) (ys : List Float) {start out : Li
     → Half start (zipped f start ys) (set out i (f (get_or out i d) (get_or ys i d))) (i + 1)
 zip_next f ys {start} {i = i} h d k l = next h d _ k (ap (λ (x : Float). f x (get_or ys i d)) (read h d k) ∙ sym (zip_at f start ys i d k l))
 
+-- x = y
+pub taken_over : (xs ys : List Float) → length xs ≡ length ys → zipped (λ (x y : Float). y) xs ys ≡ ys
+unfolding zipped
+taken_over [] [] e = refl
+taken_over [] (y ∷ ys) e = absurd (omega arith)
+taken_over (x ∷ xs) [] e = absurd (omega arith)
+taken_over (x ∷ xs) (y ∷ ys) e = ap (λ (l : List Float). y ∷ l) (taken_over xs ys (omega arith))
+
 -- x = y * factor
 pub scaled_over : (factor : Float) (xs ys : List Float) → length xs ≡ length ys → zipped (λ (x y : Float). Ieee.mul binary64 y factor) xs ys ≡ scaled factor ys
 unfolding zipped scaled

@@ -109,8 +109,9 @@ pub fn assign(
         high.old low.old from_high.now from_low.now }
 {
     if one_length(high.len(), low.len(), from_high.len(), from_low.len()) {
-        high.copy_from_slice(from_high);
-        low.copy_from_slice(from_low);
+        // Not `copy_from_slice`, which calls memmove: an archive for C is to need memcpy and memset alone.
+        change_each(high, from_high, |_, y| y);
+        change_each(low, from_low, |_, y| y);
         return Ok(());
     }
     Err(Refusal::Length)

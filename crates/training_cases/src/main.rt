@@ -2,12 +2,14 @@
 // many were printed, and then these, or of a long load the last line.
 #![tactic(auto)]
 
+ghost use Rattle.std.specs.Io.{ReadsAtMost};
+
 use std::io;
 use std::io::Read;
 use training_lines::{ROOM, Run};
 
-// As many bytes as are looked at.
-const CASES: u64 = 65536;
+// As many bytes as are looked at. They are read into an array, so that nothing here can run out of memory.
+const CASES: usize = 65536;
 
 // A run that was fed, and how many bytes it took.
 #[derive(Drop)]
@@ -49,10 +51,25 @@ fn show(rt: &impl Print, case: &[u8]) -> io::Result<()> {
     show_printed(rt, run)
 }
 
+// Reads until `out` is full or the input ends, and tells how many bytes there were.
+fn read_full(input: &mut impl Read, out: &mut [u8]) -> io::Result<usize>
+    ensures { ReadsAtMost result out.new }
+{
+    let mut done = 0usize;
+    while done < out.len() {
+        let n = input.read(&mut out[done..])?;
+        if n == 0 {
+            break;
+        }
+        done += n;
+    }
+    Ok(done)
+}
+
 fn main(rt: HostRuntime) -> io::Result<()> {
-    let mut cases = Vec::new(rt.alloc());
-    rt.reader().take(CASES).read_to_end(&mut cases)?;
-    for ended in cases.split_inclusive(|b| *b == b'%') {
+    let mut cases = [0u8; CASES];
+    let n = read_full(&mut rt.reader(), &mut cases)?;
+    for ended in cases[..n].split_inclusive(|b| *b == b'%') {
         show(&rt, ended.strip_suffix(b"%").unwrap_or(ended))?;
     }
     Ok(())

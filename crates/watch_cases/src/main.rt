@@ -4,6 +4,7 @@
 // each place at which its input can be cut in two.
 #![tactic(auto)]
 
+ghost use Rattle.std.specs.Io.{ReadsAtMost};
 ghost use Rattle.std.specs.Prelude.{◌≤◌, length};
 
 use score_rows::{PART, ROOM};
@@ -11,8 +12,8 @@ use std::io::Read;
 use std::rt::Files;
 use std::{fs, io, str};
 
-// As many bytes of the names as are looked at.
-const NAMES: u64 = 65536;
+// As many bytes of the names as are looked at. They and the files are read into arrays, so that nothing here can run out of memory.
+const NAMES: usize = 65536;
 
 // A run of either watch.
 #[derive(Clone, Copy)]
@@ -114,17 +115,17 @@ fn begun(is_export: bool, expected: &[u8]) -> Going<'_> {
     Going { run, due }
 }
 
-fn fed<'a>(before: Going<'a>, input: &[u8]) -> Going<'a>
+// `out` is room for what a part prints, one for all, since it takes longer to clear than a part to read.
+fn fed<'a>(before: Going<'a>, input: &[u8], out: &mut [u8; ROOM]) -> Going<'a>
     requires { length input.now ≤ 8192 }
 {
     let n = input.len();
     let mut bytes = [0u8; PART];
     bytes[..n].copy_from_slice(input);
-    let mut out = [0u8; ROOM];
     let run = before.run;
     match run {
         Run::Scores(scores) => {
-            let fed = score_lines::feed(scores, &bytes, n, &mut out);
+            let fed = score_lines::feed(scores, &bytes, n, out);
             let due = held(before.due, &out[..fed.written]);
             Going {
                 run: Run::Scores(fed.run),
@@ -132,7 +133,7 @@ fn fed<'a>(before: Going<'a>, input: &[u8]) -> Going<'a>
             }
         }
         Run::Export(export) => {
-            let fed = export_bytes::feed(export, &bytes, n, &mut out);
+            let fed = export_bytes::feed(export, &bytes, n, out);
             let due = held(before.due, &out[..fed.written]);
             Going {
                 run: Run::Export(fed.run),
@@ -143,16 +144,15 @@ fn fed<'a>(before: Going<'a>, input: &[u8]) -> Going<'a>
 }
 
 // Whether the run ends with all that is due.
-fn ends(before: Going<'_>) -> bool {
-    let mut out = [0u8; ROOM];
+fn ends(before: Going<'_>, out: &mut [u8; ROOM]) -> bool {
     let run = before.run;
     let rest = match run {
         Run::Scores(scores) => {
-            let fed = score_lines::finish(scores, &mut out);
+            let fed = score_lines::finish(scores, out);
             held(before.due, &out[..fed.written])
         }
         Run::Export(export) => {
-            let fed = export_bytes::finish(export, &mut out);
+            let fed = export_bytes::finish(export, out);
             held(before.due, &out[..fed.written])
         }
     };
@@ -160,12 +160,13 @@ fn ends(before: Going<'_>) -> bool {
 }
 
 // Whether the input prints what is due, wherever it is cut.
-fn prints(start: Going<'_>, input: &[u8]) -> bool
+fn prints(start: Going<'_>, input: &[u8], out: &mut [u8; ROOM]) -> bool
     requires { length input.now ≤ 8192 }
 {
     for cut in 0..=input.len() {
-        let first = fed(start, &input[..cut]);
-        if !ends(fed(first, &input[cut..])) {
+        let first = fed(start, &input[..cut], out);
+        let second = fed(first, &input[cut..], out);
+        if !ends(second, out) {
             return false;
         }
     }
@@ -182,13 +183,13 @@ fn filled(block: [u8; 36]) -> [u8; PART] {
 }
 
 // A run that has been fed what stands before a case's input.
-fn led<'a>(lead: Lead, expected: &'a [u8]) -> Going<'a> {
+fn led<'a>(lead: Lead, expected: &'a [u8], out: &mut [u8; ROOM]) -> Going<'a> {
     let start = begun(lead.is_export, expected);
     let head = filled(*b"drawer,seen,score\n1,1,1\n1,1,1\n1,1,1\n");
-    let mut going = fed(start, &head[..lead.head]);
+    let mut going = fed(start, &head[..lead.head], out);
     let part = filled(lead.block);
     for _ in 0..lead.parts {
-        going = fed(going, &part[..lead.length]);
+        going = fed(going, &part[..lead.length], out);
     }
     if !lead.is_seen {
         going.due = Some(expected);
@@ -202,25 +203,45 @@ fn kind_of(name: &[u8]) -> Option<u8> {
     name.get(dot + 1).copied()
 }
 
-// As much of a file as fills a part; none where it cannot be read.
-fn read_named(rt: &(impl Files + AllocGlobal), name: &[u8]) -> Option<Vec<u8>> {
-    let file = fs::open(rt, str::from_utf8(name).ok()?).ok()?;
-    let mut bytes = Vec::new(rt.alloc());
-    file.take(PART as u64).read_to_end(&mut bytes).ok()?;
-    Some(bytes)
+// Reads until `out` is full or the input ends, and tells how many bytes there were.
+fn read_full(input: &mut impl Read, out: &mut [u8]) -> io::Result<usize>
+    ensures { ReadsAtMost result out.new }
+{
+    let mut done = 0usize;
+    while done < out.len() {
+        let n = input.read(&mut out[done..])?;
+        if n == 0 {
+            break;
+        }
+        done += n;
+    }
+    Ok(done)
+}
+
+// As much of a file as fills a part, read into `room`; none where it cannot be read.
+fn read_named<'a>(rt: &impl Files, name: &[u8], room: &'a mut [u8; PART]) -> Option<&'a [u8]> {
+    let mut file = fs::open(rt, str::from_utf8(name).ok()?).ok()?;
+    let n = read_full(&mut file, room).ok()?;
+    room.get(..n)
 }
 
 // Whether the files of a case agree. An input that fills a part counts as one that cannot be read, and no case's does; of an output no more is looked at.
-fn agrees(rt: &(impl Files + AllocGlobal), input: &[u8], output: &[u8]) -> bool {
-    let (Some(given), Some(expected)) = (read_named(rt, input), read_named(rt, output)) else {
+fn agrees(rt: &impl Files, input: &[u8], output: &[u8]) -> bool {
+    let mut given = [0u8; PART];
+    let mut expected = [0u8; PART];
+    let (Some(given), Some(expected)) = (
+        read_named(rt, input, &mut given),
+        read_named(rt, output, &mut expected),
+    ) else {
         return false;
     };
-    let start = led(lead_of(kind_of(input)), expected.as_slice());
-    (given.len() < PART) && prints(start, given.as_slice())
+    let mut out = [0u8; ROOM];
+    let start = led(lead_of(kind_of(input)), expected, &mut out);
+    (given.len() < PART) && prints(start, given, &mut out)
 }
 
 // The names are lines, two for each case; the last may lack its line end, and an output that is not named has no name.
-fn stored(rt: &(impl Files + AllocGlobal + Print), names: &[u8]) -> io::Result<Tally> {
+fn stored(rt: &(impl Files + Print), names: &[u8]) -> io::Result<Tally> {
     let mut tally = Tally {
         cases: 0,
         differ: 0,
@@ -229,13 +250,12 @@ fn stored(rt: &(impl Files + AllocGlobal + Print), names: &[u8]) -> io::Result<T
         return Ok(tally);
     }
     let ended = names.strip_suffix(b"\n").unwrap_or(names);
-    let lines: Vec<&[u8]> = ended.split(|b| *b == b'\n').collect(rt.alloc())?;
-    for case in lines.chunks(2) {
-        let (input, output): (&[u8], &[u8]) = match case {
-            [input, output] => (input, output),
-            [input] => (input, b""),
-            _ => break,
+    let mut lines = ended.split(|b| *b == b'\n');
+    for _ in 0..names.len() {
+        let Some(input) = lines.next() else {
+            break;
         };
+        let output = lines.next().unwrap_or(b"");
         if !agrees(rt, input, output) {
             rt.write_all(input)?;
             rt.write_all(b" differs\n")?;
@@ -247,8 +267,8 @@ fn stored(rt: &(impl Files + AllocGlobal + Print), names: &[u8]) -> io::Result<T
 }
 
 fn main(rt: HostRuntime) -> io::Result<()> {
-    let mut names = Vec::new(rt.alloc());
-    rt.reader().take(NAMES).read_to_end(&mut names)?;
-    let tally = stored(&rt, names.as_slice())?;
+    let mut names = [0u8; NAMES];
+    let n = read_full(&mut rt.reader(), &mut names)?;
+    let tally = stored(&rt, &names[..n])?;
     println!(rt; "{} cases, {} differ", tally.cases, tally.differ)
 }

@@ -5,4 +5,4 @@ pub returns : goal.returns
 returns c =
     let a = c.args in
     let p = c.requires in
-    shifted_is a.point.now a.expected.now a.shift p.shift_in_bounds p.expected_len a.out.now _ _ p.out_len c.copy_from_slice.ensures.after c.copy_from_slice-2.ensures.after
+    shifted_is a.point.now a.expected.now a.shift p.shift_in_bounds p.expected_len a.out.now _ _ p.out_len c.copy.ensures c.copy-2.ensures
