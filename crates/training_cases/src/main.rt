@@ -51,7 +51,7 @@ fn show(rt: &impl Print, case: &[u8]) -> io::Result<()> {
     show_printed(rt, run)
 }
 
-// Reads until `out` is full or the input ends, and tells how many bytes there were.
+// Reads until `out` is full or the input ends, and tells how many bytes there were. No `for`: it counts by what a read gave, and `read_to_end` needs a `Vec`.
 fn read_full(input: &mut impl Read, out: &mut [u8]) -> io::Result<usize>
     ensures { ReadsAtMost result out.new }
 {

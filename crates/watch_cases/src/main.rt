@@ -203,7 +203,7 @@ fn kind_of(name: &[u8]) -> Option<u8> {
     name.get(dot + 1).copied()
 }
 
-// Reads until `out` is full or the input ends, and tells how many bytes there were.
+// Reads until `out` is full or the input ends, and tells how many bytes there were. No `for`: it counts by what a read gave, and `read_to_end` needs a `Vec`.
 fn read_full(input: &mut impl Read, out: &mut [u8]) -> io::Result<usize>
     ensures { ReadsAtMost result out.new }
 {
